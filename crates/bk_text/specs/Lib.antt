@@ -1,0 +1,4 @@
+pub mod Places
+pub mod Alphabets
+pub mod Parses
+pub mod Words

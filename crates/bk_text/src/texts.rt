@@ -1,0 +1,24 @@
+//! Why a text has no form, and the test of a text against an alphabet.
+
+ghost use Rattle.std.specs.Prelude.{◌≡◌};
+ghost use Rattle.bk_text.specs.declared.texts.TextFault.TheVariants.{Memory};
+
+use std::alloc::AllocError;
+
+/// Why a text was refused.
+#[derive(Clone, Copy, Debug, PartialEq, Eq)]
+pub enum TextFault {
+    /// The text isn't of the form. `at` is the least number such that no text of the form begins with the first
+    /// `at + 1` bytes, and the text's length where it begins one.
+    BadText { at: usize },
+    /// Memory was refused.
+    Memory,
+}
+
+impl From<AllocError> for TextFault {
+    ghost from_gives = { λ _ e. e ≡ Memory };
+
+    fn from(_e: AllocError) -> TextFault {
+        TextFault::Memory
+    }
+}
