@@ -2,11 +2,19 @@
 //! and a list that contracts see as a list.
 #![tactic(auto)]
 
+mod expiry;
+mod host;
 mod list;
 mod name;
+mod set_name;
+mod tape_name;
 mod texts;
 mod words;
 
+pub use expiry::Expiry;
+pub use host::Host;
 pub use list::{Bytes, List};
 pub use name::Name;
+pub use set_name::SetName;
+pub use tape_name::TapeName;
 pub use texts::TextFault;

@@ -1,6 +1,7 @@
 //! A vector that contracts see as the list of its elements.
 
 ghost use Rattle.std.specs.Prelude.{◌≡◌, ◌++◌, [], ◌∷◌, length, take, Some, IfOk, OnOk, OnErr, MatchOption, ◌==◌};
+ghost use Rattle.std.specs.List.{AllZip};
 
 use std::alloc::{AllocError, Global};
 use std::marker::Model;
@@ -101,7 +102,26 @@ impl<T: Drop> List<T> {
     }
 }
 
+impl<T: Clone> Clone for List<T> {
+    ghost is_clone = { AllZip T.is_clone };
+
+    fn clone(&self) -> Result<List<T>, AllocError> {
+        Ok(List {
+            items: self.items.clone()?,
+        })
+    }
+}
+
 impl<T: Copy> List<T> {
+    /// The same list once more.
+    pub fn copy(&self) -> Result<Self, AllocError>
+        ensures { IfOk result (λ list. list ≡ self.now) }
+    {
+        Ok(List {
+            items: Vec::from_slice(*self.items.allocator(), self.items.as_slice())?,
+        })
+    }
+
     /// A copy of a slice's elements.
     pub fn from_slice(alloc: Global, items: &[T]) -> Result<Self, AllocError>
         ensures { IfOk result (λ list. list ≡ items.now) }

@@ -2,6 +2,7 @@
 
 ghost use Rattle.std.specs.Prelude.{◌≡◌, ◌↔◌, IsTrue, IfOk};
 ghost use Rattle.bk_text.specs.Alphabets.{IsName};
+ghost use Rattle.bk_text.specs.Bases.{base_of};
 ghost use Rattle.bk_text.specs.Parses.{Parses};
 
 use crate::list::Bytes;
@@ -16,6 +17,19 @@ pub struct Name {
     bytes: Bytes,
 }
 
+/// What the name of a backup volume ends in.
+const BACKUP: &[u8] = b".backup";
+
+fn base_part(name: &[u8]) -> &[u8]
+    ensures { result.now ≡ base_of name.now }
+{
+    if name.len() > 7 && name.ends_with(BACKUP) {
+        &name[..name.len() - 7]
+    } else {
+        name
+    }
+}
+
 impl Model for Name {
     ghost use Rattle.std.specs.Prelude.{List, ℕ};
     ghost use Rattle.bk_text.specs.Alphabets.{IsName};
@@ -25,6 +39,16 @@ impl Model for Name {
     ghost view = { λ a. a.bytes };
 
     ghost invariant = { λ a. IsName a.bytes };
+}
+
+impl Clone for Name {
+    ghost is_clone = { λ a b. b ≡ a };
+
+    fn clone(&self) -> Result<Name, AllocError> {
+        Ok(Name {
+            bytes: self.bytes.copy()?,
+        })
+    }
 }
 
 impl Name {
@@ -48,18 +72,26 @@ impl Name {
     /// The name of these bytes, which are of the form.
     pub fn from_bytes(alloc: Global, bytes: &[u8]) -> Result<Self, AllocError>
         requires { IsName bytes.now }
-        ensures { IfOk result (λ name. name ≡ bytes.now) }
+        ensures { IfOk result (λ kept. kept ≡ bytes.now) }
     {
         Ok(Name {
             bytes: Bytes::from_slice(alloc, bytes)?,
         })
     }
 
-    /// The name's bytes, which are of the form.
+    /// Its bytes, which are of the form.
     pub fn bytes(&self) -> &[u8]
         ensures value { result.now ≡ self.now }
         ensures form { IsName self.now }
     {
         self.bytes.as_slice()
+    }
+
+    /// The name without a final `.backup`, which the name of a backup volume has; the whole where nothing else would
+    /// be left. It takes no memory.
+    pub fn base(&self) -> &[u8]
+        ensures { result.now ≡ base_of self.now }
+    {
+        base_part(self.bytes.as_slice())
     }
 }
