@@ -1,5 +1,7 @@
 pub mod Places
 pub mod Alphabets
 pub mod Bases
+pub mod Fields
 pub mod Parses
+pub mod Partitions
 pub mod Words
