@@ -1,0 +1,254 @@
+// Files and an output in memory.
+ghost use Rattle.std.specs.Prelude.{◌≡◌, ◌+◌, ◌<◌, ◌≤◌, ◌^◌, [], ◌∷◌, ℕ, List, length, take, drop, IfOk, OnOk, OnErr, IsTrue, ◌++◌, vec_len, true, ◌≢◌};
+ghost use Rattle.crash_moments.specs.Moments.{Leads, HasCause};
+ghost use Rattle.media_core.specs.Media.{Image, Holds, Torn, AtFile, Same, Tells, in_progress, taken_by, nothing};
+ghost use Rattle.media_core.specs.Events.{file_bytes, is_here, seen_after, LeftAfter, Gains, TellsMore};
+ghost use Rattle.media_core.specs.Plan.{GainsCall, SamePlan};
+
+use crate::bytes::{copy_part, empty_files};
+use crate::event::{Event, keep_sync, keep_tell, keep_write};
+use crate::failures::Failures;
+use crate::media::{Failed, Media, Memory};
+use crate::plan::Turn;
+use std::alloc::Global;
+
+/// Files and an output in memory. What was asked of it is kept, so that each image that a crash may leave is told.
+///
+/// The calls of `len`, `read`, `write`, `sync` and `tell` are numbered from 0. One of them answers `Failed` exactly where
+/// `fail_at` or `stop_at` names it or a growth was refused to it.
+#[derive(Drop)]
+pub struct MemMedia {
+    alloc: Global,
+    files: Vec<Vec<u8>>,
+    away: Vec<bool>,
+    told: Vec<u8>,
+    past: Vec<Event>,
+    failures: Failures,
+    ghost files_kept: { (k : ℕ) → file_bytes files.items k ≡ (seen_after past.items).file k },
+    ghost told_kept: { told.items ≡ (seen_after past.items).told },
+    ghost same_count: { vec_len away ≡ vec_len files },
+    ghost some_files: { 1 ≤ length away.items },
+    ghost few_files: { length away.items ≤ 65536 },
+    ghost journal: { is_here away.items 0 ≡ true },
+    ghost absent: { (k : ℕ) (c : List ℕ) → length away.items ≤ k → LeftAfter past.items k c → c ≡ [] },
+}
+
+impl Media for MemMedia {
+    ghost use Rattle.media_core.specs.Kept.{seen_is_left, here_below};
+    ghost use Rattle.media_core.specs.Files.{seen_of, events_of, moments_of, count_of, present_of, faults_of, tell_faults_of, IsCounted, IsAsked};
+
+    ghost tells = { Unit {0} };
+
+    ghost seen = { seen_of };
+
+    ghost time = { moments_of };
+
+    ghost count = { count_of };
+
+    ghost present = { present_of };
+
+    ghost faults = { faults_of };
+
+    ghost tell_faults = { tell_faults_of };
+
+    ghost some_files = { λ m. m.some_files };
+
+    ghost few_files = { λ m. m.few_files };
+
+    ghost journal_here = { λ m. m.journal };
+
+    ghost here_below = { λ m f. here_below m.away.items f };
+
+    ghost seen_may_be_left = { λ m told. seen_is_left m.past.items };
+
+    fn count(&self) -> u32 {
+        self.away.len() as u32
+    }
+
+    fn here(&self, f: u32) -> bool {
+        match self.away.get(f as usize) {
+            Some(away) => !*away,
+            None => false,
+        }
+    }
+
+    fn len(&mut self, f: u32) -> Result<u64, Failed>
+        requires { IsTrue (present_of self.old f) }
+        ensures length { IfOk result (λ n. n ≡ length ((seen_of self.old).file f)) }
+        ensures seen { seen_of self.new ≡ seen_of self.old }
+        ensures crash { Leads moments_of self.old self.new Same }
+        ensures count { count_of self.new ≡ count_of self.old }
+        ensures present { present_of self.new ≡ present_of self.old }
+        ensures cause { HasCause (faults_of self.old) (faults_of self.new) result }
+        ensures tell_faults { tell_faults_of self.old ≤ tell_faults_of self.new }
+        ensures asked { events_of self.new ≡ events_of self.old }
+        ensures counted { IsCounted self.old self.new result }
+    {
+        if self.failures.begin() != Turn::Goes {
+            return Err(Failed);
+        }
+        Ok(self.files[f as usize].len() as u64)
+    }
+
+    fn read(&mut self, f: u32, at: u64, into: &mut [u8]) -> Result<(), Failed>
+        requires here { IsTrue (present_of self.old f) }
+        requires within { at + length into.old ≤ length ((seen_of self.old).file f) }
+        ensures bytes { OnOk result (into.new ≡ take (length into.old) (drop at ((seen_of self.old).file f))) }
+        ensures seen { seen_of self.new ≡ seen_of self.old }
+        ensures crash { Leads moments_of self.old self.new Same }
+        ensures count { count_of self.new ≡ count_of self.old }
+        ensures present { present_of self.new ≡ present_of self.old }
+        ensures cause { HasCause (faults_of self.old) (faults_of self.new) result }
+        ensures tell_faults { tell_faults_of self.old ≤ tell_faults_of self.new }
+        ensures asked { events_of self.new ≡ events_of self.old }
+        ensures counted { IsCounted self.old self.new result }
+    {
+        if self.failures.begin() != Turn::Goes {
+            return Err(Failed);
+        }
+        copy_part(&self.files, f as usize, at as usize, into);
+        Ok(())
+    }
+
+    fn write(&mut self, f: u32, at: u64, from: &[u8]) -> Result<(), Failed>
+        requires here { IsTrue (present_of self.old f) }
+        requires at { at ≤ length ((seen_of self.old).file f) }
+        requires small { at + length from.now < 2 ^ 62 }
+        ensures written { OnOk result (AtFile f (Holds at from.now) (seen_of self.old) (seen_of self.new)) }
+        ensures crash { Leads moments_of self.old self.new (AtFile f (Torn at (length from.now))) }
+        ensures count { count_of self.new ≡ count_of self.old }
+        ensures present { present_of self.new ≡ present_of self.old }
+        ensures cause { HasCause (faults_of self.old) (faults_of self.new) result }
+        ensures tell_faults { tell_faults_of self.old ≤ tell_faults_of self.new }
+        ensures asked { IsAsked (Gains (events_of self.old) (events_of self.new) f at from.now) self.old self.new result }
+        ensures counted { IsCounted self.old self.new result }
+    {
+        let turn = self.failures.begin();
+        if turn == Turn::Fails {
+            return Err(Failed);
+        }
+        match keep_write(self.alloc, &mut self.files, &mut self.past, f, at, from) {
+            Ok(()) => {
+                if turn == Turn::Stops {
+                    return Err(Failed);
+                }
+                Ok(())
+            }
+            Err(_) => {
+                self.failures.refuse();
+                Err(Failed)
+            }
+        }
+    }
+
+    fn sync(&mut self, f: u32) -> Result<(), Failed>
+        requires { IsTrue (present_of self.old f) }
+        ensures durable { OnOk result ((c : Image) → moments_of.may_leave self.new c → c.file f ≡ (seen_of self.old).file f) }
+        ensures seen { seen_of self.new ≡ seen_of self.old }
+        ensures crash { Leads moments_of self.old self.new Same }
+        ensures count { count_of self.new ≡ count_of self.old }
+        ensures present { present_of self.new ≡ present_of self.old }
+        ensures cause { HasCause (faults_of self.old) (faults_of self.new) result }
+        ensures tell_faults { tell_faults_of self.old ≤ tell_faults_of self.new }
+        ensures asked { OnOk result (events_of self.new ≡ events_of self.old ++ Event.Sync f ∷ []) }
+        ensures kept { OnErr result (events_of self.new ≡ events_of self.old) }
+        ensures counted { IsCounted self.old self.new result }
+    {
+        if self.failures.begin() != Turn::Goes {
+            return Err(Failed);
+        }
+        match keep_sync(&mut self.past, f) {
+            Ok(()) => Ok(()),
+            Err(_) => {
+                self.failures.refuse();
+                Err(Failed)
+            }
+        }
+    }
+
+    fn tell(&mut self, piece: &[u8]) -> Result<usize, Failed>
+        ensures front { IfOk result (λ n. n ≤ length piece.now) }
+        ensures some { IfOk result (λ n. n ≡ 0 → length piece.now ≡ 0) }
+        ensures told { IfOk result (λ n. (seen_of self.new).told ≡ (seen_of self.old).told ++ take n piece.now) }
+        ensures files { (seen_of self.new).file ≡ (seen_of self.old).file }
+        ensures crash { Leads moments_of self.old self.new (Tells (seen_of self.old).told (in_progress result piece.now)) }
+        ensures count { count_of self.new ≡ count_of self.old }
+        ensures present { present_of self.new ≡ present_of self.old }
+        ensures cause { HasCause (tell_faults_of self.old) (tell_faults_of self.new) result }
+        ensures faults { faults_of self.old ≤ faults_of self.new }
+        ensures all { IfOk result (λ n. n ≡ length piece.now) }
+        ensures asked { IsAsked (TellsMore (events_of self.old) (events_of self.new) piece.now (taken_by result)) self.old self.new result }
+        ensures counted { IsCounted self.old self.new result }
+    {
+        let turn = self.failures.begin_tell();
+        if turn == Turn::Fails {
+            return Err(Failed);
+        }
+        let taken = taken_in(turn, piece);
+        match keep_tell(self.alloc, &mut self.told, &mut self.past, piece, taken) {
+            Ok(()) => {
+                if turn == Turn::Stops {
+                    return Err(Failed);
+                }
+                Ok(taken)
+            }
+            Err(_) => {
+                self.failures.refuse_tell();
+                Err(Failed)
+            }
+        }
+    }
+}
+
+/// How much of a piece a call takes: all of it, or nothing where it is stopped.
+fn taken_in(turn: Turn, piece: &[u8]) -> usize
+    ensures within { result ≤ length piece.now }
+    ensures goes { turn ≢ Turn.Stops → result ≡ length piece.now }
+    ensures stops { turn ≡ Turn.Stops → result ≡ 0 }
+{
+    if turn == Turn::Stops { 0 } else { piece.len() }
+}
+
+impl MemMedia {
+    ghost use Rattle.media_core.specs.Files.{seen_of, events_of, count_of, present_of, faults_of, tell_faults_of, wants_of, plan_of, IsFresh, IsNew, SameButPlan};
+
+    /// Empty files, all of them here, and nothing told. The number of files is 1 to 65,536.
+    pub fn new(alloc: Global, files: u32) -> Result<MemMedia, Memory>
+        requires some { 1 ≤ files }
+        requires few { files ≤ 65536 }
+        ensures count { IfOk result (λ m. count_of m ≡ files) }
+        ensures present { IfOk result (λ m. (k : ℕ) → k < files → IsTrue (present_of m k)) }
+        ensures seen { IfOk result (λ m. seen_of m ≡ nothing) }
+        ensures fresh { IfOk result IsFresh }
+        ensures is_new { IfOk result IsNew }
+    {
+        let away = vec![in alloc; false; files as usize]?;
+        Ok(MemMedia {
+            alloc,
+            files: empty_files(alloc, files)?,
+            away,
+            told: Vec::new(alloc),
+            past: Vec::new(alloc),
+            failures: Failures::new(alloc),
+        })
+    }
+
+    /// Makes the call of that number fail and change nothing. On an error all stays.
+    pub fn fail_at(&mut self, call: u64) -> Result<(), Memory>
+        ensures ok { OnOk result (GainsCall (plan_of self.old) (plan_of self.new) call) }
+        ensures err { OnErr result (SamePlan (plan_of self.old) (plan_of self.new)) }
+        ensures rest { SameButPlan self.old self.new }
+    {
+        match self.failures.fail_at(call) {
+            Ok(()) => Ok(()),
+            Err(error) => Err(error),
+        }
+    }
+
+    /// The output: the bytes that were told.
+    pub fn told(&self) -> &[u8]
+        ensures { result.now ≡ (seen_of self.now).told }
+    {
+        &self.told
+    }
+}
