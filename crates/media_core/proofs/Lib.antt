@@ -1,2 +1,5 @@
+mod Emptying
 mod Files
+mod Fill
 mod Memory
+mod Tracking

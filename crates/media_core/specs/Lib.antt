@@ -1,6 +1,11 @@
+pub mod ClockMem
+pub mod Disk
+pub mod Emptied
 pub mod Events
 pub mod Files
 pub mod Kept
+pub mod Later
 pub mod Media
 pub mod Plan
 pub mod Source
+pub mod Tracks
