@@ -1,5 +1,5 @@
 -- What a pick makes of a file, call by call.
-use Rattle.std.proofs.Common.{◌≡◌, inl, inr, ℕ, ◌+◌, ◌-◌, ◌<◌, ◌≤◌, max, if◌then◌else◌, Bool, true, false, List, [], ◌∷◌, ◌++◌, length, take, drop, replicate, slice_index, refl, sym, ◌∙◌, ap, arith, length-append, length-drop}
+use Rattle.std.proofs.Common.{◌≡◌, ◌≢◌, inl, inr, ℕ, ◌+◌, ◌-◌, ◌<◌, ◌≤◌, max, ◌==◌, if◌then◌else◌, Bool, true, false, List, [], ◌∷◌, ◌++◌, length, take, drop, replicate, slice_index, refl, sym, ◌∙◌, ap, arith, length-append, length-drop}
 use Rattle.std.proofs.lemmas.Bool.{cases_lt}
 use Rattle.std.proofs.lemmas.Bool.Decides.{nat_tests}
 use Rattle.std.proofs.lemmas.List.{get_or_append_left, get_or-append_right, get_or-take, get_or-drop, get_or-replicate, length-take-le}
@@ -82,3 +82,10 @@ pub picked_synced : (pick : Pick) (here : Bool) (synced bytes c : List ℕ) (loo
     → IsPicked pick (if here then bytes else synced) bytes (if here then [] else loose) c
 picked_synced pick true synced bytes c loose same other = picked_fresh pick bytes c (same refl)
 picked_synced pick false synced bytes c loose same other = other refl
+
+-- whether two files are one
+pub same_of : (k f : ℕ) → (k == f) ≡ true → k ≡ f
+same_of k f is = grind (arith, nat_tests)
+
+pub other_of : (k f : ℕ) → (k == f) ≡ false → k ≢ f
+other_of k f is = λ same. absurd (grind (arith, nat_tests))

@@ -1,3 +1,4 @@
+mod DiskModel
 mod Emptying
 mod Files
 mod Fill

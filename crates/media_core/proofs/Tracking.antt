@@ -1,5 +1,5 @@
 -- Playing an event again keeps track of what a crash may leave.
-use Rattle.std.proofs.Common.{◌≡◌, ◌≢◌, inl, inr, ℕ, min, ◌==◌, if◌then◌else◌, true, false, replicate, List, [], ◌∷◌, ◌++◌, length, Vec, refl, sym, ◌∙◌, ap, subst, arith}
+use Rattle.std.proofs.Common.{◌≡◌, ◌≢◌, inl, inr, ℕ, min, ◌==◌, if◌then◌else◌, replicate, List, [], ◌∷◌, ◌++◌, length, Vec, refl, sym, ◌∙◌, ap, subst, arith}
 use Rattle.std.specs.declared.alloc.Global.{Global}
 use Rattle.std.proofs.lemmas.Bool.{cases_eq}
 use Rattle.std.proofs.lemmas.Bool.Decides.{nat_tests}
@@ -12,7 +12,7 @@ use Rattle.media_core.specs.Events.{Contents, blank, happens, after, file_bytes,
 use Rattle.media_core.specs.Kept.{written_torn, after_reads, blank_reads}
 use Rattle.media_core.specs.Tracks.{Tracks, SameLengths}
 use Rattle.media_core.specs.Disk.{IsPicked}
-use Rattle.media_core.proofs.Fill.{length-written, fill_where, picked_fresh, picked_synced}
+use Rattle.media_core.proofs.Fill.{length-written, fill_where, picked_fresh, picked_synced, same_of, other_of}
 use Rattle.media_core.proofs.Memory.{after-push}
 
 abbrev Files : Type 0
@@ -44,12 +44,6 @@ opens pick es opened told files picked first second = tracks_step pick es (Opene
 
 pub tells : (pick : Pick) (es : List Event) (piece : Vec ℕ Global) (n : ℕ) (files picked : Files) → Tracks pick es files picked → Tracks pick (es ++ Tell piece n ∷ []) files picked
 tells pick es piece n files picked tracks = tracks_step pick es (Tell piece n) files picked tracks.bytes tracks.left tracks.lengths tracks.is
-
-same_of : (k f : ℕ) → (k == f) ≡ true → k ≡ f
-same_of k f is = grind (arith, nat_tests)
-
-other_of : (k f : ℕ) → (k == f) ≡ false → k ≢ f
-other_of k f is = λ same. absurd (grind (arith, nat_tests))
 
 one_of : (files picked picked' : Files) (f : ℕ) → file_bytes picked' f ≡ file_bytes files f → ((k : ℕ) → k ≢ f → file_bytes picked' k ≡ file_bytes picked k) → ((k : ℕ) → length (file_bytes picked k) ≡ length (file_bytes files k)) → (k : ℕ) → length (file_bytes picked' k) ≡ length (file_bytes files k)
 one_of files picked picked' f here others same k = elim (cases_eq k f) [

@@ -6,6 +6,7 @@ pub mod Files
 pub mod Kept
 pub mod Later
 pub mod Media
+pub mod Model
 pub mod Plan
 pub mod Source
 pub mod Tracks

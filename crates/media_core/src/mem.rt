@@ -1,5 +1,5 @@
 // Files and an output in memory.
-ghost use Rattle.std.specs.Prelude.{◌≡◌, ◌+◌, ◌<◌, ◌≤◌, ◌^◌, [], ◌∷◌, ℕ, List, length, take, drop, IfOk, OnOk, OnErr, IsTrue, ◌++◌, vec_len, true, false, not, min, ◌-◌, ◌≢◌};
+ghost use Rattle.std.specs.Prelude.{◌≡◌, ◌+◌, ◌<◌, ◌≤◌, ◌^◌, [], ◌∷◌, ℕ, List, length, take, drop, IfOk, OnOk, OnErr, IsTrue, ◌++◌, vec_len, true, false, not, ◌↔◌, min, ◌-◌, ◌≢◌};
 ghost use Rattle.crash_moments.specs.Moments.{Leads, HasCause};
 ghost use Rattle.media_core.specs.Media.{Image, Holds, Torn, AtFile, Same, Tells, in_progress, taken_by, nothing};
 ghost use Rattle.media_core.specs.Events.{file_bytes, is_here, seen_after, IsLeft, LeftAfter, PickedAfter, Gains, TellsMore};
@@ -212,7 +212,8 @@ fn taken_in(turn: Turn, piece: &[u8]) -> usize
 }
 
 impl MemMedia {
-    ghost use Rattle.media_core.specs.Files.{seen_of, events_of, count_of, present_of, faults_of, tell_faults_of, wants_of, plan_of, IsFresh, IsNew, SameButPlan, SameButPresence};
+    ghost use Rattle.media_core.specs.Model.{MayLeave};
+    ghost use Rattle.media_core.specs.Files.{seen_of, events_of, moments_of, count_of, present_of, faults_of, tell_faults_of, wants_of, plan_of, IsFresh, IsNew, SameButPlan, SameButPresence};
 
     /// Empty files, all of them here, and nothing told. The number of files is 1 to 65,536.
     pub fn new(alloc: Global, files: u32) -> Result<MemMedia, Memory>
@@ -316,6 +317,13 @@ impl MemMedia {
         empty_first(&mut self.files);
         empty_in_all(&mut self.past);
     }
+
+    /// A law: a crash may leave just what the disk model allows, no less and no more. Of each file that is what was synced,
+    /// with any bytes in the ranges that were written since and past the old end, at a length between; of the output what
+    /// was there at the start, or what was told before a piece with a front of that piece.
+    pub fn leaves_by_the_disk_model(&self)
+        ensures { (c : Image) → moments_of.may_leave self.now c ↔ MayLeave self.now c }
+    {}
 
     /// Files and an output as they are found at a start, all of it on the disk.
     fn opened(
