@@ -95,3 +95,10 @@ replayed files room new f at place bytes same is changed k = changed k ∙ elim 
       (λ i. if k == f then written (p i) bytes (same k i) else same k i)
   | inr other ↦ if_other k f (written place bytes (file_bytes room k)) (file_bytes room k) other ∙ same k ∙ sym (if_other k f (written (min at (length (file_bytes files k))) bytes (file_bytes files k)) (file_bytes files k) other)
 ]
+
+-- the files in front
+pub file_bytes-take : (fs : Files) (n k : ℕ) → k < n → file_bytes (take n fs) k ≡ file_bytes fs k
+file_bytes-take fs zero k below = absurd (omega arith)
+file_bytes-take [] (suc n) k below = refl
+file_bytes-take (v ∷ fs) (suc n) zero below = refl
+file_bytes-take (v ∷ fs) (suc n) (suc k) below = file_bytes-take fs n k (omega arith)

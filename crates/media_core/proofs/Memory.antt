@@ -1,11 +1,11 @@
 -- What one event more makes of files in memory.
-use Rattle.std.proofs.Common.{◌≡◌, ◌≢◌, inl, inr, ℕ, zero, suc, ◌<◌, ◌≤◌, min, ◌==◌, if◌then◌else◌, Bool, true, false, not, List, [], ◌∷◌, ◌++◌, length, take, get_or, Vec, replicate, refl, sym, ◌∙◌, ap, subst, arith}
+use Rattle.std.proofs.Common.{◌≡◌, ◌≢◌, inl, inr, ℕ, zero, suc, ◌<◌, ◌≤◌, min, ◌==◌, if◌then◌else◌, Bool, true, false, not, List, [], ◌∷◌, ◌++◌, length, take, get_or, slice_set, Vec, replicate, refl, sym, ◌∙◌, ap, subst, arith}
 use Rattle.std.specs.declared.alloc.Global.{Global}
 use Rattle.std.proofs.lemmas.Bool.{cases_eq}
 use Rattle.std.proofs.lemmas.Bool.Decides.{nat_tests}
 use Rattle.crash_moments.specs.Moments.{Stepped, Leads, history}
 use Rattle.media_core.specs.declared.event.Event.{Event}
-use Rattle.media_core.specs.declared.event.Event.TheVariants.{Write, Sync, Tell}
+use Rattle.media_core.specs.declared.event.Event.TheVariants.{Opened, Write, Sync, Tell}
 use Rattle.media_core.specs.declared.mem.MemMedia.{MemMedia}
 use Rattle.media_core.specs.Media.{Image, Torn, AtFile, Tells, written}
 use Rattle.media_core.specs.Events.{Contents, blank, happens, after, WriteLeaves, SyncLeaves, TellLeaves, IsLeft, Gains, TellsMore, seen_after, file_bytes, is_here, LeftAfter}
@@ -147,8 +147,26 @@ tell_absent n past past' piece taken none more k c from left =
     let now : LeftAfter (past ++ Tell more.kept taken ∷ []) k c = subst (λ (es : List Event). LeftAfter es k c) more.more left in
     none k c from (subst (λ (t : Contents). t.left k c) (after-push past (Tell more.kept taken) blank) now)
 
+pub opened_absent : (n : ℕ) (past past' : List Event) (files : Vec (Vec ℕ Global) Global) (told : Vec ℕ Global) → past ≡ [] → past' ≡ past ++ Opened files told ∷ [] → ((k : ℕ) → n ≤ k → file_bytes files.items k ≡ []) → NoneFrom n past'
+opened_absent n past past' files told none more empty k c from left =
+    let now : LeftAfter (Opened files told ∷ []) k c = subst (λ (es : List Event). LeftAfter es k c) (more ∙ ap (λ (es : List Event). es ++ Opened files told ∷ []) none) left in
+    now ∙ empty k from
+
 -- where none is away
 pub all_here : (n k : ℕ) → k < n → is_here (replicate n false) k ≡ true
 all_here zero k below = absurd (omega arith)
 all_here (suc n) zero below = refl
 all_here (suc n) (suc k) below = all_here n k (omega arith)
+
+-- one file more or less is away
+pub is_here-set_same : (aways : List Bool) (f : ℕ) (a : Bool) → f < length aways → is_here (slice_set aways f a) f ≡ not a
+is_here-set_same [] f a below = absurd (omega arith)
+is_here-set_same (b ∷ aways) zero a below = refl
+is_here-set_same (b ∷ aways) (suc f) a below = is_here-set_same aways f a (omega arith)
+
+pub is_here-set_other : (aways : List Bool) (f k : ℕ) (a : Bool) → k ≢ f → is_here (slice_set aways f a) k ≡ is_here aways k
+is_here-set_other [] f k a other = refl
+is_here-set_other (b ∷ aways) zero zero a other = absurd (other refl)
+is_here-set_other (b ∷ aways) zero (suc k) a other = refl
+is_here-set_other (b ∷ aways) (suc f) zero a other = refl
+is_here-set_other (b ∷ aways) (suc f) (suc k) a other = is_here-set_other aways f k a (λ same. other (ap suc same))

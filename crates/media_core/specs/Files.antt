@@ -78,3 +78,12 @@ pub record SameButPlan (old new : MemMedia) : Type 0 where
   pub faults : faults_of new ≡ faults_of old
   pub tell_faults : tell_faults_of new ≡ tell_faults_of old
   pub wants : wants_of new ≡ wants_of old
+
+-- nothing but which files are here changes
+pub record SameButPresence (old new : MemMedia) : Type 0 where
+  pub events : events_of new ≡ events_of old
+  pub count : count_of new ≡ count_of old
+  pub plan : plan_of new ≡ plan_of old
+  pub faults : faults_of new ≡ faults_of old
+  pub tell_faults : tell_faults_of new ≡ tell_faults_of old
+  pub wants : wants_of new ≡ wants_of old

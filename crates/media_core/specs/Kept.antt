@@ -40,7 +40,7 @@ write_reads f at bytes left old k was = elim (cases_eq k f) [
       record { from = old; was = was; torn = λ here. absurd (here ne); other = λ _. is }
 ]
 
-happens_reads : (e : Event) (s : Contents) → ReadsOne s → ReadsOne (happens e s)
+pub happens_reads : (e : Event) (s : Contents) → ReadsOne s → ReadsOne (happens e s)
 happens_reads (Opened files told) s one = record { files = λ k. refl; told = refl }
 happens_reads (Write f at bytes) s one = record { files = λ k. write_reads f at bytes.items (s.left k) (s.bytes k) k (one.files k); told = one.told }
 happens_reads (Sync f) s one = record { files = λ k. record { was = one.files k; synced = λ here. refl }; told = one.told }

@@ -65,3 +65,55 @@ pub fn empty_files(alloc: Global, count: u32) -> Result<Vec<Vec<u8>>, AllocError
     }
     Ok(files)
 }
+
+/// Makes room for a file. Those that are added are empty.
+pub fn make_room(alloc: Global, files: &mut Vec<Vec<u8>>, f: usize) -> Result<(), AllocError>
+    ensures room { OnOk result (f < vec_len files.new) }
+    ensures same { OnOk result ((k : ℕ) → file_bytes files.new.items k ≡ file_bytes files.old.items k) }
+{
+    while files.len() <= f {
+        files.push(Vec::new(alloc))?;
+    }
+    Ok(())
+}
+
+/// A copy of files.
+pub fn copy_files(alloc: Global, files: &[Vec<u8>]) -> Result<Vec<Vec<u8>>, AllocError>
+    ensures count { IfOk result (λ copy. vec_len copy ≡ length files.now) }
+    ensures same { IfOk result (λ copy. (k : ℕ) → file_bytes copy.items k ≡ file_bytes files.now k) }
+{
+    let mut copy = Vec::new(alloc);
+    for file in files {
+        copy.push(file.to_vec(alloc)?)?;
+    }
+    Ok(copy)
+}
+
+/// A copy of one file, empty where it isn't.
+pub fn copy_of(alloc: Global, files: &[Vec<u8>], f: usize) -> Result<Vec<u8>, AllocError>
+    ensures { IfOk result (λ copy. copy.items ≡ file_bytes files.now f) }
+{
+    match files.get(f) {
+        Some(file) => {
+            let copy = file.to_vec(alloc)?;
+            Ok(copy)
+        }
+        None => Ok(Vec::new(alloc)),
+    }
+}
+
+/// Gives files a count: those past it go, and those that are added are empty.
+pub fn with_count(
+    alloc: Global,
+    mut files: Vec<Vec<u8>>,
+    count: usize,
+) -> Result<Vec<Vec<u8>>, AllocError>
+    ensures count { IfOk result (λ made. vec_len made ≡ count) }
+    ensures same { IfOk result (λ made. (k : ℕ) → k < count → file_bytes made.items k ≡ file_bytes files.items k) }
+{
+    files.truncate(count);
+    while files.len() < count {
+        files.push(Vec::new(alloc))?;
+    }
+    Ok(files)
+}

@@ -1,7 +1,8 @@
 // What was asked of files and an output in memory. It is kept, so that a crash at each moment can be told.
-ghost use Rattle.std.specs.Prelude.{◌≡◌, ◌<◌, ◌≤◌, ◌==◌, ◌++◌, [], ◌∷◌, ℕ, List, length, take, OnOk, OnErr, vec_len, if◌then◌else◌};
+ghost use Rattle.std.specs.Prelude.{◌≡◌, ◌≢◌, ◌<◌, ◌≤◌, ◌==◌, ◌++◌, [], ◌∷◌, ℕ, List, length, take, OnOk, OnErr, vec_len, if◌then◌else◌};
 ghost use Rattle.media_core.specs.Media.{written};
 ghost use Rattle.media_core.specs.Events.{file_bytes, Gains, TellsMore};
+ghost use Rattle.media_core.specs.Emptied.{NoJournal};
 ghost use Rattle.media_core.specs.declared.event.Event.{Event};
 
 use crate::bytes::overwrite_in;
@@ -78,5 +79,41 @@ pub fn keep_tell(
             let _ = past.pop();
             Err(error)
         }
+    }
+}
+
+/// Takes what was asked of file 0 out of an event.
+fn empty_in(event: &mut Event)
+    ensures { (es es' : List Event) → NoJournal es es' → NoJournal (es ++ event.old ∷ []) (es' ++ event.new ∷ []) }
+{
+    match event {
+        Event::Opened(files, _) => empty_first(files),
+        Event::Write(f, _, bytes) => {
+            if *f == 0 {
+                bytes.clear();
+            }
+        }
+        Event::Sync(_) => {}
+        Event::Tell(_, _) => {}
+    }
+}
+
+/// Makes file 0 empty, where there is one.
+pub fn empty_first(files: &mut Vec<Vec<u8>>)
+    ensures count { vec_len files.new ≡ vec_len files.old }
+    ensures first { file_bytes files.new.items 0 ≡ [] }
+    ensures others { (k : ℕ) → k ≢ 0 → file_bytes files.new.items k ≡ file_bytes files.old.items k }
+{
+    if files.len() > 0 {
+        files[0].clear();
+    }
+}
+
+/// Takes what was asked of file 0 out of all events.
+pub fn empty_in_all(past: &mut Vec<Event>)
+    ensures { NoJournal past.old.items past.new.items }
+{
+    for index in 0..past.len() {
+        empty_in(&mut past[index]);
     }
 }

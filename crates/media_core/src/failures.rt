@@ -130,4 +130,12 @@ impl Failures {
     {
         self.plan.stop_at(call);
     }
+
+    /// How many growths were refused.
+    pub fn wants(&self) -> u64
+        ensures wants { result ≡ self.now.wants }
+        ensures alone { IsUnplanned self.now.plan → result ≡ min (self.now.faults + self.now.tell_faults) (2 ^ 64 - 1) }
+    {
+        self.wants
+    }
 }

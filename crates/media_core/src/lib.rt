@@ -3,13 +3,17 @@
 #![tactic(auto)]
 
 mod bytes;
+mod clock;
 mod event;
 mod failures;
 mod media;
 mod mem;
 mod plan;
+mod replay;
 mod source;
 
+pub use clock::{Clock, ClockMem};
 pub use media::{Failed, Media, Memory};
 pub use mem::MemMedia;
+pub use replay::Pick;
 pub use source::{Source, SourceMem};

@@ -1,15 +1,17 @@
 // Files and an output in memory.
-ghost use Rattle.std.specs.Prelude.{◌≡◌, ◌+◌, ◌<◌, ◌≤◌, ◌^◌, [], ◌∷◌, ℕ, List, length, take, drop, IfOk, OnOk, OnErr, IsTrue, ◌++◌, vec_len, true, ◌≢◌};
+ghost use Rattle.std.specs.Prelude.{◌≡◌, ◌+◌, ◌<◌, ◌≤◌, ◌^◌, [], ◌∷◌, ℕ, List, length, take, drop, IfOk, OnOk, OnErr, IsTrue, ◌++◌, vec_len, true, false, not, ◌↔◌, min, ◌-◌, ◌≢◌};
 ghost use Rattle.crash_moments.specs.Moments.{Leads, HasCause};
 ghost use Rattle.media_core.specs.Media.{Image, Holds, Torn, AtFile, Same, Tells, in_progress, taken_by, nothing};
-ghost use Rattle.media_core.specs.Events.{file_bytes, is_here, seen_after, LeftAfter, Gains, TellsMore};
-ghost use Rattle.media_core.specs.Plan.{GainsCall, SamePlan};
+ghost use Rattle.media_core.specs.Events.{file_bytes, is_here, seen_after, IsLeft, LeftAfter, PickedAfter, Gains, TellsMore};
+ghost use Rattle.media_core.specs.Emptied.{NoJournal};
+ghost use Rattle.media_core.specs.Plan.{GainsCall, SamePlan, IsUnplanned, stopped_at};
 
-use crate::bytes::{copy_part, empty_files};
-use crate::event::{Event, keep_sync, keep_tell, keep_write};
+use crate::bytes::{copy_files, copy_part, empty_files};
+use crate::event::{Event, empty_first, empty_in_all, keep_sync, keep_tell, keep_write};
 use crate::failures::Failures;
 use crate::media::{Failed, Media, Memory};
 use crate::plan::Turn;
+use crate::replay::{Pick, picked_files};
 use std::alloc::Global;
 
 /// Files and an output in memory. What was asked of it is kept, so that each image that a crash may leave is told.
@@ -210,7 +212,8 @@ fn taken_in(turn: Turn, piece: &[u8]) -> usize
 }
 
 impl MemMedia {
-    ghost use Rattle.media_core.specs.Files.{seen_of, events_of, count_of, present_of, faults_of, tell_faults_of, wants_of, plan_of, IsFresh, IsNew, SameButPlan};
+    ghost use Rattle.media_core.specs.Model.{MayLeave};
+    ghost use Rattle.media_core.specs.Files.{seen_of, events_of, moments_of, count_of, present_of, faults_of, tell_faults_of, wants_of, plan_of, IsFresh, IsNew, SameButPlan, SameButPresence};
 
     /// Empty files, all of them here, and nothing told. The number of files is 1 to 65,536.
     pub fn new(alloc: Global, files: u32) -> Result<MemMedia, Memory>
@@ -245,10 +248,133 @@ impl MemMedia {
         }
     }
 
+    /// Makes that call and all later ones fail. A `write` or `tell` that is so stopped is in progress.
+    pub fn stop_at(&mut self, call: u64)
+        ensures plan { plan_of self.new ≡ stopped_at (plan_of self.old) call }
+        ensures rest { SameButPlan self.old self.new }
+    {
+        self.failures.stop_at(call);
+    }
+
+    /// How many growths were refused. Where no failure was planned, the faults of its calls are these alone.
+    pub fn wants(&self) -> u64
+        ensures wants { result ≡ wants_of self.now }
+        ensures alone { IsUnplanned (plan_of self.now) → result ≡ min (faults_of self.now + tell_faults_of self.now) (2 ^ 64 - 1) }
+    {
+        self.failures.wants()
+    }
+
     /// The output: the bytes that were told.
     pub fn told(&self) -> &[u8]
         ensures { result.now ≡ (seen_of self.now).told }
     {
         &self.told
+    }
+
+    /// Takes a tape's file out.
+    pub fn take_out(&mut self, f: u32)
+        requires tape { 1 ≤ f }
+        requires below { f < count_of self.old }
+        ensures away { present_of self.new f ≡ false }
+        ensures others { (k : ℕ) → k ≢ f → present_of self.new k ≡ present_of self.old k }
+        ensures rest { SameButPresence self.old self.new }
+    {
+        self.set_away(f, true);
+    }
+
+    /// Puts a tape's file back, with the bytes that it had.
+    pub fn put_back(&mut self, f: u32)
+        requires tape { 1 ≤ f }
+        requires below { f < count_of self.old }
+        ensures here { present_of self.new f ≡ true }
+        ensures others { (k : ℕ) → k ≢ f → present_of self.new k ≡ present_of self.old k }
+        ensures rest { SameButPresence self.old self.new }
+    {
+        self.set_away(f, false);
+    }
+
+    /// Changes whether a tape's file is away.
+    fn set_away(&mut self, f: u32, away: bool)
+        requires tape { 1 ≤ f }
+        requires below { f < count_of self.old }
+        ensures set { present_of self.new f ≡ not away }
+        ensures others { (k : ℕ) → k ≢ f → present_of self.new k ≡ present_of self.old k }
+        ensures rest { SameButPresence self.old self.new }
+    {
+        self.away[f as usize] = away;
+    }
+
+    /// Makes file 0 empty, on the disk too.
+    pub fn empty_journal(&mut self)
+        ensures emptied { NoJournal (events_of self.old) (events_of self.new) }
+        ensures count { count_of self.new ≡ count_of self.old }
+        ensures present { present_of self.new ≡ present_of self.old }
+        ensures plan { plan_of self.new ≡ plan_of self.old }
+        ensures faults { faults_of self.new ≡ faults_of self.old }
+        ensures tell_faults { tell_faults_of self.new ≡ tell_faults_of self.old }
+        ensures wants { wants_of self.new ≡ wants_of self.old }
+    {
+        empty_first(&mut self.files);
+        empty_in_all(&mut self.past);
+    }
+
+    /// A law: a crash may leave just what the disk model allows, no less and no more. Of each file that is what was synced,
+    /// with any bytes in the ranges that were written since and past the old end, at a length between; of the output what
+    /// was there at the start, or what was told before a piece with a front of that piece.
+    pub fn leaves_by_the_disk_model(&self)
+        ensures { (c : Image) → moments_of.may_leave self.now c ↔ MayLeave self.now c }
+    {}
+
+    /// Files and an output as they are found at a start, all of it on the disk.
+    fn opened(
+        alloc: Global,
+        files: Vec<Vec<u8>>,
+        away: Vec<bool>,
+        told: Vec<u8>,
+    ) -> Result<MemMedia, Memory>
+        requires same_count { vec_len away ≡ vec_len files }
+        requires some_files { 1 ≤ length away.items }
+        requires few_files { length away.items ≤ 65536 }
+        requires journal { is_here away.items 0 ≡ true }
+        ensures files { IfOk result (λ m. (k : ℕ) → (seen_of m).file k ≡ file_bytes files.items k) }
+        ensures told { IfOk result (λ m. (seen_of m).told ≡ told.items) }
+        ensures fresh { IfOk result IsFresh }
+        ensures away { IfOk result (λ m. m.away ≡ away) }
+        ensures is_new { IfOk result IsNew }
+    {
+        let copy = copy_files(alloc, &files)?;
+        let told_copy = told.to_vec(alloc)?;
+        let mut past = Vec::new(alloc);
+        past.push(Event::Opened(copy, told_copy))?;
+        Ok(MemMedia {
+            alloc,
+            files,
+            away,
+            told,
+            past,
+            failures: Failures::new(alloc),
+        })
+    }
+
+    /// The files after a crash, as the pick makes them: one of the images that it may have left. What was told is kept.
+    /// Nothing is planned any more, and its counts begin at 0.
+    pub fn reopen(self, pick: Pick) -> Result<MemMedia, Memory>
+        ensures left { IfOk result (λ m. IsLeft (events_of self) (seen_of m)) }
+        ensures picked { IfOk result (λ m. (k : ℕ) → PickedAfter pick (events_of self) k ((seen_of m).file k)) }
+        ensures told { IfOk result (λ m. (seen_of m).told ≡ (seen_of self).told) }
+        ensures fresh { IfOk result IsFresh }
+        ensures count { IfOk result (λ m. count_of m ≡ count_of self) }
+        ensures present { IfOk result (λ m. (k : ℕ) → present_of m k ≡ present_of self k) }
+        ensures is_new { IfOk result IsNew }
+    {
+        let files = picked_files(self.alloc, &self.past, pick, self.away.len())?;
+        let MemMedia {
+            alloc,
+            away,
+            told,
+            ..
+        } = self;
+        let media = MemMedia::opened(alloc, files, away, told)?;
+        Ok(media)
     }
 }
