@@ -1,7 +1,7 @@
 // Numbered files and one output.
 ghost use Rattle.std.specs.Prelude.{◌≡◌, ◌+◌, ◌^◌, ◌<◌, ◌≤◌, ◌++◌, List, ℕ, length, take, drop, IfOk, OnOk, OnErr, IsTrue, Bool};
 ghost use Rattle.crash_moments.specs.Moments.{Moments, Leads, HasCause};
-ghost use Rattle.media_core.specs.Media.{Image, Holds, Torn, AtFile, Same, Tells, in_progress};
+ghost use Rattle.media_core.specs.Media.{Image, Holds, Torn, AtFile, Same, Tells, ToldPart, in_progress};
 
 use std::alloc::AllocError;
 
@@ -99,6 +99,7 @@ pub trait Media {
         ensures front { IfOk result (λ n. n ≤ length piece.now) }
         ensures some { IfOk result (λ n. n ≡ 0 → length piece.now ≡ 0) }
         ensures told { tells → IfOk result (λ n. (seen self.new).told ≡ (seen self.old).told ++ take n piece.now) }
+        ensures part { tells → OnErr result (ToldPart piece.now (seen self.old).told (seen self.new).told) }
         ensures files { tells → (seen self.new).file ≡ (seen self.old).file }
         ensures crash { tells → Leads time self.old self.new (Tells (seen self.old).told (in_progress result piece.now)) }
         ensures count { count self.new ≡ count self.old }

@@ -1,7 +1,7 @@
 // Files and an output in memory.
 ghost use Rattle.std.specs.Prelude.{◌≡◌, ◌+◌, ◌<◌, ◌≤◌, ◌^◌, [], ◌∷◌, ℕ, List, length, take, drop, IfOk, OnOk, OnErr, IsTrue, ◌++◌, vec_len, true, false, not, ◌↔◌, min, ◌-◌, ◌≢◌};
 ghost use Rattle.crash_moments.specs.Moments.{Leads, HasCause};
-ghost use Rattle.media_core.specs.Media.{Image, Holds, Torn, AtFile, Same, Tells, in_progress, taken_by, nothing};
+ghost use Rattle.media_core.specs.Media.{Image, Holds, Torn, AtFile, Same, Tells, ToldPart, in_progress, taken_by, nothing};
 ghost use Rattle.media_core.specs.Events.{file_bytes, is_here, seen_after, IsLeft, LeftAfter, PickedAfter, Gains, TellsMore};
 ghost use Rattle.media_core.specs.Emptied.{NoJournal};
 ghost use Rattle.media_core.specs.Plan.{GainsCall, SamePlan, IsUnplanned, stopped_at};
@@ -172,6 +172,7 @@ impl Media for MemMedia {
         ensures front { IfOk result (λ n. n ≤ length piece.now) }
         ensures some { IfOk result (λ n. n ≡ 0 → length piece.now ≡ 0) }
         ensures told { IfOk result (λ n. (seen_of self.new).told ≡ (seen_of self.old).told ++ take n piece.now) }
+        ensures part { OnErr result (ToldPart piece.now (seen_of self.old).told (seen_of self.new).told) }
         ensures files { (seen_of self.new).file ≡ (seen_of self.old).file }
         ensures crash { Leads moments_of self.old self.new (Tells (seen_of self.old).told (in_progress result piece.now)) }
         ensures count { count_of self.new ≡ count_of self.old }
