@@ -295,6 +295,18 @@ data_more wide limit p fits le lt =
       ),
     )
 
+-- behind a length, so many bytes may stand, whichever they are
+pub data_free : (wide : Bool) (limit : ℕ) (p q : List ℕ) → IsBytes p → IsBytes q → size_len wide ≤ length p → size_in wide p ≤ limit → length p + length q < size_len wide + size_in wide p → Judges (IsWhole (forms.Data wide limit)) (p ++ q) More
+data_free wide limit p q fits more long le lt =
+    let same : size_in wide (p ++ q) ≡ size_in wide p = size_kept wide p q (λ i below. get_or_append_left p q 0 i (omega arith)) in
+    data_more wide limit (p ++ q) (All-append (λ (x : ℕ). x < 256) p q fits more) (omega (arith, same)) (omega (arith, same, length-append p q))
+
+-- where no byte is added nothing changes
+pub none_free : (form : Form) (p q : List ℕ) → Judges (IsWhole form) p More → length q ≤ 0 → Judges (IsWhole form) (p ++ q) More
+none_free form p q h le =
+    let none : q ≡ [] = nil_from_length q (omega arith) in
+    subst (λ (x : List ℕ). Judges (IsWhole form) x More) (sym (ap (λ (x : List ℕ). p ++ x) none ∙ append-nil p)) h
+
 pub data_long : (wide : Bool) (limit : ℕ) (p : List ℕ) → size_len wide + size_in wide p < length p → Judges (IsWhole (forms.Data wide limit)) p Never
 data_long wide limit p lt q w =
     let same : size_in wide (p ++ q) ≡ size_in wide p = size_kept wide p q (λ i below. get_or_append_left p q 0 i (omega arith)) in
