@@ -45,7 +45,9 @@ bad_more bytes piece at h =
 
 -- what a reader that is in this state has read
 pub at_state : (bytes : List ℕ) (r : Reader) (s : State) → r.state ≡ s → HasFed bytes r → HasFedAt bytes r.machine r.count s
+unfolding HasFed
 at_state bytes r s e h = subst (λ (x : State). HasFedAt bytes r.machine r.count x) e h
 
 pub in_state : (bytes : List ℕ) (r : Reader) (s : State) → r.state ≡ s → HasFedAt bytes r.machine r.count s → HasFed bytes r
+unfolding HasFed
 in_state bytes r s e h = subst (λ (x : State). HasFedAt bytes r.machine r.count x) (sym e) h
