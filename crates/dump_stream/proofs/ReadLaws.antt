@@ -1,28 +1,25 @@
 -- A machine and the bytes that it has read.
-use Rattle.std.proofs.Common.{◌≡◌, ◌⊎◌, ◌↔◌, ℕ, zero, suc, ◌+◌, ◌-◌, ◌<◌, ◌≤◌, Bool, true, false, List, [], ◌∷◌, ◌++◌, length, get_or, take, drop, Option, Some, None, Result, Ok, Err, refl, sym, ap, subst, ◌∙◌, append_assoc, arith, inl, inr, length-append, length-drop, length-take}
+use Rattle.std.proofs.Common.{◌≡◌, ℕ, zero, suc, ◌+◌, ◌-◌, ◌<◌, ◌≤◌, true, List, [], ◌∷◌, ◌++◌, length, get_or, take, drop, Option, Some, None, Result, Ok, Err, refl, sym, ap, subst, ◌∙◌, append_assoc, arith, inl, inr, length-append, length-drop, length-take}
 use Rattle.std.proofs.lemmas.List.{append-nil, take_all, take-append-drop, take-take, nil_from_length, take_more, drop_more}
 use Rattle.std.proofs.Math.Seq.{take-add}
 use Rattle.std.specs.List.{flat_map}
 use Rattle.std.proofs.lemmas.Bool.{cases_lt, cases_order}
 use Rattle.dump_stream.specs.declared.form.Form.{Form}
-use Rattle.dump_stream.specs.declared.form.Verdict.TheVariants as verdicts
-use Rattle.dump_stream.specs.declared.sofar.Field.{Field}
 use Rattle.dump_stream.specs.declared.sofar.Sofar.{Sofar}
-use Rattle.dump_stream.specs.declared.sofar.Sofar.TheVariants.{Start, Dump, Volume, Vnode, Ended}
+use Rattle.dump_stream.specs.declared.sofar.Sofar.TheVariants.{Start, Ended}
 use Rattle.dump_stream.specs.declared.machine.Machine.{Machine}
-use Rattle.dump_stream.specs.declared.machine.Ran.{Ran}
 use Rattle.dump_stream.specs.declared.machine.Ran.TheVariants as ran
 use Rattle.dump_stream.specs.declared.reader.StreamFault.{StreamFault}
 use Rattle.dump_stream.specs.declared.reader.StreamFault.TheVariants.{Cut, Bad, Memory}
 use Rattle.vnode_model.specs.declared.increments.Increment.{Increment}
-use Rattle.dump_stream.specs.Forms.{IsWhole, Judges, opening, closing}
-use Rattle.dump_stream.specs.Fields.{Table, AreFields, spelled, has}
-use Rattle.dump_stream.specs.Stream.{dump_table, header_table, dump_of, header_of, IsNamed, Section, section, entry, AreSections, Spells}
-use Rattle.dump_stream.specs.Machine.{Fields, Payload, Sections, AfterHeader, AfterDump, begun, after, form_at, Rest}
-use Rattle.dump_stream.specs.Steps.{RestAt, Ends, GoesOnAt, GoesOn, Moves, IsDead, Steps, EndsWith, HasEnded}
+use Rattle.dump_stream.specs.Forms.{IsWhole, opening, closing}
+use Rattle.dump_stream.specs.Fields.{spelled}
+use Rattle.dump_stream.specs.Stream.{section, Spells}
+use Rattle.dump_stream.specs.Machine.{Payload, after, form_at, Rest}
+use Rattle.dump_stream.specs.Steps.{RestAt, Ends, GoesOnAt, Moves, IsDead, Steps, EndsWith, HasEnded}
 use Rattle.dump_stream.specs.Reads.{Begins, IsCut, IsBad, Answers, Agree, HasRead, IsAt, Runs}
 use Rattle.dump_stream.proofs.FormLaws.{front_part, prefix_free}
-use Rattle.dump_stream.proofs.Tags.{TagThen, Rest_tag, Rest_nil}
+use Rattle.dump_stream.proofs.Tags.{Rest_tag, Rest_nil}
 use Rattle.dump_stream.proofs.Completes.{completes}
 
 -- ---- the definition, and the rest from the start

@@ -1,8 +1,8 @@
 -- One byte of a machine.
-use Rattle.std.proofs.Common.{◌≡◌, ◌↔◌, ℕ, Bool, true, false, List, [], ◌∷◌, ◌++◌, Option, Some, None, refl, sym, ap, subst, ◌∙◌, append_assoc}
+use Rattle.std.proofs.Common.{◌≡◌, ◌↔◌, ℕ, Bool, true, false, List, [], ◌∷◌, ◌++◌, Option, Some, None, sym, ap, subst, ◌∙◌, append_assoc}
 use Rattle.std.proofs.lemmas.List.{append-nil}
 use Rattle.dump_stream.specs.declared.form.Form.{Form}
-use Rattle.dump_stream.specs.declared.form.Verdict.TheVariants.{Whole, More, Never}
+use Rattle.dump_stream.specs.declared.form.Verdict.TheVariants.{More}
 use Rattle.dump_stream.specs.declared.sofar.Sofar.{Sofar}
 use Rattle.dump_stream.specs.declared.machine.Machine.{Machine}
 use Rattle.vnode_model.specs.declared.increments.Increment.{Increment}
@@ -10,7 +10,7 @@ use Rattle.dump_stream.specs.Forms.{IsWhole, Judges}
 use Rattle.dump_stream.specs.Machine.{Payload, form_at, after, Rest}
 use Rattle.dump_stream.specs.Steps.{Inside, RestAt, Ends, GoesOnAt, GoesOn, Moves, IsDead, Steps}
 use Rattle.dump_stream.proofs.Laws.{Payload_more, Payload_back, Payload_whole, Payload_from}
-use Rattle.dump_stream.proofs.Tags.{TagThen, Rest_tag, Rest_from}
+use Rattle.dump_stream.proofs.Tags.{Rest_tag, Rest_from}
 use Rattle.dump_stream.proofs.FormLaws.{prefix_free}
 
 -- what is said of one set of ends holds of a like one

@@ -1,4 +1,4 @@
-use Rattle.std.proofs.Common.{◌≡◌, ◌<◌, ◌≤◌, ◌+◌, ◌∙◌, ℕ, length, arith, zero}
+use Rattle.std.proofs.Common.{◌<◌, ◌≤◌, ◌+◌, length, arith, zero}
 use Rattle.std.proofs.lemmas.Bool.{cases_lt}
 use Rattle.std.proofs.Common.{inl, inr}
 use Rattle.dump_stream.specs.declared.form.Form.TheVariants as forms

@@ -1,7 +1,7 @@
-use Rattle.std.proofs.Common.{◌≡◌, ◌+◌, ◌<◌, ℕ, List, ◌++◌, ◌∷◌, [], take, length, get_or, Bool, subst, refl, arith}
+use Rattle.std.proofs.Common.{◌+◌, ◌<◌, ℕ, List, ◌++◌, ◌∷◌, take, length, get_or, Bool, subst, refl, arith}
 use Rattle.std.proofs.lemmas.Bool.{iff_false}
 use Rattle.std.proofs.lemmas.List.{take_all}
-use Rattle.dump_stream.specs.Reads.{IsAt, Runs}
+use Rattle.dump_stream.specs.Reads.{IsAt}
 use Rattle.dump_stream.specs.Sound.{SoundWhile}
 use Rattle.dump_stream.specs.Steps.{Steps, Ends}
 use Rattle.dump_stream.proofs.ReadLaws.{next_within, run_none, run_gulped, run_more, run_ended, run_stopped}

@@ -1,5 +1,4 @@
-use Rattle.std.proofs.Common.{◌≡◌, ◌+◌, ℕ, List, ◌++◌, length, Ok, sym, subst, arith, length-append}
-use Rattle.std.proofs.Common.{min}
+use Rattle.std.proofs.Common.{◌≡◌, ◌+◌, ◌++◌, length, Ok, subst, arith, length-append}
 use Rattle.dump_stream.specs.declared.machine.Machine.{Machine}
 use Rattle.dump_stream.specs.declared.machine.Ran.{Ran}
 use Rattle.dump_stream.specs.declared.machine.Ran.TheVariants as ran

@@ -1,4 +1,4 @@
-use Rattle.std.proofs.Common.{◌≡◌, ◌<◌, ◌≤◌, ◌++◌, ℕ, List, length, take, sym, subst, arith, length-take}
+use Rattle.std.proofs.Common.{◌<◌, ◌≤◌, ◌++◌, ℕ, List, length, take, sym, subst, arith, length-take}
 use Rattle.std.proofs.lemmas.List.Elements.{All-take}
 use Rattle.dump_stream.specs.declared.form.Verdict.TheVariants.{More}
 use Rattle.dump_stream.specs.Forms.{IsBytes, IsWhole, Judges}
