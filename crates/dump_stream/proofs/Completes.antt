@@ -1,19 +1,17 @@
 -- Wherever reading stands between two fields, some bytes end a stream.
-use Rattle.std.proofs.Common.{◌≡◌, ◌⊎◌, ℕ, ◌+◌, ◌-◌, ◌<◌, ◌%◌, Bool, true, false, cond, eqb, List, [], ◌∷◌, ◌++◌, length, Option, Some, None, refl, sym, ap, subst, ◌∙◌, arith, inl, inr, lit<}
-use Rattle.std.specs.Prelude.{slice_index, is_some}
+use Rattle.std.proofs.Common.{◌≡◌, ℕ, ◌+◌, ◌-◌, ◌<◌, ◌%◌, Bool, true, false, eqb, List, [], ◌∷◌, ◌++◌, length, refl, arith, inl, inr, lit<}
 use Rattle.std.proofs.lemmas.Bool.{cases_Bool, eq-eqb}
 use Rattle.std.proofs.lemmas.List.Elements.{All-from_recursion, All-cons, All-append}
-use Rattle.dump_stream.specs.declared.form.Form.{Form}
 use Rattle.dump_stream.specs.declared.form.Form.TheVariants as forms
 use Rattle.dump_stream.specs.declared.sofar.Field.{Field}
 use Rattle.dump_stream.specs.declared.sofar.Sofar.{Sofar}
 use Rattle.dump_stream.specs.declared.sofar.Sofar.TheVariants.{Start, Dump, Volume, Vnode, Ended}
 use Rattle.dump_stream.specs.declared.sofar.DumpHead.{DumpHead}
 use Rattle.vnode_model.specs.declared.increments.Increment.{Increment}
-use Rattle.bk_text.specs.Alphabets.{IsName, IsNameByte}
+use Rattle.bk_text.specs.Alphabets.{IsNameByte}
 use Rattle.vnode_model.specs.Limits.{all_data}
-use Rattle.dump_stream.specs.Forms.{IsBytes, IsWhole, IsKind, opening, closing}
-use Rattle.dump_stream.specs.Fields.{Table, has, body_of}
+use Rattle.dump_stream.specs.Forms.{IsBytes, IsWhole, opening, closing}
+use Rattle.dump_stream.specs.Fields.{has, body_of}
 use Rattle.dump_stream.specs.Stream.{dump_table, header_table, vnode_table, dump_of, is_typed, entry_of}
 use Rattle.dump_stream.specs.Machine.{Fields, with_field, with_entry, begun, AfterVnode, AfterHeader, AfterDump, Rest}
 use Rattle.dump_stream.proofs.Laws.{Fields_behind, Fields_from}

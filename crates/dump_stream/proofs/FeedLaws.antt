@@ -1,17 +1,15 @@
 -- A piece behind bytes that were fed.
-use Rattle.std.proofs.Common.{◌≡◌, ℕ, ◌+◌, ◌<◌, ◌≤◌, List, [], ◌∷◌, ◌++◌, length, take, drop, Ok, Err, refl, sym, ap, subst, ◌∙◌, append_assoc, arith, length-append, inl, inr}
+use Rattle.std.proofs.Common.{◌≡◌, ℕ, ◌+◌, ◌<◌, List, [], ◌++◌, length, take, Ok, sym, subst, arith, length-append, inl, inr}
 use Rattle.std.proofs.Math.Seq.{take-append-add}
 use Rattle.std.proofs.lemmas.Bool.{cases_lt}
-use Rattle.std.proofs.lemmas.List.{append-nil, take-append-le, take-append-drop}
+use Rattle.std.proofs.lemmas.List.{append-nil, take-append-le}
 use Rattle.dump_stream.specs.declared.machine.Machine.{Machine}
 use Rattle.dump_stream.specs.declared.machine.Ran.TheVariants as ran
-use Rattle.dump_stream.specs.declared.reader.StreamFault.TheVariants.{Cut, Bad, Memory}
-use Rattle.vnode_model.specs.declared.increments.Increment.{Increment}
 use Rattle.dump_stream.specs.declared.feeding.Reader.{Reader}
 use Rattle.dump_stream.specs.declared.feeding.State.{State}
 use Rattle.dump_stream.specs.Feeds.{HasFed, HasFedAt}
 use Rattle.dump_stream.specs.Stream.{Spells}
-use Rattle.dump_stream.specs.Reads.{Begins, IsBad, Answers, IsAt, Runs}
+use Rattle.dump_stream.specs.Reads.{Begins, IsBad, Answers, Runs}
 use Rattle.dump_stream.proofs.ReadLaws.{begins_take}
 
 pub fed_done : (bytes piece : List ℕ) (used : ℕ) (m : Machine) → (h : Runs bytes piece (ran.Ended used) m) → Answers (bytes ++ piece) (Ok (h.1, length bytes + used))
@@ -45,7 +43,9 @@ bad_more bytes piece at h =
 
 -- what a reader that is in this state has read
 pub at_state : (bytes : List ℕ) (r : Reader) (s : State) → r.state ≡ s → HasFed bytes r → HasFedAt bytes r.machine r.count s
+unfolding HasFed
 at_state bytes r s e h = subst (λ (x : State). HasFedAt bytes r.machine r.count x) e h
 
 pub in_state : (bytes : List ℕ) (r : Reader) (s : State) → r.state ≡ s → HasFedAt bytes r.machine r.count s → HasFed bytes r
+unfolding HasFed
 in_state bytes r s e h = subst (λ (x : State). HasFedAt bytes r.machine r.count x) (sym e) h

@@ -1,19 +1,18 @@
 -- What each form says of bytes that begin it.
-use Rattle.std.proofs.Common.{◌≡◌, ◌⊎◌, ℕ, zero, suc, ◌+◌, ◌-◌, ◌*◌, ◌%◌, ◌<◌, ◌≤◌, Bool, true, false, List, [], ◌∷◌, ◌++◌, length, take, drop, get_or, eqb, ltb, replicate, refl, sym, ap, subst, ◌∙◌, append_assoc, arith, inl, inr, lit<, length-append}
-use Rattle.std.specs.Prelude.{All, slice_index, ◌&&◌, ◌≢◌}
+use Rattle.std.proofs.Common.{◌≡◌, ℕ, zero, suc, ◌+◌, ◌-◌, ◌*◌, ◌%◌, ◌<◌, ◌≤◌, Bool, true, false, List, [], ◌∷◌, ◌++◌, length, drop, get_or, eqb, ltb, replicate, refl, sym, ap, subst, ◌∙◌, append_assoc, arith, inl, inr, lit<, length-append}
+use Rattle.std.specs.Prelude.{◌&&◌, ◌≢◌}
 use Rattle.std.specs.List.{AllByRecursion, starts_with}
 use Rattle.std.proofs.lemmas.Slice.Eq.{starts_is}
 use Rattle.std.proofs.lemmas.Bool.{cases_eq, cases_lt, both_ways, and_parts, ltb-true}
 use Rattle.std.proofs.lemmas.Bool.Decides.{Decides-eqb}
-use Rattle.std.proofs.lemmas.List.{append-nil, nil_from_length, get_or_append_left, length-replicate, get_or_at, get_or_past, get_or-replicate, get_or-append_right}
-use Rattle.std.proofs.lemmas.List.Elements.{All-from_get_or, All-nil, All-cons, All-tail, All-get_or, All-append, All-replicate, All-take, All-from_recursion, recursion_from_All, All-same}
+use Rattle.std.proofs.lemmas.List.{append-nil, nil_from_length, get_or_append_left, length-replicate, get_or_past, get_or-replicate, get_or-append_right}
+use Rattle.std.proofs.lemmas.List.Elements.{All-from_get_or, All-nil, All-tail, All-get_or, All-append, All-replicate, All-from_recursion, recursion_from_All}
 use Rattle.dump_stream.specs.declared.form.Form.{Form}
 use Rattle.dump_stream.specs.declared.form.Form.TheVariants as forms
-use Rattle.dump_stream.specs.declared.form.Verdict.{Verdict}
 use Rattle.dump_stream.specs.declared.form.Verdict.TheVariants.{Whole, More, Never}
 use Rattle.bk_text.specs.Alphabets.{IsName, IsNameByte}
 use Rattle.vnode_model.specs.Headers.{IsMessage}
-use Rattle.dump_stream.specs.Forms.{IsBytes, IsFixed, IsFixedBytes, size_len, size_in, IsData, IsKind, ComesAfter, number_from, opening, closing, HasForm, IsWhole, Judges}
+use Rattle.dump_stream.specs.Forms.{IsBytes, IsFixed, IsFixedBytes, size_len, size_in, ComesAfter, number_from, opening, closing, HasForm, IsWhole, Judges}
 
 abbrev pub all_below : List ℕ → Bool
 all_below [] = true
@@ -294,6 +293,18 @@ data_more wide limit p fits le lt =
         (omega (arith, same), omega (arith, same, length-append p (zeros count), zeros_length count)),
       ),
     )
+
+-- behind a length, so many bytes may stand, whichever they are
+pub data_free : (wide : Bool) (limit : ℕ) (p q : List ℕ) → IsBytes p → IsBytes q → size_len wide ≤ length p → size_in wide p ≤ limit → length p + length q < size_len wide + size_in wide p → Judges (IsWhole (forms.Data wide limit)) (p ++ q) More
+data_free wide limit p q fits more long le lt =
+    let same : size_in wide (p ++ q) ≡ size_in wide p = size_kept wide p q (λ i below. get_or_append_left p q 0 i (omega arith)) in
+    data_more wide limit (p ++ q) (All-append (λ (x : ℕ). x < 256) p q fits more) (omega (arith, same)) (omega (arith, same, length-append p q))
+
+-- where no byte is added nothing changes
+pub none_free : (form : Form) (p q : List ℕ) → Judges (IsWhole form) p More → length q ≤ 0 → Judges (IsWhole form) (p ++ q) More
+none_free form p q h le =
+    let none : q ≡ [] = nil_from_length q (omega arith) in
+    subst (λ (x : List ℕ). Judges (IsWhole form) x More) (sym (ap (λ (x : List ℕ). p ++ x) none ∙ append-nil p)) h
 
 pub data_long : (wide : Bool) (limit : ℕ) (p : List ℕ) → size_len wide + size_in wide p < length p → Judges (IsWhole (forms.Data wide limit)) p Never
 data_long wide limit p lt q w =

@@ -1,27 +1,25 @@
 -- A machine and the bytes that it has read.
-use Rattle.std.proofs.Common.{◌≡◌, ◌⊎◌, ◌↔◌, ℕ, zero, suc, ◌+◌, ◌-◌, ◌<◌, ◌≤◌, Bool, true, false, List, [], ◌∷◌, ◌++◌, length, get_or, take, drop, Option, Some, None, Result, Ok, Err, refl, sym, ap, subst, ◌∙◌, append_assoc, arith, inl, inr, length-append, length-take}
-use Rattle.std.proofs.lemmas.List.{append-nil, take-append-drop, take-take, nil_from_length, take_more, drop_more}
+use Rattle.std.proofs.Common.{◌≡◌, ℕ, zero, suc, ◌+◌, ◌-◌, ◌<◌, ◌≤◌, true, List, [], ◌∷◌, ◌++◌, length, get_or, take, drop, Option, Some, None, Result, Ok, Err, refl, sym, ap, subst, ◌∙◌, append_assoc, arith, inl, inr, length-append, length-drop, length-take}
+use Rattle.std.proofs.lemmas.List.{append-nil, take_all, take-append-drop, take-take, nil_from_length, take_more, drop_more}
+use Rattle.std.proofs.Math.Seq.{take-add}
 use Rattle.std.specs.List.{flat_map}
 use Rattle.std.proofs.lemmas.Bool.{cases_lt, cases_order}
 use Rattle.dump_stream.specs.declared.form.Form.{Form}
-use Rattle.dump_stream.specs.declared.form.Verdict.TheVariants as verdicts
-use Rattle.dump_stream.specs.declared.sofar.Field.{Field}
 use Rattle.dump_stream.specs.declared.sofar.Sofar.{Sofar}
-use Rattle.dump_stream.specs.declared.sofar.Sofar.TheVariants.{Start, Dump, Volume, Vnode, Ended}
+use Rattle.dump_stream.specs.declared.sofar.Sofar.TheVariants.{Start, Ended}
 use Rattle.dump_stream.specs.declared.machine.Machine.{Machine}
-use Rattle.dump_stream.specs.declared.machine.Ran.{Ran}
 use Rattle.dump_stream.specs.declared.machine.Ran.TheVariants as ran
 use Rattle.dump_stream.specs.declared.reader.StreamFault.{StreamFault}
 use Rattle.dump_stream.specs.declared.reader.StreamFault.TheVariants.{Cut, Bad, Memory}
 use Rattle.vnode_model.specs.declared.increments.Increment.{Increment}
-use Rattle.dump_stream.specs.Forms.{IsWhole, Judges, opening, closing}
-use Rattle.dump_stream.specs.Fields.{Table, AreFields, spelled, has}
-use Rattle.dump_stream.specs.Stream.{dump_table, header_table, dump_of, header_of, IsNamed, Section, section, entry, AreSections, Spells}
-use Rattle.dump_stream.specs.Machine.{Fields, Payload, Sections, AfterHeader, AfterDump, begun, after, form_at, Rest}
-use Rattle.dump_stream.specs.Steps.{RestAt, Ends, GoesOnAt, GoesOn, Moves, IsDead, Steps, EndsWith, HasEnded}
+use Rattle.dump_stream.specs.Forms.{IsWhole, opening, closing}
+use Rattle.dump_stream.specs.Fields.{spelled}
+use Rattle.dump_stream.specs.Stream.{section, Spells}
+use Rattle.dump_stream.specs.Machine.{Payload, after, form_at, Rest}
+use Rattle.dump_stream.specs.Steps.{RestAt, Ends, GoesOnAt, Moves, IsDead, Steps, EndsWith, HasEnded}
 use Rattle.dump_stream.specs.Reads.{Begins, IsCut, IsBad, Answers, Agree, HasRead, IsAt, Runs}
 use Rattle.dump_stream.proofs.FormLaws.{front_part, prefix_free}
-use Rattle.dump_stream.proofs.Tags.{TagThen, Rest_tag, Rest_nil}
+use Rattle.dump_stream.proofs.Tags.{Rest_tag, Rest_nil}
 use Rattle.dump_stream.proofs.Completes.{completes}
 
 -- ---- the definition, and the rest from the start
@@ -215,6 +213,31 @@ module _ (bytes piece : List ℕ) (at byte : ℕ) (m new : Machine) (lt : at < l
         λ n i le s. no_front front (drop (at + 1) piece) (take n (bytes ++ piece)) (drop n (bytes ++ piece)) byte i begins
             (λ s0. so_far.1 (i, read_ends front m i so_far.0 s0)) stops (take-append-drop n (bytes ++ piece) ∙ cut_at bytes piece at byte lt is) s,
       )
+
+-- many bytes at once: so many of those that are left of a piece
+abbrev pub next_bytes : List ℕ → ℕ → ℕ → List ℕ
+next_bytes piece at count = take count (take (length piece - at) (drop at piece))
+
+next_is : (piece : List ℕ) (at count : ℕ) → next_bytes piece at count ≡ take count (drop at piece)
+next_is piece at count = ap (λ (x : List ℕ). take count x) (take_all (length piece - at) (drop at piece) (omega (arith, length-drop at piece)))
+
+pub next_within : (piece : List ℕ) (at count : ℕ) → at ≤ length piece → count ≤ length (take (length piece - at) (drop at piece)) → at + count ≤ length piece
+next_within piece at count within le = omega (arith, length-take (length piece - at) (drop at piece), length-drop at piece)
+
+pub run_gulped : (bytes piece : List ℕ) (at count : ℕ) (m new : Machine) → IsAt (bytes ++ take at piece) m → Moves (λ more. Ends m (next_bytes piece at count ++ more)) new → (HasEnded new → HasEnded m) → IsAt (bytes ++ take (at + count) piece) new
+run_gulped bytes piece at count m new so_far k ended =
+    let q : List ℕ = next_bytes piece at count in
+    let all : (bytes ++ take at piece) ++ q ≡ bytes ++ take (at + count) piece =
+    append_assoc bytes (take at piece) q ∙ ap (λ (x : List ℕ). bytes ++ (take at piece ++ x)) (next_is piece at count) ∙ ap (λ (x : List ℕ). bytes ++ x) (sym (take-add at count piece)) in
+    let read : HasRead ((bytes ++ take at piece) ++ q) new = (
+      k.0,
+      λ more i.
+          let e : ((bytes ++ take at piece) ++ q) ++ more ≡ (bytes ++ take at piece) ++ (q ++ more) = append_assoc (bytes ++ take at piece) q more in (
+            λ s. (k.1 more i).0 ((so_far.0.1 (q ++ more) i).0 (subst (λ (x : List ℕ). Spells x i) e s)),
+            λ r. subst (λ (x : List ℕ). Spells x i) (sym e) ((so_far.0.1 (q ++ more) i).1 ((k.1 more i).1 r)),
+          ),
+    ) in
+    (subst (λ (x : List ℕ). HasRead x new) all read, λ h. so_far.1 (ended h))
 
 -- ---- one answer
 

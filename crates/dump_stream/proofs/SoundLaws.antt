@@ -1,17 +1,16 @@
 -- The fields so far are fields of their section, and the entries so far are fit.
-use Rattle.std.proofs.Common.{◌≡◌, ◌⊎◌, ℕ, ◌+◌, ◌-◌, ◌%◌, ◌<◌, ◌≤◌, min, Bool, true, false, cond, eqb, ltb, List, [], ◌∷◌, ◌++◌, length, map, take, drop, get_or, replicate, Option, Some, None, refl, sym, ap, subst, ◌∙◌, append_assoc, inl, inr, arith, lit<, length-append, length-drop}
-use Rattle.std.specs.Prelude.{is_some, IfSome, IsSome, IsSomeAnd, All, sum_by, slice_index, ◌&&◌}
+use Rattle.std.proofs.Common.{◌≡◌, ◌⊎◌, ℕ, ◌+◌, ◌-◌, ◌%◌, ◌<◌, ◌≤◌, min, Bool, true, false, cond, eqb, ltb, List, [], ◌∷◌, ◌++◌, length, map, take, drop, replicate, Option, Some, None, refl, sym, ap, subst, ◌∙◌, append_assoc, inl, inr, arith, length-append, length-drop}
+use Rattle.std.specs.Prelude.{is_some, IfSome, IsSome, IsSomeAnd, sum_by, slice_index, ◌&&◌}
 use Rattle.std.proofs.lemmas.List.{append-nil, take-append-le, take_all}
 use Rattle.std.proofs.lemmas.List.Elements.{All-nil, All-push, All-get_or, All-weaker}
 use Rattle.std.proofs.lemmas.List.Quantifiers.{all_pairs_push}
 use Rattle.std.proofs.lemmas.List.Sums.{sum_by-append}
 use Rattle.std.proofs.lemmas.Bool.{cases_eq, cases_Bool, ne_eqb, eqb-true, and_parts, ltb-true}
-use Rattle.vnode_model.specs.declared.vnodes.VnodeKind.{VnodeKind}
 use Rattle.vnode_model.specs.declared.vnodes.VnodeKind.TheVariants.{File, Directory, Symlink}
 use Rattle.vnode_model.specs.declared.increments.Entry.{Entry}
 use Rattle.vnode_model.specs.declared.increments.IncrementFields.{IncrementFields}
 use Rattle.vnode_model.specs.Headers.{IsMessage, IsVolHeader}
-use Rattle.vnode_model.specs.Limits.{StandsBefore, KindFits, AccessFits, IsFit, IsFitVnode, AreFit, number_of, data_len, most_vnodes, most_data, all_data}
+use Rattle.vnode_model.specs.Limits.{StandsBefore, KindFits, AccessFits, IsFit, AreFit, number_of, data_len, most_vnodes, most_data, all_data}
 use Rattle.dump_stream.specs.declared.form.Form.{Form}
 use Rattle.dump_stream.specs.declared.form.Form.TheVariants as forms
 use Rattle.dump_stream.specs.declared.sofar.Field.{Field}
@@ -20,8 +19,8 @@ use Rattle.dump_stream.specs.declared.sofar.Sofar.TheVariants.{Start, Dump, Volu
 use Rattle.dump_stream.specs.declared.sofar.DumpHead.{DumpHead}
 use Rattle.dump_stream.specs.Forms.{IsWhole, ComesAfter, number_from, size_len}
 use Rattle.dump_stream.specs.Fields.{Table, IsField, AreFields, has, used, payload_of, byte, string, bytes_or, body, body_of}
-use Rattle.dump_stream.specs.Stream.{dump_table, header_table, vnode_table, header_of, vnode_of, entry_of, kind_of, is_typed}
-use Rattle.dump_stream.specs.Machine.{with_field, with_entry, begun, form_at, after}
+use Rattle.dump_stream.specs.Stream.{dump_table, header_table, vnode_table, header_of, entry_of, kind_of, is_typed}
+use Rattle.dump_stream.specs.Machine.{with_field, with_entry, form_at, after}
 use Rattle.dump_stream.specs.Sound.{IsSound, IsNameThere, IsAccessWhole, MayFollow}
 use Rattle.dump_stream.proofs.Tags.{chosen, free, Some≢None}
 

@@ -1,7 +1,8 @@
 -- One byte of a machine.
-use Rattle.std.proofs.Common.{◌≡◌, ◌↔◌, ℕ, Bool, true, false, List, [], ◌∷◌, ◌++◌, Option, Some, None, refl, sym, ap, subst, ◌∙◌}
+use Rattle.std.proofs.Common.{◌≡◌, ◌↔◌, ℕ, Bool, true, false, List, [], ◌∷◌, ◌++◌, Option, Some, None, sym, ap, subst, ◌∙◌, append_assoc}
+use Rattle.std.proofs.lemmas.List.{append-nil}
 use Rattle.dump_stream.specs.declared.form.Form.{Form}
-use Rattle.dump_stream.specs.declared.form.Verdict.TheVariants.{Whole, More, Never}
+use Rattle.dump_stream.specs.declared.form.Verdict.TheVariants.{More}
 use Rattle.dump_stream.specs.declared.sofar.Sofar.{Sofar}
 use Rattle.dump_stream.specs.declared.machine.Machine.{Machine}
 use Rattle.vnode_model.specs.declared.increments.Increment.{Increment}
@@ -9,7 +10,7 @@ use Rattle.dump_stream.specs.Forms.{IsWhole, Judges}
 use Rattle.dump_stream.specs.Machine.{Payload, form_at, after, Rest}
 use Rattle.dump_stream.specs.Steps.{Inside, RestAt, Ends, GoesOnAt, GoesOn, Moves, IsDead, Steps}
 use Rattle.dump_stream.proofs.Laws.{Payload_more, Payload_back, Payload_whole, Payload_from}
-use Rattle.dump_stream.proofs.Tags.{TagThen, Rest_tag, Rest_from}
+use Rattle.dump_stream.proofs.Tags.{Rest_tag, Rest_from}
 use Rattle.dump_stream.proofs.FormLaws.{prefix_free}
 
 -- what is said of one set of ends holds of a like one
@@ -48,7 +49,28 @@ step_more form s tag p byte fits new going h =
     (λ bytes i. let K : List ℕ → List ℕ → Type 0 = λ q r. Rest (after s tag q) r i in
     (λ e. Payload_more form p bytes byte K going.0 e, λ e. Payload_back form p bytes byte K e)) h
 
--- the same at a machine
+-- ---- many bytes at once
+
+-- bytes that don't make the form whole belong to what is still to come
+gulped_to : (form : Form) (q p bs : List ℕ) (K : List ℕ → List ℕ → Type 0) → Judges (IsWhole form) (p ++ q) More → Payload form p K (q ++ bs) → Payload form (p ++ q) K bs
+gulped_to form [] p bs K going h = subst (λ (x : List ℕ). Payload form x K bs) (sym (append-nil p)) h
+gulped_to form (b ∷ q) p bs K going h =
+    let grown : p ++ b ∷ q ≡ (p ++ b ∷ []) ++ q = sym (append_assoc p (b ∷ []) q) in
+    let not_yet : IsWhole form p → ⊥ = λ whole. let none : (b ∷ q) ++ going.1 ≡ [] = prefix_free form p ((b ∷ q) ++ going.1) whole (subst (IsWhole form) (append_assoc p (b ∷ q) going.1) going.2) in cc in
+    subst (λ (x : List ℕ). Payload form x K bs) (sym grown)
+    (gulped_to form q (p ++ b ∷ []) bs K (subst (λ (x : List ℕ). Judges (IsWhole form) x More) grown going) (Payload_more form p (q ++ bs) b K not_yet h))
+
+gulped_back : (form : Form) (q p bs : List ℕ) (K : List ℕ → List ℕ → Type 0) → Payload form (p ++ q) K bs → Payload form p K (q ++ bs)
+gulped_back form q p bs K h =
+    let grown : (p ++ q) ++ h.0 ≡ p ++ (q ++ h.0) = append_assoc p q h.0 in
+    (q ++ h.0, h.1, ap (λ (x : List ℕ). q ++ x) h.2 ∙ sym (append_assoc q h.0 h.1), subst (IsWhole form) grown h.3, subst (λ (x : List ℕ). K x h.1) grown h.4)
+
+pub gulped : (form : Form) (s : Sofar) (tag : ℕ) (p q : List ℕ) → Judges (IsWhole form) (p ++ q) More → (bytes : List ℕ) (i : Increment) → Inside form s tag p (q ++ bytes) i ↔ Inside form s tag (p ++ q) bytes i
+gulped form s tag p q going bytes i =
+    let K : List ℕ → List ℕ → Type 0 = λ x r. Rest (after s tag x) r i in
+    (λ h. gulped_to form q p bytes K going h, λ h. gulped_back form q p bytes K h)
+
+-- ---- the same at a machine
 
 pub at_none : (m : Machine) (byte : ℕ) (fits : Bool) (new : Machine) → m.form ≡ None
     → Steps (λ bytes. Rest m.sofar (byte ∷ bytes)) fits new → Steps (λ bytes. Ends m (byte ∷ bytes)) fits new
@@ -60,3 +82,10 @@ at_some m byte form fits new e h = subst (λ (o : Option Form). Steps (λ bytes.
 
 pub goes_on : (m : Machine) (form : Form) → m.form ≡ Some form → GoesOn m → Judges (IsWhole form) m.payload More
 goes_on m form e h = subst (λ (o : Option Form). GoesOnAt o m.payload) e h
+
+-- a machine that took bytes which don't make the form whole
+pub gulped_at : (m : Machine) (form : Form) (q p : List ℕ) → m.form ≡ Some form → p ≡ m.payload ++ q → Judges (IsWhole form) (m.payload ++ q) More → Moves (λ bytes. Ends m (q ++ bytes)) (record m { payload = p })
+gulped_at m form q p e p_is going =
+    let Taken : Option Form → List ℕ → Type 0 = λ o x. GoesOnAt o x × ((bytes : List ℕ) (i : Increment) → RestAt o m.sofar m.tag m.payload (q ++ bytes) i ↔ RestAt o m.sofar m.tag x bytes i) in
+    let taken : Taken (Some form) (m.payload ++ q) = (going, gulped form m.sofar m.tag m.payload q going) in
+    subst (λ (o : Option Form). Taken o p) (sym e) (subst (λ (x : List ℕ). Taken (Some form) x) (sym p_is) taken)

@@ -1,8 +1,8 @@
 -- One tag of what is still to come: it is one that form_at allows, and what follows is the rest after it.
-use Rattle.std.proofs.Common.{◌≡◌, ◌⊎◌, ℕ, ◌+◌, ◌<◌, Bool, true, false, cond, eqb, ltb, List, [], ◌∷◌, ◌++◌, length, map, Option, Some, None, refl, sym, ap, subst, ◌∙◌, append_assoc, ◌-◌, arith, inl, inr, lit<}
+use Rattle.std.proofs.Common.{◌≡◌, ◌⊎◌, ℕ, ◌+◌, ◌<◌, Bool, true, false, cond, eqb, ltb, List, [], ◌∷◌, ◌++◌, length, map, Option, Some, None, refl, sym, ap, subst, ◌∙◌, append_assoc, ◌-◌, inl, inr, lit<}
 use Rattle.std.specs.List.{flat_map}
 use Rattle.std.specs.Prelude.{◌&&◌}
-use Rattle.std.proofs.lemmas.Bool.{cases_eq, eq-eqb, ne_eqb, lt-ltb, ltb-true, and_from, and_parts, cases_Bool}
+use Rattle.std.proofs.lemmas.Bool.{cases_eq, ne_eqb, lt-ltb, ltb-true, and_parts}
 use Rattle.std.proofs.lemmas.List.{append-nil, length_push}
 use Rattle.std.proofs.lemmas.List.Elements.{All-nil, All-from_recursion}
 use Rattle.dump_stream.specs.declared.form.Form.{Form}
@@ -13,12 +13,12 @@ use Rattle.dump_stream.specs.declared.sofar.Sofar.TheVariants.{Start, Dump, Volu
 use Rattle.dump_stream.specs.declared.sofar.DumpHead.{DumpHead}
 use Rattle.vnode_model.specs.declared.increments.Entry.{Entry}
 use Rattle.vnode_model.specs.declared.increments.Increment.{Increment}
-use Rattle.dump_stream.specs.Forms.{IsBytes, IsWhole, IsFixed, opening, closing, number_from}
-use Rattle.dump_stream.specs.Fields.{Table, AreFields, spelled, has, used, body_of}
-use Rattle.dump_stream.specs.Stream.{dump_table, header_table, vnode_table, dump_of, header_of, entry_of, entry, is_typed, IsNamed, Section, section, AreSections}
+use Rattle.dump_stream.specs.Forms.{IsWhole, opening, closing, number_from}
+use Rattle.dump_stream.specs.Fields.{spelled, has, used, body_of}
+use Rattle.dump_stream.specs.Stream.{dump_table, header_table, vnode_table, dump_of, entry_of, entry, is_typed, Section, section, AreSections}
 use Rattle.vnode_model.specs.Limits.{all_data}
-use Rattle.dump_stream.specs.Machine.{Fields, Payload, with_field, with_entry, begun, field_at, form_at, after, Sections, AfterVnode, AfterHeader, AfterDump, Rest}
-use Rattle.dump_stream.proofs.Laws.{IsPrefixFree, Payload_whole, Payload_from, Tagged, Fields_tag, Fields_behind, Fields_from, Fields_nil}
+use Rattle.dump_stream.specs.Machine.{Fields, Payload, with_entry, begun, form_at, after, Sections, AfterVnode, AfterHeader, AfterDump, Rest}
+use Rattle.dump_stream.proofs.Laws.{Fields_tag, Fields_behind, Fields_from, Fields_nil}
 
 -- this tag may come, and what follows is the rest after it
 abbrev pub TagThen : Sofar → ℕ → List ℕ → Increment → Type 0

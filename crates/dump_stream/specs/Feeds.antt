@@ -26,8 +26,9 @@ HasFedAt bytes m count (states.Finished i) = (n : ℕ) × Answers bytes (Ok (i, 
 HasFedAt bytes m count (states.Stuck at) = Answers bytes (Err (Bad at))
 HasFedAt bytes m count states.Lost = Unit {0}
 
--- these bytes were fed so far
-abbrev pub HasFed : List ℕ → Reader → Type 0
+-- These bytes were fed so far. This word and those on how a reader stands are closed, so that a caller's proof sees no
+-- more of a reader than they say.
+unfoldable pub HasFed : List ℕ → Reader → Type 0
 HasFed bytes r = HasFedAt bytes r.machine r.count r.state
 
 abbrev pub FinishAnswers : List ℕ → Result Increment StreamFault → Type 0
@@ -37,19 +38,19 @@ FinishAnswers bytes (Err e) = Answers bytes (Err e)
 -- ---- how a reader stands
 
 -- no stream has ended, and nothing was refused
-abbrev pub IsGoing : Reader → Type 0
+unfoldable pub IsGoing : Reader → Type 0
 IsGoing r = r.state ≡ states.Going
 
 -- a stream has ended
-abbrev pub IsDone : Reader → Type 0
+unfoldable pub IsDone : Reader → Type 0
 IsDone r = (i : Increment) × (r.state ≡ states.Finished i)
 
 -- a byte was refused, at this place
-abbrev pub IsStuck : ℕ → Reader → Type 0
+unfoldable pub IsStuck : ℕ → Reader → Type 0
 IsStuck at r = r.state ≡ states.Stuck at
 
 -- memory ran out
-abbrev pub IsLost : Reader → Type 0
+unfoldable pub IsLost : Reader → Type 0
 IsLost r = r.state ≡ states.Lost
 
 -- how a reader stands after an answer
@@ -67,7 +68,7 @@ IsUnfinishedAt (states.Finished i) m = ⊥
 IsUnfinishedAt (states.Stuck at) m = Unit {0}
 IsUnfinishedAt states.Lost m = Unit {0}
 
-abbrev pub IsUnfinished : Reader → Type 0
+unfoldable pub IsUnfinished : Reader → Type 0
 IsUnfinished r = IsUnfinishedAt r.state r.machine
 
 abbrev pub StaysUnfinished : Result Fed StreamFault → Reader → Type 0

@@ -1,7 +1,6 @@
 -- The fields of a section.
-use Rattle.std.specs.Prelude.{◌≡◌, ◌||◌, ◌&&◌, option_map, ℕ, ◌+◌, ◌<◌, Bool, true, false, List, [], ◌∷◌, ◌++◌, length, take, drop, Option, Some, None, is_some, if◌then◌else◌, ◌==◌, ◌-◌, slice_index}
-use Rattle.std.specs.List.{flat_map}
-use Rattle.std.specs.Int.{w16, w32, from_be_bytes}
+use Rattle.std.specs.Prelude.{◌≡◌, ◌||◌, ◌&&◌, ℕ, Bool, false, List, [], ◌∷◌, ◌++◌, length, take, drop, Option, Some, None, is_some, if◌then◌else◌, ◌==◌, ◌-◌, slice_index}
+use Rattle.std.specs.Int.{w16, from_be_bytes}
 use Rattle.dump_stream.specs.declared.form.Form.{Form}
 use Rattle.dump_stream.specs.declared.sofar.Field.{Field}
 use Rattle.dump_stream.specs.Forms.{IsWhole, number_from}

@@ -1,5 +1,5 @@
 -- What may stand behind a tag.
-use Rattle.std.specs.Prelude.{◌≡◌, ◌⊎◌, ℕ, ◌+◌, ◌%◌, ◌<◌, ◌≤◌, Bool, true, false, List, [], ◌∷◌, ◌++◌, length, take, drop, All}
+use Rattle.std.specs.Prelude.{◌≡◌, ◌⊎◌, ℕ, ◌+◌, ◌<◌, ◌≤◌, Bool, true, false, List, [], ◌∷◌, ◌++◌, length, drop, All}
 use Rattle.std.specs.Int.{w32, w64, from_be_bytes}
 use Rattle.bk_text.specs.Alphabets.{IsName}
 use Rattle.vnode_model.specs.Headers.{IsMessage}

@@ -1,5 +1,5 @@
 -- Reading byte by byte.
-use Rattle.std.specs.Prelude.{◌≡◌, ◌↔◌, ℕ, List, [], ◌∷◌, ◌++◌, Option, Some, None, Bool, true, false}
+use Rattle.std.specs.Prelude.{◌≡◌, ◌↔◌, ℕ, List, Option, Some, None, Bool, true, false}
 use Rattle.dump_stream.specs.declared.form.Form.{Form}
 use Rattle.dump_stream.specs.declared.form.Verdict.TheVariants.{More}
 use Rattle.dump_stream.specs.declared.sofar.Sofar.{Sofar}

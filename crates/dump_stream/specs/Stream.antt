@@ -1,8 +1,6 @@
 -- What bytes spell.
-use Rattle.std.specs.Prelude.{◌≡◌, ◌-◌, min, replicate, ◌≢◌, ℕ, ◌+◌, ◌<◌, ◌%◌, Bool, true, false, ◌||◌, List, [], ◌∷◌, ◌++◌, length, map, take, drop, Option, Some, None, if◌then◌else◌, ◌==◌}
+use Rattle.std.specs.Prelude.{◌≡◌, ◌-◌, min, replicate, ℕ, ◌+◌, ◌<◌, ◌%◌, Bool, true, false, List, [], ◌∷◌, ◌++◌, length, map, Option, Some, None, if◌then◌else◌, ◌==◌}
 use Rattle.std.specs.List.{flat_map}
-use Rattle.std.specs.Int.{w32, from_be_bytes}
-use Rattle.dump_stream.specs.declared.form.Form.{Form}
 use Rattle.dump_stream.specs.declared.form.Form.TheVariants as forms
 use Rattle.dump_stream.specs.declared.sofar.Field.{Field}
 use Rattle.dump_stream.specs.declared.sofar.DumpHead.{DumpHead}
@@ -14,7 +12,7 @@ use Rattle.vnode_model.specs.declared.increments.Increment.{Increment}
 use Rattle.vnode_model.specs.declared.vnodes.VnodeKind.{VnodeKind}
 use Rattle.vnode_model.specs.declared.vnodes.VnodeKind.TheVariants.{File, Directory, Symlink}
 use Rattle.vnode_model.specs.Limits.{most_vnodes, most_data, all_data}
-use Rattle.dump_stream.specs.Forms.{IsBytes, IsWhole, opening, closing, number_from}
+use Rattle.dump_stream.specs.Forms.{IsWhole, opening, closing, number_from}
 use Rattle.dump_stream.specs.Fields.{Table, AreFields, spelled, has, payload_of, number, byte, string, short, bytes_or, body_of, if_there}
 
 -- the tags of each section

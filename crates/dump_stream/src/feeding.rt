@@ -40,6 +40,7 @@ impl Reader {
     ghost use Rattle.dump_stream.specs.declared.reader.StreamFault.TheVariants.{Cut, Bad, Memory};
 
     /// A reader that was fed nothing. It takes no memory.
+    #[tactic(auto, unfolding(crate::specs::Feeds::HasFed, crate::specs::Feeds::IsUnfinished, crate::specs::Feeds::IsGoing, crate::specs::Feeds::IsDone, crate::specs::Feeds::IsStuck, crate::specs::Feeds::IsLost))]
     pub fn new(alloc: Global) -> Self
         ensures fed { HasFed [] result }
         ensures unfinished { IsUnfinished result }
@@ -54,6 +55,7 @@ impl Reader {
     }
 
     /// Takes the next piece. No stream has ended before.
+    #[tactic(auto, unfolding(crate::specs::Feeds::HasFed, crate::specs::Feeds::IsUnfinished, crate::specs::Feeds::IsGoing, crate::specs::Feeds::IsDone, crate::specs::Feeds::IsStuck, crate::specs::Feeds::IsLost))]
     pub fn feed(&mut self, piece: &[u8]) -> Result<Fed, StreamFault>
         requires { IsUnfinished self.old }
         // Only Done ends it.
@@ -95,6 +97,7 @@ impl Reader {
     }
 
     /// What the stream says that was fed. It takes no memory.
+    #[tactic(auto, unfolding(crate::specs::Feeds::HasFed, crate::specs::Feeds::IsUnfinished, crate::specs::Feeds::IsGoing, crate::specs::Feeds::IsDone, crate::specs::Feeds::IsStuck, crate::specs::Feeds::IsLost))]
     pub fn finish(self) -> Result<Increment, StreamFault>
         ensures answer { (bytes : List ℕ) → HasFed bytes self → FinishAnswers bytes result }
         ensures done { IsDone self → IsOk result }

@@ -1,6 +1,7 @@
 //! Whether bytes behind a tag are whole.
 
-ghost use Rattle.std.specs.Prelude.{◌≡◌, ◌↔◌, ◌<◌, ℕ, IsTrue, length, slice_index, slice_index_or, All, if◌then◌else◌, Bool};
+ghost use Rattle.std.specs.Prelude.{◌≡◌, ◌↔◌, ◌<◌, ◌≤◌, ℕ, List, ◌++◌, IsTrue, length, slice_index, slice_index_or, All, if◌then◌else◌, Bool};
+ghost use Rattle.dump_stream.specs.declared.form.Verdict.TheVariants.{More};
 ghost use Rattle.vnode_model.specs.Headers.{IsMessage};
 ghost use Rattle.dump_stream.specs.Forms.{IsBytes, IsFixedBytes, size_len, size_in, IsKind, IsWhole, Judges, ComesAfter, number_from};
 
@@ -239,5 +240,28 @@ pub fn judge(form: Form, payload: &[u8]) -> Verdict
         Form::Name => judge_name(payload),
         Form::Kind { directory } => judge_kind(directory, payload),
         Form::Vnode { last } => judge_vnode(last, payload),
+    }
+}
+
+fn free_data(wide: bool, limit: u32, payload: &[u8]) -> usize
+    ensures { (q : List ℕ) → Judges (IsWhole (Form.Data wide limit)) payload.now More → IsBytes q → length q ≤ result
+        → Judges (IsWhole (Form.Data wide limit)) (payload.now ++ q) More }
+{
+    let size = size_at(wide, payload);
+    let before = len_of_size(wide);
+    if payload.len() < before || size > limit as u64 {
+        return 0;
+    }
+    (before + size as usize).saturating_sub(payload.len() + 1)
+}
+
+/// How many bytes may follow these, whichever they are, so that more have still to come.
+pub fn free_bytes(form: Form, payload: &[u8]) -> usize
+    ensures { (q : List ℕ) → Judges (IsWhole form) payload.now More → IsBytes q → length q ≤ result
+        → Judges (IsWhole form) (payload.now ++ q) More }
+{
+    match form {
+        Form::Data { wide, limit } => free_data(wide, limit, payload),
+        _ => 0,
     }
 }

@@ -1,9 +1,9 @@
 //! Reading byte by byte.
 
-ghost use Rattle.std.specs.Prelude.{◌≡◌, ℕ, List, [], ◌∷◌, ◌↔◌, IsTrue, IfOk, Some, None};
+ghost use Rattle.std.specs.Prelude.{◌≡◌, ◌↔◌, ◌≤◌, ℕ, List, [], ◌∷◌, ◌++◌, length, take, IsTrue, IfOk, Some, None};
 
 use crate::form::{Form, Verdict};
-use crate::judge::judge;
+use crate::judge::{free_bytes, judge};
 use crate::reading::{form_of, stand_after};
 use crate::sofar::Sofar;
 use bk_text::Bytes;
@@ -21,7 +21,7 @@ pub struct Machine {
 }
 
 impl Machine {
-    ghost use Rattle.dump_stream.specs.Steps.{Inside, Ends, GoesOn, Steps, HasEnded, EndsWith};
+    ghost use Rattle.dump_stream.specs.Steps.{Inside, Ends, GoesOn, Moves, Steps, HasEnded, EndsWith};
     ghost use Rattle.dump_stream.specs.Sound.{IsSound, IsSoundMachine, SoundWhile};
     ghost use Rattle.dump_stream.specs.Machine.{form_at};
 
@@ -76,6 +76,24 @@ impl Machine {
         match sofar {
             Sofar::Ended { made } => Increment::new(made),
             _ => unreachable!(),
+        }
+    }
+
+    /// Takes as many of these bytes as may follow whichever they are, where no form ends with them, and says how many.
+    pub fn gulp(&mut self, piece: &[u8]) -> Result<usize, AllocError>
+        requires { IsSoundMachine self.old }
+        ensures within { IfOk result (λ count. count ≤ length piece.now) }
+        ensures sound { IfOk result (λ _. IsSoundMachine self.new) }
+        ensures moved { IfOk result (λ count. GoesOn self.old → Moves (λ bytes. Ends self.old (take count piece.now ++ bytes)) self.new) }
+        ensures ended { IfOk result (λ _. HasEnded self.new → HasEnded self.old) }
+    {
+        match self.form {
+            None => Ok(0),
+            Some(form) => {
+                let count = free_bytes(form, self.payload.as_slice()).min(piece.len());
+                self.payload.extend_from_slice(&piece[..count])?;
+                Ok(count)
+            }
         }
     }
 

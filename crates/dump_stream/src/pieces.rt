@@ -13,13 +13,20 @@ pub fn run(machine: &mut Machine, alloc: Global, piece: &[u8]) -> Result<Ran, Al
     ensures sound { IfOk result (λ ran. SoundAfter ran machine.new) }
     ensures ran { IfOk result (λ ran. (bytes : List ℕ) → IsAt bytes machine.old → Runs bytes piece.now ran machine.new) }
 {
-    for (at, byte) in piece.iter().enumerate() {
-        let fits = machine.step(alloc, *byte)?;
+    let mut at = 0;
+    while at < piece.len() {
+        let count = machine.gulp(&piece[at..])?;
+        at += count;
+        if at == piece.len() {
+            return Ok(Ran::More);
+        }
+        let fits = machine.step(alloc, piece[at])?;
         if !fits {
             return Ok(Ran::Stopped { at });
         }
+        at += 1;
         if machine.has_ended() {
-            return Ok(Ran::Ended { used: at + 1 });
+            return Ok(Ran::Ended { used: at });
         }
     }
     Ok(Ran::More)

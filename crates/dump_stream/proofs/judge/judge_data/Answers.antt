@@ -1,4 +1,4 @@
-use Rattle.std.proofs.Common.{◌≡◌, ◌<◌, ◌≤◌, ◌+◌, ℕ, length, arith}
+use Rattle.std.proofs.Common.{◌≡◌, ◌<◌, ◌≤◌, ◌+◌, length, arith}
 use Rattle.dump_stream.specs.Forms.{size_len, size_in}
 use Rattle.dump_stream.proofs.FormLaws.{data_more, bytes_from}
 use Rattle.dump_stream.proofs.judge.judge_data.Goals as goal

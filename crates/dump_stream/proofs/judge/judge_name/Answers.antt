@@ -1,4 +1,4 @@
-use Rattle.std.proofs.Common.{ℕ, List, [], ◌∷◌, ◌++◌, ◌∙◌, ap, arith}
+use Rattle.std.proofs.Common.{ℕ, [], ◌∷◌, ◌++◌, ◌∙◌, ap, arith}
 use Rattle.std.proofs.lemmas.Bool.{iff_false}
 use Rattle.dump_stream.proofs.FormLaws.{name_none, name_goes_on, name_bad, name_bad_front, bytes_from}
 use Rattle.dump_stream.proofs.judge.judge_name.Goals as goal

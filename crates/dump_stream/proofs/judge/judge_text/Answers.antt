@@ -1,4 +1,4 @@
-use Rattle.std.proofs.Common.{ℕ, List, [], ◌∷◌, ◌++◌, ◌∙◌, ap, arith}
+use Rattle.std.proofs.Common.{ℕ, [], ◌∷◌, ◌++◌, ◌∙◌, ap, arith}
 use Rattle.std.proofs.lemmas.Bool.{iff_false}
 use Rattle.dump_stream.proofs.FormLaws.{text_none, text_goes_on, text_bad, text_bad_front, bytes_from}
 use Rattle.dump_stream.proofs.judge.judge_text.Goals as goal

@@ -1,6 +1,6 @@
-use Rattle.std.proofs.Common.{◌≡◌, arith, subst, ℕ, sym, ap}
+use Rattle.std.proofs.Common.{◌≡◌, arith, subst, sym}
 use Rattle.std.proofs.lemmas.Bool.{iff_false}
-use Rattle.dump_stream.specs.Forms.{ComesAfter, number_from}
+use Rattle.dump_stream.specs.Forms.{ComesAfter}
 use Rattle.dump_stream.proofs.FormLaws.{greatest, vnode_begun, vnode_goes_on, vnode_ends, bytes_from}
 use Rattle.dump_stream.proofs.judge.judge_vnode.Goals as goal
 

@@ -1,4 +1,4 @@
-use Rattle.std.proofs.Common.{◌≡◌, ℕ, [], take, subst}
+use Rattle.std.proofs.Common.{◌≡◌, [], take, subst}
 use Rattle.dump_stream.specs.declared.machine.Ran.{Ran}
 use Rattle.dump_stream.specs.declared.machine.Ran.TheVariants as ran
 use Rattle.dump_stream.specs.Stream.{Spells}

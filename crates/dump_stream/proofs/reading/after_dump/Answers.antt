@@ -1,4 +1,4 @@
-use Rattle.std.proofs.Common.{◌≡◌, ℕ, subst}
+use Rattle.std.proofs.Common.{ℕ, subst}
 use Rattle.std.specs.Prelude.{IsSome}
 use Rattle.dump_stream.specs.declared.sofar.Sofar.TheVariants.{Dump}
 use Rattle.dump_stream.specs.Machine.{form_at}

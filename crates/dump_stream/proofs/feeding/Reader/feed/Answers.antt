@@ -1,10 +1,10 @@
-use Rattle.std.proofs.Common.{◌≡◌, ◌+◌, ℕ, List, ◌++◌, length, Ok, sym, subst, arith, length-append}
-use Rattle.std.proofs.Common.{min}
+use Rattle.std.proofs.Common.{◌≡◌, ◌+◌, ◌++◌, length, Ok, subst, arith, length-append}
 use Rattle.dump_stream.specs.declared.machine.Machine.{Machine}
 use Rattle.dump_stream.specs.declared.machine.Ran.{Ran}
 use Rattle.dump_stream.specs.declared.machine.Ran.TheVariants as ran
 use Rattle.dump_stream.specs.declared.feeding.State.TheVariants as states
 use Rattle.vnode_model.specs.declared.increments.Increment.{Increment}
+use Rattle.dump_stream.specs.Feeds.{HasFed}
 use Rattle.dump_stream.specs.Steps.{EndsWith}
 use Rattle.dump_stream.specs.Reads.{Answers, IsBad, IsAt, Runs}
 use Rattle.dump_stream.proofs.ReadLaws.{whole_more, one_end_says}
@@ -12,12 +12,14 @@ use Rattle.dump_stream.proofs.FeedLaws.{fed_done, fed_bad, bad_more, at_state, i
 use Rattle.dump_stream.proofs.feeding.Reader.feed.Goals as goal
 
 pub returns-in-Stuck-clause-answer : goal.returns-in-Stuck-clause-answer
+unfolding HasFed
 returns-in-Stuck-clause-answer c = λ bytes fed few.
     let r = c.args.self.now in
     let bad = bad_more bytes c.args.piece.now c.in-Stuck.at (at_state bytes r (states.Stuck c.in-Stuck.at) c.in-Stuck.is fed) in
     (bad, in_state (bytes ++ c.args.piece.now) r (states.Stuck c.in-Stuck.at) c.in-Stuck.is bad)
 
 pub returns-in-More-clause-answer : goal.returns-in-More-clause-answer
+unfolding HasFed
 returns-in-More-clause-answer c = λ bytes fed few.
     let piece = c.args.piece.now in
     let r = c.args.self.now in
@@ -29,6 +31,7 @@ returns-in-More-clause-answer c = λ bytes fed few.
     )
 
 pub returns-in-Ended-clause-answer : goal.returns-in-Ended-clause-answer
+unfolding HasFed
 returns-in-Ended-clause-answer c = λ bytes fed few.
     let piece = c.args.piece.now in
     let used = c.in-Ended.used in
@@ -40,6 +43,7 @@ returns-in-Ended-clause-answer c = λ bytes fed few.
     ((h.0, h.1, done), (length bytes + used, subst (λ (i : Increment). Answers (bytes ++ piece) (Ok (i, length bytes + used))) same done))
 
 pub returns-in-Stopped-clause-answer : goal.returns-in-Stopped-clause-answer
+unfolding HasFed
 returns-in-Stopped-clause-answer c = λ bytes fed few.
     let piece = c.args.piece.now in
     let at = c.in-Stopped.at in

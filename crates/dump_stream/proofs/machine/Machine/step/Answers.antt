@@ -1,6 +1,4 @@
-use Rattle.std.proofs.Common.{◌≡◌, ◌∙◌, ℕ, false, List, [], ◌∷◌, ◌++◌, ap, sym, subst}
-use Rattle.dump_stream.specs.declared.sofar.Sofar.{Sofar}
-use Rattle.dump_stream.specs.declared.machine.Machine.{Machine}
+use Rattle.std.proofs.Common.{◌∙◌, ℕ, false, List, sym, subst}
 use Rattle.dump_stream.specs.Steps.{Inside, Steps}
 use Rattle.dump_stream.proofs.StepLaws.{untagged, step_tag, step_more, at_none, at_some, goes_on}
 use Rattle.dump_stream.proofs.machine.Machine.step.Goals as goal
