@@ -1,2 +1,4 @@
 pub mod Fails
+mod LevelLaws
+pub mod LevelParts
 mod WordLaws

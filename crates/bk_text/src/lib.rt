@@ -4,6 +4,7 @@
 
 mod expiry;
 mod host;
+mod level_path;
 mod list;
 mod name;
 mod set_name;
@@ -13,6 +14,7 @@ mod words;
 
 pub use expiry::Expiry;
 pub use host::Host;
+pub use level_path::LevelPath;
 pub use list::{Bytes, List};
 pub use name::Name;
 pub use set_name::SetName;
