@@ -2,21 +2,27 @@
 //! and a list that contracts see as a list.
 #![tactic(auto)]
 
+mod cursor;
 mod expiry;
 mod host;
 mod level_path;
 mod list;
 mod name;
+mod out;
+mod part;
 mod set_name;
 mod tape_name;
 mod texts;
 mod words;
 
+pub use cursor::{Cursor, Short};
 pub use expiry::Expiry;
 pub use host::Host;
 pub use level_path::LevelPath;
 pub use list::{Bytes, List};
 pub use name::Name;
+pub use out::Out;
+pub use part::Part;
 pub use set_name::SetName;
 pub use tape_name::TapeName;
 pub use texts::TextFault;
