@@ -5,4 +5,5 @@ pub mod LevelPaths
 pub mod Fields
 pub mod Parses
 pub mod Partitions
+pub mod Patterns
 pub mod Words
