@@ -26,3 +26,6 @@ pub use part::Part;
 pub use set_name::SetName;
 pub use tape_name::TapeName;
 pub use texts::TextFault;
+
+#[cfg(test)]
+mod tests;
