@@ -1,1 +1,3 @@
 mod TellLaws
+mod IntakeLaws
+mod InputLaws

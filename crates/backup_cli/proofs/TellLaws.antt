@@ -60,7 +60,7 @@ pub line_part : {X : Type 0} (line : X → List ℕ) (xs : List X) (i : ℕ) (x 
 line_part {X = X} line xs i x before mid after within is first part =
     let whole : flat_map line xs ≡ flat_map line (take i xs) ++ (line x ++ flat_map line (drop (i + 1) xs)) = lines_split line xs i x within ∙ ap (λ (y : X). flat_map line (take i xs) ++ (line y ++ flat_map line (drop (i + 1) xs))) (sym is) in
     subst (λ (l : List ℕ). ToldFront l before after) (sym whole)
-      (second_told (flat_map line (take i xs)) (line x ++ flat_map line (drop (i + 1) xs)) before mid after first (first_told (line x) (flat_map line (drop (i + 1) xs)) mid after part))
+    (second_told (flat_map line (take i xs)) (line x ++ flat_map line (drop (i + 1) xs)) before mid after first (first_told (line x) (flat_map line (drop (i + 1) xs)) mid after part))
 
 -- one call after another
 pub only_more : {D : Type 0} (tells : Type 0) (seen : D → Image) (count : D → ℕ) (present : D → ℕ → Bool) (faults tell_faults : D → ℕ) (old mid new : D)

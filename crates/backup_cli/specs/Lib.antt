@@ -2,3 +2,6 @@ pub mod Statuses
 pub mod Examines
 pub mod Replies
 pub mod Tells
+pub mod Inputs
+pub mod Intakes
+pub mod Runs

@@ -70,7 +70,11 @@ fn tell_entries<M: Media>(alloc: Global, media: &mut M, entries: &[Entry]) -> Re
 }
 
 /// Tells the lines of a stream.
-fn tell_stream<M: Media>(alloc: Global, media: &mut M, increment: &Increment) -> Result<(), TellStop>
+fn tell_stream<M: Media>(
+    alloc: Global,
+    media: &mut M,
+    increment: &Increment,
+) -> Result<(), TellStop>
     ensures told { M.tells → ToldLines (stream_lines increment.now) (M.seen media.old).told (M.seen media.new).told result }
     ensures only { OnlyTells M.tells M.seen M.count M.present M.faults M.tell_faults media.old media.new }
     ensures cause { result ≡ Err Refused → Rose (M.tell_faults media.old) (M.tell_faults media.new) }
@@ -85,7 +89,11 @@ fn tell_stream<M: Media>(alloc: Global, media: &mut M, increment: &Increment) ->
 }
 
 /// Tells what an input is.
-pub fn tell_examined<M: Media>(alloc: Global, media: &mut M, examined: &Examined) -> Result<(), TellStop>
+pub fn tell_examined<M: Media>(
+    alloc: Global,
+    media: &mut M,
+    examined: &Examined,
+) -> Result<(), TellStop>
     ensures told { M.tells → ToldLines (lines_of examined.now) (M.seen media.old).told (M.seen media.new).told result }
     ensures only { OnlyTells M.tells M.seen M.count M.present M.faults M.tell_faults media.old media.new }
     ensures cause { result ≡ Err Refused → Rose (M.tell_faults media.old) (M.tell_faults media.new) }

@@ -18,13 +18,13 @@ returns-in-Err-tell_entries-clause-told g c = λ told. record {
   ok = tt;
   err = second_told (volume_line c.args.increment.now) (flat_map entry_line c.args.increment.now.entries) _ _ _ (c.in-Ok.ensures.told _ c.line_of_volume.ensures told).ok
       (let same : c.as_slice.result.now ≡ c.args.increment.now.entries = c.as_slice.ensures ∙ ap (λ (f : IncrementFields). f.entries) c.fields.ensures.value in
-       subst (λ (es : List Entry). ToldFront (flat_map entry_line es) (g.M.Media.seen c.tell_line.new.media).told (g.M.Media.seen c.tell_entries.new.media).told) same (c.in-Err-tell_entries.ensures.told told).err);
+      subst (λ (es : List Entry). ToldFront (flat_map entry_line es) (g.M.Media.seen c.tell_line.new.media).told (g.M.Media.seen c.tell_entries.new.media).told) same (c.in-Err-tell_entries.ensures.told told).err);
 }
 
 pub returns-in-Ok-tell_entries-clause-told : goal.returns-in-Ok-tell_entries-clause-told
 returns-in-Ok-tell_entries-clause-told g c = λ told. record {
   ok = both_told (volume_line c.args.increment.now) (flat_map entry_line c.args.increment.now.entries) _ _ _ (c.in-Ok.ensures.told _ c.line_of_volume.ensures told).ok
       (let same : c.as_slice.result.now ≡ c.args.increment.now.entries = c.as_slice.ensures ∙ ap (λ (f : IncrementFields). f.entries) c.fields.ensures.value in
-       (c.in-Ok-tell_entries.ensures.told told).ok ∙ ap (λ (es : List Entry). (g.M.Media.seen c.tell_line.new.media).told ++ flat_map entry_line es) same);
+      (c.in-Ok-tell_entries.ensures.told told).ok ∙ ap (λ (es : List Entry). (g.M.Media.seen c.tell_line.new.media).told ++ flat_map entry_line es) same);
   err = tt;
 }

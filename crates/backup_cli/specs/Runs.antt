@@ -1,0 +1,59 @@
+-- What a run does.
+use Rattle.std.specs.Prelude.{◌≡◌, ◌⊎◌, ℕ, ◌+◌, ◌<◌, ◌≤◌, List, [], ◌∷◌, ◌++◌, length, map, codes, String}
+use Rattle.std.specs.String.{string_bytes}
+use Rattle.std.specs.declared.alloc.Global.{Global}
+use Rattle.backup_cli.specs.declared.examined.Examined.{Examined}
+use Rattle.backup_cli.specs.declared.examined.Examined.TheVariants.{Stream, Cut, Bad}
+use Rattle.backup_cli.specs.declared.status.Status.{Status}
+use Rattle.backup_cli.specs.declared.status.Status.TheVariants as statuses
+use Rattle.backup_cli.specs.Examines.{IsExamined}
+use Rattle.backup_cli.specs.Inputs.{TookUpTo, most_input}
+use Rattle.backup_cli.specs.Replies.{lines_of, usage_line}
+use Rattle.backup_cli.specs.Tells.{ToldFront}
+
+-- the words are examine alone
+abbrev pub IsExamine : List (String Global) → Type 0
+IsExamine words = map string_bytes words ≡ codes "examine" ∷ []
+
+-- a stream is told whole, and any other input is refused by its one line
+abbrev pub told_status : Examined → Status
+told_status (Stream i) = statuses.Done
+told_status (Cut length) = statuses.SomeRefused
+told_status (Bad at) = statuses.SomeRefused
+
+-- the input was read to its end, it is this, and its lines were told
+pub record ToldInput (input rest before after : List ℕ) (status : Status) : Type 0 where
+  pub examined : Examined
+  pub is : IsExamined input examined
+  pub few : length input ≤ most_input
+  pub all_read : rest ≡ []
+  pub told : after ≡ before ++ lines_of examined
+  pub status_is : status ≡ told_status examined
+
+-- the input was read to its end, it is this, and a front of its lines was told
+pub record ToldInPart (input rest before after : List ℕ) : Type 0 where
+  pub examined : Examined
+  pub is : IsExamined input examined
+  pub few : length input ≤ most_input
+  pub all_read : rest ≡ []
+  pub told : ToldFront (lines_of examined) before after
+
+-- nothing was told, and at most one byte more was read than an input may have
+pub record ToldNothing (input rest before after : List ℕ) : Type 0 where
+  pub taken : TookUpTo (most_input + 1) input rest
+  pub told : after ≡ before
+
+-- what examine does with an input, by its status
+abbrev pub Examines : List ℕ → List ℕ → List ℕ → List ℕ → Status → Type 0
+Examines input rest before after statuses.Done = ToldInput input rest before after statuses.Done
+Examines input rest before after statuses.SomeRefused = ToldInput input rest before after statuses.SomeRefused
+Examines input rest before after statuses.Usage = ⊥
+Examines input rest before after statuses.ReadFault = ToldNothing input rest before after
+Examines input rest before after statuses.Memory = ToldNothing input rest before after ⊎ ToldInPart input rest before after
+Examines input rest before after statuses.OutputFault = ToldInPart input rest before after
+Examines input rest before after statuses.ScriptTooLong = (most_input < length input) × ToldNothing input rest before after
+
+-- the usage line was told, or a front of it
+abbrev pub TellsUsage : List ℕ → List ℕ → Status → Type 0
+TellsUsage before after statuses.Usage = after ≡ before ++ usage_line
+TellsUsage before after status = ToldFront usage_line before after
