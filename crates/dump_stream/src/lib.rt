@@ -17,3 +17,6 @@ mod tables;
 pub use feeding::{Fed, Reader};
 pub use prefixes::no_stream_begins_another;
 pub use reader::{StreamFault, read};
+
+#[cfg(test)]
+mod tests;

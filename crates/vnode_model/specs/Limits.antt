@@ -1,5 +1,5 @@
 -- The order, the parity and the limits of a volume's vnodes and of an increment's entries.
-use Rattle.std.specs.Prelude.{◌≡◌, ◌⊎◌, ⊤, ℕ, ◌%◌, ◌<◌, ◌≤◌, List, length, map, replicate, sum_by, All, AllPairs}
+use Rattle.std.specs.Prelude.{◌≡◌, ◌⊎◌, ⊤, ℕ, ◌+◌, ◌%◌, ◌<◌, ◌≤◌, List, length, map, replicate, take, sum_by, All, AllPairs}
 use Rattle.vnode_model.specs.declared.vnodes.VnodeKind.{VnodeKind}
 use Rattle.vnode_model.specs.declared.vnodes.VnodeKind.TheVariants.{File, Directory, Symlink}
 use Rattle.vnode_model.specs.declared.vnodes.Vnode.{Vnode}
@@ -69,3 +69,10 @@ pub record AreFit (entries : List Entry) : Type 0 where
   pub ordered : AllPairs StandsBefore (map number_of entries)
   pub each : All IsFit entries
   pub small : sum_by data_len entries ≤ all_data
+
+-- the first entry that breaks them
+pub record BreakAt (entries : List Entry) (at : ℕ) : Type 0 where
+  pub within : at < length entries
+  pub before : AreFit (take at entries)
+  pub here : AreFit (take (at + 1) entries) → ⊥
+  pub whole : AreFit entries → ⊥

@@ -74,7 +74,7 @@ impl VolHeader {
             && is_message(fields.message.as_slice())
     }
 
-    /// The header of these fields.
+    /// The header of these fields. `is_header` tests them.
     pub fn new(fields: HeaderFields) -> Self
         requires { IsVolHeader fields }
         ensures { result ≡ fields }

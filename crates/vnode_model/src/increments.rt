@@ -52,7 +52,7 @@ impl Model for Increment {
 }
 
 impl Increment {
-    /// The increment of these fields.
+    /// The increment of these fields. `fault_in` tests the entries.
     pub fn new(fields: IncrementFields) -> Self
         requires { AreFit fields.entries }
         ensures { result ≡ fields }

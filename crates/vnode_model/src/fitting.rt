@@ -1,0 +1,95 @@
+//! Whether entries have the order, the parity and the limits.
+
+ghost use Rattle.std.specs.Prelude.{◌↔◌, IsTrue, MatchOption};
+ghost use Rattle.vnode_model.specs.Limits.{KindFits, AccessFits, IsFitVnode, IsFit, AreFit, BreakAt, number_of, data_len};
+ghost use Rattle.vnode_model.specs.Follows.{MayFollow};
+
+use crate::increments::Entry;
+use crate::vnodes::{Vnode, VnodeKind, stands_before};
+
+fn kind_fits(kind: VnodeKind, number: u32) -> bool
+    ensures { IsTrue result ↔ KindFits kind number }
+{
+    match kind {
+        VnodeKind::Directory => number % 2 == 1,
+        VnodeKind::File | VnodeKind::Symlink => number % 2 == 0,
+    }
+}
+
+fn access_fits(kind: VnodeKind, access: &[u8; 192]) -> bool
+    ensures { IsTrue result ↔ AccessFits kind access.now }
+{
+    match kind {
+        VnodeKind::Directory => true,
+        VnodeKind::File | VnodeKind::Symlink => *access == [0; 192],
+    }
+}
+
+fn is_fit_vnode(vnode: &Vnode) -> bool
+    ensures { IsTrue result ↔ IsFitVnode vnode.now }
+{
+    kind_fits(vnode.kind, vnode.number)
+        && access_fits(vnode.kind, &vnode.access)
+        && vnode.body.len() <= 16_777_216
+}
+
+fn is_fit(entry: &Entry) -> bool
+    ensures { IsTrue result ↔ IsFit entry.now }
+{
+    match entry {
+        Entry::Whole(vnode) => is_fit_vnode(vnode),
+        Entry::Kept { .. } => true,
+    }
+}
+
+impl Entry {
+    ghost use Rattle.std.specs.Prelude.{◌≡◌};
+
+    /// The vnode's number.
+    pub fn number(&self) -> u32
+        ensures { result ≡ number_of self.now }
+    {
+        match self {
+            Entry::Whole(vnode) => vnode.number,
+            Entry::Kept { number, .. } => *number,
+        }
+    }
+
+    /// How many bytes of data the entry has.
+    pub fn data_len(&self) -> usize
+        ensures { result ≡ data_len self.now }
+    {
+        match self {
+            Entry::Whole(vnode) => vnode.body.len(),
+            Entry::Kept { .. } => 0,
+        }
+    }
+}
+
+/// Whether an entry may follow so many others, the last of which has this number, where there is room for so much data.
+fn may_follow(count: usize, last: u32, room: usize, entry: &Entry) -> bool
+    ensures { IsTrue result ↔ MayFollow count last room entry.now }
+{
+    let number = entry.number();
+    count < 65_536
+        && number >= 1
+        && (last == 0 || stands_before(last, number))
+        && is_fit(entry)
+        && entry.data_len() <= room
+}
+
+/// Where entries first break the order, the parity or the limits; `None` where they keep them.
+pub fn fault_in(entries: &[Entry]) -> Option<usize>
+    ensures { MatchOption result (AreFit entries.now) (λ at. BreakAt entries.now at) }
+{
+    let mut last = 0;
+    let mut room = 268_435_456;
+    for (at, entry) in entries.iter().enumerate() {
+        if !may_follow(at, last, room, entry) {
+            return Some(at);
+        }
+        last = entry.number();
+        room -= entry.data_len();
+    }
+    None
+}
