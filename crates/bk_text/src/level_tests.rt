@@ -1,8 +1,7 @@
 //! Levels' paths at their limits, and their parts.
 
-use crate::{LevelPath, TextFault};
-use std::alloc::Global;
-use std::test::Fail;
+use crate::{Bytes, LevelPath, TextFault};
+use std::alloc::{AllocError, Global};
 
 /// Whether a text is refused at this place, or kept.
 fn is_answered(alloc: Global, text: &[u8], place: Option<usize>) -> bool {
@@ -34,31 +33,49 @@ fn paths_are_kept_or_refused(rt: HostRuntime) {
     }
 }
 
-#[test]
-fn long_paths(rt: HostRuntime) {
-    let mut text = [b'a'; 257];
-    for at in [0, 29, 58, 87, 116, 145, 174, 203, 232] {
-        text[at] = b'/';
+/// A path of 255 bytes, and these behind it.
+fn long_text(alloc: Global, tail: &[u8]) -> Result<Bytes, AllocError> {
+    let mut text = Bytes::new(alloc);
+    for _ in 0..8 {
+        text.extend_from_slice(b"/aaaaaaaaaaaaaaaaaaaaaaaaaaaa")?;
     }
-    assert!(rt; is_answered(rt.alloc(), &text[..255], None));
-    assert!(rt; is_answered(rt.alloc(), &text[..256], None));
-    assert!(rt; is_answered(rt.alloc(), &text, Some(256)));
-    text[255] = b'/';
-    assert!(rt; is_answered(rt.alloc(), &text[..256], Some(255)));
+    text.extend_from_slice(b"/aaaaaaaaaaaaaaaaaaaaaa")?;
+    text.extend_from_slice(tail)?;
+    Ok(text)
+}
+
+fn is_long_answered(alloc: Global, tail: &[u8], place: Option<usize>) -> bool {
+    match long_text(alloc, tail) {
+        Ok(text) => is_answered(alloc, text.as_slice(), place),
+        Err(_) => false,
+    }
 }
 
 #[test]
-fn parts_of_a_path(rt: HostRuntime) -> Result<(), Fail> {
-    let path = LevelPath::parse(rt.alloc(), b"/full/d1/d2")?;
-    assert_eq!(rt; path.clone()?.last(), b"d2".as_slice());
-    assert_eq!(rt; path.depth(), 3);
-    let Some(above) = path.above()? else {
-        return Err(Fail::from("a path above"));
-    };
-    assert_eq!(rt; above.bytes(), b"/full/d1".as_slice());
-    assert_eq!(rt; above.depth(), 2);
-    let full = LevelPath::parse(rt.alloc(), b"/full")?;
-    assert_eq!(rt; full.last(), b"full".as_slice());
-    assert!(rt; full.above()?.is_none());
-    Ok(())
+fn long_paths(rt: HostRuntime) {
+    assert!(rt; is_long_answered(rt.alloc(), b"", None));
+    assert!(rt; is_long_answered(rt.alloc(), b"/", Some(255)));
+    assert!(rt; is_long_answered(rt.alloc(), b"a", None));
+    assert!(rt; is_long_answered(rt.alloc(), b"aa", Some(256)));
+}
+
+fn is_above(path: &LevelPath, wanted: &[u8]) -> bool {
+    match path.above() {
+        Ok(Some(above)) => above.bytes() == wanted,
+        Ok(None) => wanted.is_empty(),
+        Err(_) => false,
+    }
+}
+
+fn has_parts(alloc: Global, text: &[u8], last: &[u8], depth: usize, above: &[u8]) -> bool {
+    match LevelPath::parse(alloc, text) {
+        Ok(path) => path.last() == last && path.depth() == depth && is_above(&path, above),
+        Err(_) => false,
+    }
+}
+
+#[test]
+fn parts_of_a_path(rt: HostRuntime) {
+    assert!(rt; has_parts(rt.alloc(), b"/full/d1/d2", b"d2", 3, b"/full/d1"));
+    assert!(rt; has_parts(rt.alloc(), b"/full", b"full", 1, b""));
 }
