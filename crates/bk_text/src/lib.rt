@@ -28,4 +28,6 @@ pub use tape_name::TapeName;
 pub use texts::TextFault;
 
 #[cfg(test)]
+mod level_tests;
+#[cfg(test)]
 mod tests;

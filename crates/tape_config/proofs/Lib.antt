@@ -1,3 +1,4 @@
 pub mod WordLaws
 pub mod NumberLaws
 pub mod ConfigLaws
+pub mod PortLaws

@@ -3,3 +3,4 @@ pub mod Words
 pub mod Lines
 pub mod Configs
 pub mod Adds
+pub mod Ports

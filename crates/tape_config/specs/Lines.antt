@@ -20,7 +20,8 @@ abbrev pub check_line : Option Bool → Option ℕ → Option Line
 check_line (Some on) (Some offset) = Some (NameCheck offset on)
 check_line _ _ = None
 
--- A line has two words, with both sizes absent, or four, or three on name checking.
+-- A line of two words is a device line with both sizes absent, one of three is on name checking, and one of four is a
+-- device line. A line without words says nothing.
 abbrev pub words_say : List (List ℕ) → Option Line
 words_say [] = Some Skipped
 words_say (one ∷ []) = None
@@ -29,6 +30,6 @@ words_say (name ∷ switch ∷ offset ∷ []) = if is_same_word name name_check_
 words_say (capacity ∷ filemark ∷ device ∷ offset ∷ []) = device_line (size_of capacity) (size_of filemark) (slots_of device) (offset_of offset)
 words_say (_ ∷ _ ∷ _ ∷ _ ∷ _ ∷ _) = None
 
--- what a line says, if it is none but skipped where it has no words or begins with '#'
+-- what a line says: nothing where it begins with '#'
 abbrev pub line_says : List ℕ → Option Line
 line_says line = if slice_index line 0 == 35 then Some Skipped else words_say (words_of line)

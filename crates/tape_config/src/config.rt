@@ -1,10 +1,12 @@
 //! The configuration as a whole.
 
-ghost use Rattle.std.specs.Prelude.{◌≡◌, ◌∷◌, ◌<◌, ◌≤◌, length, true};
+ghost use Rattle.std.specs.Prelude.{◌≡◌, ◌≢◌, ◌∷◌, ◌<◌, ℕ, length, IfSome};
 ghost use Rattle.std.specs.List.{list_any};
 ghost use Rattle.std.specs.Str.Lines.{lines, strip_carriage_return};
 ghost use Rattle.tape_config.specs.Configs.{has_port, has_slot, device_if, device_at, check_after, checks_names, port_in, next_device, next_line, ParsesConfig};
 ghost use Rattle.tape_config.specs.Adds.{Adds};
+ghost use Rattle.tape_config.specs.Ports.{IsWithinLimits, AreApart};
+ghost use Rattle.tape_config.specs.declared.port.Port.{Port};
 ghost use Rattle.tape_config.specs.declared.config.ConfigFault.TheVariants.{Memory};
 
 use crate::line::{DeviceLine, Line, read_line};
@@ -177,11 +179,14 @@ pub struct Config {
 
 impl Model for Config {
     ghost use Rattle.std.specs.Prelude.{List};
+    ghost use Rattle.tape_config.specs.Ports.{IsConfig};
     ghost use Rattle.tape_config.specs.declared.line.Line.{Line};
 
     ghost Value = { List Line };
 
     ghost view = { λ a. a.lines };
+
+    ghost invariant = { λ a. IsConfig a.lines };
 }
 
 impl Config {
@@ -201,9 +206,12 @@ impl Config {
         Ok(Config { lines })
     }
 
-    /// The port of this offset; `None` where no device line has it. It takes no memory.
+    /// The port of this offset; `None` where no device line has it. Ports of two offsets have no slot in common. It
+    /// takes no memory.
     pub fn port(&self, offset: u16) -> Option<Port>
-        ensures { result ≡ port_in offset self.now }
+        ensures is { result ≡ port_in offset self.now }
+        ensures within { IfSome result IsWithinLimits }
+        ensures apart { (other : ℕ) (port : Port) → offset ≢ other → port_in other self.now ≡ Some port → IfSome result (λ found. AreApart found port) }
     {
         let lines = self.lines.as_slice();
         let device = find_device(lines, offset)?;

@@ -10,3 +10,6 @@ mod words;
 pub use config::{Config, ConfigFault};
 pub use line::{DeviceLine, Line, read_line};
 pub use port::Port;
+
+#[cfg(test)]
+mod tests;
