@@ -15,7 +15,7 @@ use Rattle.tape_frames.specs.Items.{IsShort}
 use Rattle.tape_frames.specs.Columns.{IsTextOf, IsOf, form_at, number_at, positive, Follows, most, form_size, size, room}
 use Rattle.tape_frames.specs.Rows.{row}
 
-text_short : (name : Text) (bytes : List ℕ) → IsTextOf name bytes → length bytes ≤ most name
+pub text_short : (name : Text) (bytes : List ℕ) → IsTextOf name bytes → length bytes ≤ most name
 text_short texts.Name bytes is = is.short
 text_short texts.Host bytes is = is.short
 text_short texts.TapeName bytes is = is.short
@@ -33,14 +33,14 @@ pub of_form_size : (form : Form) (f : Field) → IsOf form f → length (spelled
 of_form_size (forms.Number low high) (Number n) is = omega arith
 of_form_size (forms.Word name b) (Word bytes) is = omega (arith, word_short name b bytes is)
 of_form_size forms.Blank (Blank count) is = omega (arith, is, length-replicate {A = ℕ} count 0)
-of_form_size (forms.Bytes used) (Raw bytes) is = omega (arith, is.0)
+of_form_size (forms.Bytes count used) (Raw bytes) is = omega (arith, is.0)
 of_form_size form f is = absurd is
 
 pub of_form_short : (form : Form) (f : Field) → IsOf form f → IsShort f
 of_form_short (forms.Number low high) (Number n) is = tt
 of_form_short (forms.Word name b) (Word bytes) is = omega (arith, word_short name b bytes is, most_short name)
 of_form_short forms.Blank (Blank count) is = tt
-of_form_short (forms.Bytes used) (Raw bytes) is = tt
+of_form_short (forms.Bytes count used) (Raw bytes) is = tt
 of_form_short form f is = absurd is
 
 pub form_within : (c : Column) (before : List Field) → form_size (form_at c before) ≤ size c

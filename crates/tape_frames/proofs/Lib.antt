@@ -1,2 +1,5 @@
 mod Writes
 mod Forms
+mod Numbers
+mod Zeros
+mod Words

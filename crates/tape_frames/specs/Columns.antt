@@ -19,7 +19,7 @@ abbrev pub IsOf : Form → Field → Type 0
 IsOf (forms.Number low high) (Number n) = (low ≤ n) × (n ≤ high)
 IsOf (forms.Word name may_be_empty) (Word text) = IsTextOf name text ⊎ (IsTrue may_be_empty × (text ≡ []))
 IsOf forms.Blank (Blank count) = count ≡ 12
-IsOf (forms.Bytes used) (Raw bytes) = (length bytes ≡ 16352) × All (λ b. b < 256) bytes × (drop used bytes ≡ replicate (16352 - used) 0)
+IsOf (forms.Bytes count used) (Raw bytes) = (length bytes ≡ count) × All (λ b. b < 256) bytes × (drop used bytes ≡ replicate (count - used) 0)
 IsOf form field = ⊥
 
 -- the number at a place of a row, and 0 where there is none
@@ -43,7 +43,7 @@ form_at (columns.Name name) before = forms.Word name false
 form_at columns.NameLikeFirst before = forms.Word texts.TapeName (number_at before 0 == 0)
 form_at columns.MaybeName before = forms.Word texts.TapeName true
 form_at columns.Blank before = forms.Blank
-form_at columns.Bytes before = forms.Bytes (number_at before 2)
+form_at columns.Bytes before = forms.Bytes 16352 (number_at before 2)
 
 -- fields that stand in these columns behind those before them
 abbrev pub Follows : List Field → List Column → List Field → Type 0
@@ -62,7 +62,7 @@ abbrev pub form_size : Form → ℕ
 form_size (forms.Number low high) = 4
 form_size (forms.Word name may_be_empty) = 1 + most name
 form_size forms.Blank = 12
-form_size (forms.Bytes used) = 16352
+form_size (forms.Bytes count used) = count
 
 abbrev pub size : Column → ℕ
 size columns.Any = 4

@@ -5,3 +5,4 @@ pub mod Rows
 pub mod Layouts
 pub mod Frames
 pub mod Blocks
+pub mod Sticks

@@ -52,8 +52,8 @@ pub enum Form {
     Word { text: Text, may_be_empty: bool },
     /// Twelve zeros.
     Blank,
-    /// 16,352 bytes, zeros from this one on.
-    Bytes { used: u32 },
+    /// So many bytes, zeros from the used ones on.
+    Bytes { count: usize, used: u32 },
 }
 
 /// The number that a row has at this place; 0 where no number stands there.
@@ -108,6 +108,7 @@ pub fn form_of(column: Column, before: &[Item]) -> Form
         },
         Column::Blank => Form::Blank,
         Column::Bytes => Form::Bytes {
+            count: 16352,
             used: number_in(before, 2),
         },
     }

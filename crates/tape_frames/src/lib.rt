@@ -8,6 +8,7 @@ mod dump_end;
 mod frame;
 mod item;
 mod label;
+mod place;
 mod row;
 mod vol_end;
 mod vol_head;
