@@ -3,3 +3,4 @@ mod Forms
 mod Numbers
 mod Zeros
 mod Words
+mod Rests

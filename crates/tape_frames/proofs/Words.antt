@@ -100,6 +100,18 @@ word_sticks text at bytes lt short stands not =
       here = not;
     }
 
+-- the letter a is a name of each form
+pub a_word : (text : Text) → IsTextOf text (97 ∷ [])
+a_word text = of_stands text (97 ∷ []) (lit< tt) (a_short text) (λ k lt. subst (λ (x : ℕ). MayStand text k x) (only_a k lt) (a_stands text k))
+  where
+    only_a : (k : ℕ) → k < 1 → ◌≡◌ {A = ℕ} 97 (get_or (97 ∷ []) k 0)
+    only_a zero lt = refl
+    only_a (suc k) lt = absurd (omega arith)
+    a_short : (text : Text) → 1 ≤ most text
+    a_short texts.Name = lit≤ tt
+    a_short texts.Host = lit≤ tt
+    a_short texts.TapeName = lit≤ tt
+
 -- ---- behind its length
 
 -- a text of another length than the byte at the front
@@ -115,17 +127,9 @@ pub length_sticks : (text : Text) (may_be_empty : Bool) (rest : List ℕ) → 0 
 length_sticks text e [] some none = absurd (omega arith)
 length_sticks text e (len ∷ r) some none = record {
   within = some;
-  before = (Word (97 ∷ []), 1 ∷ 97 ∷ [], inl (of_stands text (97 ∷ []) (lit< tt) (a_short text) (λ k lt. subst (λ (x : ℕ). MayStand text k x) (only_a k lt) (a_stands text k))), refl);
+  before = (Word (97 ∷ []), 1 ∷ 97 ∷ [], inl (a_word text), refl);
   here = λ field left more is h. lengths_differ text e len r none field left more is h;
 }
-  where
-    only_a : (k : ℕ) → k < 1 → ◌≡◌ {A = ℕ} 97 (get_or (97 ∷ []) k 0)
-    only_a zero lt = refl
-    only_a (suc k) lt = absurd (omega arith)
-    a_short : (text : Text) → 1 ≤ most text
-    a_short texts.Name = lit≤ tt
-    a_short texts.Host = lit≤ tt
-    a_short texts.TapeName = lit≤ tt
 
 -- the byte at a place of a name behind its length
 word_byte : (text : Text) (may_be_empty : Bool) (len at : ℕ) (r : List ℕ) → at < len → suc at < length (len ∷ r) → (MayStand text at (get_or r at 0) → ⊥)

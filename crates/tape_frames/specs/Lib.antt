@@ -6,3 +6,4 @@ pub mod Layouts
 pub mod Frames
 pub mod Blocks
 pub mod Sticks
+pub mod Rests

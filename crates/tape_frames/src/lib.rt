@@ -5,10 +5,12 @@
 mod column;
 mod data;
 mod dump_end;
+mod fault;
 mod frame;
 mod item;
 mod label;
 mod place;
+mod reading;
 mod row;
 mod vol_end;
 mod vol_head;
@@ -16,6 +18,7 @@ mod writing;
 
 pub use data::{Data, DataFields};
 pub use dump_end::{DumpEnd, DumpEndFields};
+pub use fault::FrameFault;
 pub use frame::Frame;
 pub use label::{Label, LabelFields};
 pub use row::Kind;
