@@ -4,3 +4,6 @@ mod Numbers
 mod Zeros
 mod Words
 mod Rests
+mod Heads
+mod Builds
+mod Wholes

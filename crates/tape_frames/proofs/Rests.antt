@@ -1,22 +1,20 @@
 -- What stands behind fields that were read.
-use Rattle.std.proofs.Common.{zero, suc, inl, inr, ◌⊎◌, lit<, lit≤, ◌≡◌, ℕ, ◌+◌, ◌-◌, ◌<◌, ◌≤◌, ◌==◌, Bool, true, false, cond, List, [], ◌∷◌, ◌++◌, length, take, drop, get_or, replicate, refl, sym, ap, subst, ◌∙◌, append_assoc, arith, length-append, length-drop}
+use Rattle.std.proofs.Common.{inl, lit<, lit≤, ◌≡◌, ℕ, ◌+◌, ◌-◌, ◌<◌, ◌≤◌, ◌==◌, true, false, cond, List, [], ◌∷◌, ◌++◌, length, take, drop, get_or, replicate, refl, sym, ap, subst, ◌∙◌, append_assoc, arith, length-append, length-drop}
 use Rattle.std.specs.List.{flat_map}
-use Rattle.std.specs.Prelude.{All}
 use Rattle.std.specs.Int.{w32, from_be_bytes, to_be_bytes}
 use Rattle.std.proofs.lemmas.Nat.{from_be_bytes-to_be_bytes_4}
-use Rattle.std.proofs.lemmas.List.{append-nil, length-take-le, take-append-drop, take-append-le, take_at, drop_at, drop_all, take_more, drop_more, flat_map_more, length-replicate, get_or-replicate, get_or_append_left, drop-replicate, replicate-append-replicate, take_all}
+use Rattle.std.proofs.lemmas.List.{append-nil, length-take-le, take-append-drop, take_at, drop_at, drop_all, take_more, drop_more, flat_map_more, length-replicate, get_or-replicate, drop-replicate, replicate-append-replicate, take_all}
 use Rattle.std.proofs.Math.Seq.{take-append-add, take-add}
 use Rattle.std.proofs.lemmas.List.Elements.{All-replicate}
-use Rattle.bk_text.specs.Places.{Begun, FailsAt}
-use Rattle.bk_text.proofs.Fails.{stops_at, front_begun}
+use Rattle.bk_text.specs.Places.{FailsAt}
+use Rattle.bk_text.proofs.Fails.{stops_at}
 use Rattle.tape_frames.specs.declared.column.Column.{Column}
 use Rattle.tape_frames.specs.declared.column.Column.TheVariants as columns
-use Rattle.tape_frames.specs.declared.column.Text.{Text}
 use Rattle.tape_frames.specs.declared.column.Text.TheVariants as texts
 use Rattle.tape_frames.specs.declared.column.Form.{Form}
 use Rattle.tape_frames.specs.declared.column.Form.TheVariants as forms
-use Rattle.tape_frames.specs.Fields.{Field, Number, Word, Blank, Raw, spelled, padded}
-use Rattle.tape_frames.specs.Columns.{IsOf, IsTextOf, form_at, number_at, positive, Follows, size, room, form_size}
+use Rattle.tape_frames.specs.Fields.{Field, Number, Word, Blank, Raw, spelled}
+use Rattle.tape_frames.specs.Columns.{IsOf, form_at, number_at, positive, Follows, size, room, form_size}
 use Rattle.tape_frames.specs.Sticks.{Sticks, Reads, IsBounded, IsFirstSet}
 use Rattle.tape_frames.specs.Rests.{Rest, FillsRow}
 use Rattle.tape_frames.proofs.Forms.{of_form_size, form_within}
@@ -50,7 +48,7 @@ some_field (forms.Word name e) b = (Word (97 ∷ []), inl (a_word name))
 some_field forms.Blank b = (Blank 12, refl)
 some_field (forms.Bytes n used) b = (Raw (zeros n), zeros_raw n used)
 
-rest_some : (before : List Field) (cs : List Column) (n : ℕ) → (bytes : List ℕ) × Rest before cs n bytes
+pub rest_some : (before : List Field) (cs : List Column) (n : ℕ) → (bytes : List ℕ) × Rest before cs n bytes
 rest_some before [] n = (replicate n 0, refl)
 rest_some before (c ∷ cs) n =
     let f = some_field (form_at c before) (bounded c before) in
@@ -129,7 +127,7 @@ reach [] ds before [] n bytes h r = subst (λ (x : List Field). Rest x ds (n - 0
 reach (c ∷ cs) ds before (f ∷ fs) n bytes h r =
     let after : List ℕ = flat_map spelled fs in
     let step : Rest (before ++ f ∷ []) (cs ++ ds) (n - length (spelled f)) (after ++ bytes)
-      = rest_step c (cs ++ ds) before n f (after ++ bytes) h.0 (subst (Rest before (c ∷ (cs ++ ds)) n) (append_assoc (spelled f) after bytes) r) in
+    = rest_step c (cs ++ ds) before n f (after ++ bytes) h.0 (subst (Rest before (c ∷ (cs ++ ds)) n) (append_assoc (spelled f) after bytes) r) in
     let far = reach cs ds (before ++ f ∷ []) fs (n - length (spelled f)) bytes h.1 step in
     let count : n - length (spelled f) - length after ≡ n - length (spelled f ++ after) = omega (arith, length-append (spelled f) after) in
     subst (λ (k : ℕ). Rest (before ++ f ∷ fs) ds k bytes) count (subst (λ (x : List Field). Rest x ds (n - length (spelled f) - length after) bytes) (append_assoc before (f ∷ []) fs) far)
@@ -143,7 +141,7 @@ reach_back (c ∷ cs) ds before (f ∷ fs) n bytes h r =
     let after : List ℕ = flat_map spelled fs in
     let count : n - length (spelled f ++ after) ≡ n - length (spelled f) - length after = omega (arith, length-append (spelled f) after) in
     let near : Rest ((before ++ f ∷ []) ++ fs) ds (n - length (spelled f) - length after) bytes
-      = subst (λ (x : List Field). Rest x ds (n - length (spelled f) - length after) bytes) (sym (append_assoc before (f ∷ []) fs)) (subst (λ (k : ℕ). Rest (before ++ f ∷ fs) ds k bytes) count r) in
+    = subst (λ (x : List Field). Rest x ds (n - length (spelled f) - length after) bytes) (sym (append_assoc before (f ∷ []) fs)) (subst (λ (k : ℕ). Rest (before ++ f ∷ fs) ds k bytes) count r) in
     (f, after ++ bytes, h.0, append_assoc (spelled f) after bytes, reach_back cs ds (before ++ f ∷ []) fs (n - length (spelled f)) bytes h.1 near)
 reach_back [] ds before (f ∷ fs) n bytes h r = absurd h
 reach_back (c ∷ cs) ds before [] n bytes h r = absurd h
@@ -162,14 +160,14 @@ pub behind : (F G : List ℕ → Type 0) (front text : List ℕ) (at : ℕ) → 
 behind F G front text at to from h = record {
   within = omega (arith, h.within, length-append front text);
   before =
-    let rest = h.before.0 in
-    (rest, subst F (sym (append_assoc front (take at text) rest) ∙ ap (λ (x : List ℕ). x ++ rest) (sym (front_take at))) (from (take at text ++ rest) h.before.1));
+      let rest = h.before.0 in
+      (rest, subst F (sym (append_assoc front (take at text) rest) ∙ ap (λ (x : List ℕ). x ++ rest) (sym (front_take at))) (from (take at text ++ rest) h.before.1));
   here = λ lt begun.
-    let small : at < length text = omega (arith, length-append front text) in
-    let rest = begun.0 in
-    let sum : length front + at + 1 ≡ length front + (at + 1) = omega arith in
-    let is : take (length front + at + 1) (front ++ text) ≡ front ++ take (at + 1) text = ap (λ (k : ℕ). take k (front ++ text)) sum ∙ front_take (at + 1) in
-    h.here small (rest, to (take (at + 1) text ++ rest) (subst F (ap (λ (x : List ℕ). x ++ rest) is ∙ append_assoc front (take (at + 1) text) rest) begun.1));
+      let small : at < length text = omega (arith, length-append front text) in
+      let rest = begun.0 in
+      let sum : length front + at + 1 ≡ length front + (at + 1) = omega arith in
+      let is : take (length front + at + 1) (front ++ text) ≡ front ++ take (at + 1) text = ap (λ (k : ℕ). take k (front ++ text)) sum ∙ front_take (at + 1) in
+      h.here small (rest, to (take (at + 1) text ++ rest) (subst F (ap (λ (x : List ℕ). x ++ rest) is ∙ append_assoc front (take (at + 1) text) rest) begun.1));
   not_whole = λ whole. h.not_whole (to text whole);
 }
   where
@@ -222,14 +220,14 @@ reach_row : (row : List Column) (i : ℕ) (body : List ℕ) (fields : List Field
 reach_row row i body fields at n r more h =
     let long : length (flat_map spelled fields) ≡ at = ap length (sym r.front) ∙ front_long body at (omega (arith, r.within)) in
     let whole : Rest [] (take i row ++ drop i row) n (flat_map spelled fields ++ more)
-      = subst (λ (x : List Column). Rest [] x n (flat_map spelled fields ++ more)) (sym (take-append-drop i row)) (subst (λ (x : List ℕ). Rest [] row n (x ++ more)) r.front h) in
+    = subst (λ (x : List Column). Rest [] x n (flat_map spelled fields ++ more)) (sym (take-append-drop i row)) (subst (λ (x : List ℕ). Rest [] row n (x ++ more)) r.front h) in
     subst (λ (k : ℕ). Rest fields (drop i row) (n - k) more) long (reach (take i row) (drop i row) [] fields n more r.follows whole)
 
 back_row : (row : List Column) (i : ℕ) (body : List ℕ) (fields : List Field) (at n : ℕ) → ReadSo row i body fields at → (more : List ℕ) → Rest fields (drop i row) (n - at) more → Rest [] row n (take at body ++ more)
 back_row row i body fields at n r more h =
     let long : length (flat_map spelled fields) ≡ at = ap length (sym r.front) ∙ front_long body at (omega (arith, r.within)) in
     let whole : Rest [] (take i row ++ drop i row) n (flat_map spelled fields ++ more)
-      = reach_back (take i row) (drop i row) [] fields n more r.follows (subst (λ (k : ℕ). Rest fields (drop i row) (n - k) more) (sym long) h) in
+    = reach_back (take i row) (drop i row) [] fields n more r.follows (subst (λ (k : ℕ). Rest fields (drop i row) (n - k) more) (sym long) h) in
     subst (λ (x : List ℕ). Rest [] row n (x ++ more)) (sym r.front) (subst (λ (x : List Column). Rest [] x n (flat_map spelled fields ++ more)) (take-append-drop i row) whole)
 
 -- a place in what is left is one in the whole
@@ -238,7 +236,7 @@ pub read_fails : (row : List Column) (i : ℕ) (body : List ℕ) (fields : List 
 read_fails row i body fields at place r h =
     let n : ℕ = length body in
     let all : FailsAt (Rest [] row n) (take at body ++ drop at body) (length (take at body) + place)
-      = behind (Rest [] row n) (Rest fields (drop i row) (n - at)) (take at body) (drop at body) place (reach_row row i body fields at n r) (back_row row i body fields at n r) h in
+    = behind (Rest [] row n) (Rest fields (drop i row) (n - at)) (take at body) (drop at body) place (reach_row row i body fields at n r) (back_row row i body fields at n r) h in
     subst (λ (k : ℕ). FailsAt (Rest [] row n) body (k + place)) (front_long body at (omega (arith, r.within)))
     (subst (λ (x : List ℕ). FailsAt (Rest [] row n) x (length (take at body) + place)) (take-append-drop at body) all)
 
@@ -246,7 +244,7 @@ pub read_sticks : (row : List Column) (i : ℕ) (body : List ℕ) (fields : List
     → (at + place < length body) × FailsAt (Rest [] row (length body)) body (at + place)
 read_sticks row i body fields at place d r lt s =
     let here : FailsAt (Rest fields (drop i row) (length body - at)) (drop at body) place
-      = subst (λ (x : List Column). FailsAt (Rest fields x (length body - at)) (drop at body) place) (sym (drop_more row i d lt)) (sticks_fails (get_or row i d) (drop (i + 1) row) fields (length body - at) (drop at body) place s) in
+    = subst (λ (x : List Column). FailsAt (Rest fields x (length body - at)) (drop at body) place) (sym (drop_more row i d lt)) (sticks_fails (get_or row i d) (drop (i + 1) row) fields (length body - at) (drop at body) place s) in
     (omega (arith, s.within, length-drop at body), read_fails row i body fields at place r here)
 
 pub read_more : (row : List Column) (i : ℕ) (body : List ℕ) (fields : List Field) (at : ℕ) (d : Column) (f : Field) → ReadSo row i body fields at → i < length row → Reads (form_at (get_or row i d) fields) (drop at body) f
@@ -256,8 +254,8 @@ read_more row i body fields at d f r lt (is, (rest, e)) =
     let next : room (drop i row) ≡ size c + room (drop (i + 1) row) = ap room (drop_more row i d lt) in
     let short : length (spelled f) ≤ size c = omega (arith, of_form_size (form_at c fields) f is, form_within c fields) in
     let front : take (at + length (spelled f)) body ≡ flat_map spelled fields ++ spelled f
-      = take-add at (length (spelled f)) body ∙ ap (λ (x : List ℕ). x ++ take (length (spelled f)) (drop at body)) r.front
-        ∙ ap (λ (x : List ℕ). flat_map spelled fields ++ x) (ap (take (length (spelled f))) e ∙ take_at (spelled f) rest (length (spelled f)) refl) in
+    = take-add at (length (spelled f)) body ∙ ap (λ (x : List ℕ). x ++ take (length (spelled f)) (drop at body)) r.front
+    ∙ ap (λ (x : List ℕ). flat_map spelled fields ++ x) (ap (take (length (spelled f))) e ∙ take_at (spelled f) rest (length (spelled f)) refl) in
     record {
       within = omega (arith, r.within, next, short);
       follows = subst (λ (x : List Column). Follows [] x (fields ++ f ∷ [])) (sym (take_more row i d lt)) (follows_push (take i row) c [] fields f r.follows is);
@@ -267,8 +265,7 @@ read_more row i body fields at d f r lt (is, (rest, e)) =
 pub read_all : (row : List Column) (i : ℕ) (body : List ℕ) (fields : List Field) (at : ℕ) → ReadSo row i body fields at → length row ≤ i → drop at body ≡ replicate (length (drop at body)) 0 → FillsRow row body fields
 read_all row i body fields at r le zeros =
     let long : length (flat_map spelled fields) ≡ at = ap length (sym r.front) ∙ front_long body at (omega (arith, r.within)) in
-    let left : length (drop at body) ≡ length body - length (flat_map spelled fields) = omega (arith, length-drop at body, long) in
-    (
+    let left : length (drop at body) ≡ length body - length (flat_map spelled fields) = omega (arith, length-drop at body, long) in (
       subst (λ (x : List Column). Follows [] x fields) (take_all i row le) r.follows,
       sym (take-append-drop at body) ∙ ap (λ (x : List ℕ). x ++ drop at body) r.front ∙ ap (λ (x : List ℕ). flat_map spelled fields ++ x) (zeros ∙ ap (λ (k : ℕ). replicate k 0) left),
     )
@@ -279,7 +276,7 @@ read_tail row i body fields at place r le first =
     let count : length (drop at body) ≡ length body - at = length-drop at body in
     let none : [] ≡ drop i row = sym (drop_all i row le) in
     let zeros : FailsAt (λ (x : List ℕ). x ≡ replicate (length body - at) 0) (drop at body) place
-      = subst (λ (k : ℕ). FailsAt (λ (x : List ℕ). x ≡ replicate k 0) (drop at body) place) count (zeros_fail (drop at body) place first) in
+    = subst (λ (k : ℕ). FailsAt (λ (x : List ℕ). x ≡ replicate k 0) (drop at body) place) count (zeros_fail (drop at body) place first) in
     let here : FailsAt (Rest fields (drop i row) (length body - at)) (drop at body) place
-      = subst (λ (x : List Column). FailsAt (Rest fields x (length body - at)) (drop at body) place) none zeros in
+    = subst (λ (x : List Column). FailsAt (Rest fields x (length body - at)) (drop at body) place) none zeros in
     (omega (arith, first.0, length-drop at body), read_fails row i body fields at place r here)

@@ -1,8 +1,8 @@
 -- Names of a length that is known, byte by byte.
-use Rattle.std.proofs.Common.{zero, suc, inl, inr, ◌⊎◌, lit<, lit≤, ◌≡◌, ◌≢◌, ℕ, ◌+◌, ◌-◌, ◌<◌, ◌≤◌, Bool, true, false, List, [], ◌∷◌, ◌++◌, length, take, drop, get_or, replicate, refl, sym, ap, subst, ◌∙◌, arith, length-append}
-use Rattle.std.specs.Prelude.{All, IsTrue}
+use Rattle.std.proofs.Common.{zero, suc, inl, inr, ◌⊎◌, lit<, lit≤, ◌≡◌, ℕ, ◌+◌, ◌-◌, ◌<◌, ◌≤◌, Bool, false, List, [], ◌∷◌, ◌++◌, length, take, drop, get_or, replicate, refl, sym, ap, subst, ◌∙◌, arith, length-append}
+use Rattle.std.specs.Prelude.{All}
 use Rattle.std.proofs.lemmas.Bool.{cases_lt, false≢true}
-use Rattle.std.proofs.lemmas.List.{length-take-le, take-append-drop, take-take, length-replicate, get_or-replicate, get_or_append_left, get_or-append_right, get_or-take, nil_from_length}
+use Rattle.std.proofs.lemmas.List.{length-take-le, take-append-drop, take-take, length-replicate, get_or-replicate, get_or_append_left, get_or-append_right, get_or-take}
 use Rattle.std.proofs.lemmas.List.Elements.{All-from_get_or, All-get_or}
 use Rattle.bk_text.specs.Alphabets.{IsNameByte}
 use Rattle.tape_frames.specs.declared.column.Text.{Text}
@@ -73,11 +73,11 @@ unfolding Stands filled
 filled_stands text at bytes le stands k lt (inl below) =
     let front : length (take at bytes) ≡ at = length-take-le at bytes le in
     let same : get_or (take at bytes ++ replicate (length bytes - at) 97) k 0 ≡ get_or bytes k 0
-      = get_or_append_left (take at bytes) (replicate (length bytes - at) 97) 0 k (omega arith) ∙ get_or-take at bytes k 0 below in
+    = get_or_append_left (take at bytes) (replicate (length bytes - at) 97) 0 k (omega arith) ∙ get_or-take at bytes k 0 below in
     subst (MayStand text k) (sym same) (stands k below)
 filled_stands text at bytes le stands k lt (inr above) =
     let same : get_or (take at bytes ++ replicate (length bytes - at) 97) k 0 ≡ 97
-      = get_or-append_right (take at bytes) (replicate (length bytes - at) 97) at k 0 (length-take-le at bytes le) above ∙ get_or-replicate (length bytes - at) (k - at) 97 0 (omega arith) in
+    = get_or-append_right (take at bytes) (replicate (length bytes - at) 97) at k 0 (length-take-le at bytes le) above ∙ get_or-replicate (length bytes - at) (k - at) 97 0 (omega arith) in
     subst (MayStand text k) (sym same) (a_stands text k)
 
 filled_long : (at : ℕ) (bytes : List ℕ) → at ≤ length bytes → length (filled bytes at) ≡ length bytes
@@ -107,6 +107,7 @@ a_word text = of_stands text (97 ∷ []) (lit< tt) (a_short text) (λ k lt. subs
     only_a : (k : ℕ) → k < 1 → ◌≡◌ {A = ℕ} 97 (get_or (97 ∷ []) k 0)
     only_a zero lt = refl
     only_a (suc k) lt = absurd (omega arith)
+
     a_short : (text : Text) → 1 ≤ most text
     a_short texts.Name = lit≤ tt
     a_short texts.Host = lit≤ tt
@@ -144,6 +145,7 @@ word_byte text e len at r lt within not (Word w) left more is h =
   where
     first_byte : get_or (take (suc at + 1) (len ∷ r) ++ more) 0 0 ≡ len
     first_byte = get_or_append_left (take (suc at + 1) (len ∷ r)) more 0 0 (omega (arith, length-take-le (suc at + 1) (len ∷ r) (omega arith))) ∙ get_or-take (suc at + 1) (len ∷ r) 0 0 (omega arith)
+
     go : (w : List ℕ) → IsOf (forms.Word text e) (Word w) → at < length w → get_or w at 0 ≡ get_or r at 0 → ⊥
     go w (inl is) below same = not (subst (MayStand text at) same (stands_of text w at is below))
     go w (inr is) below same = omega (arith, ap length is.1)
@@ -173,7 +175,7 @@ text_reads text e [] k same long is = absurd (omega arith)
 text_reads text e (len ∷ r) k same long is =
     let len_take : length (take len r) ≡ len = length-take-le len r (omega arith) in
     let result : Reads (forms.Word text e) (len ∷ r) (Word (take len r))
-      = (inl is, (drop len r, ap (λ (x : List ℕ). len ∷ x) (sym (take-append-drop len r)) ∙ ap (λ (n : ℕ). n ∷ (take len r ++ drop len r)) (sym len_take))) in
+    = (inl is, (drop len r, ap (λ (x : List ℕ). len ∷ x) (sym (take-append-drop len r)) ∙ ap (λ (n : ℕ). n ∷ (take len r ++ drop len r)) (sym len_take))) in
     subst (λ (n : ℕ). Reads (forms.Word text e) (len ∷ r) (Word (take n r))) (sym same) result
 
 pub not_empty : (text : Text) (may_be_empty : Bool) (w : List ℕ) → IsOf (forms.Word text may_be_empty) (Word w) → may_be_empty ≡ false → length w ≡ 0 → ⊥

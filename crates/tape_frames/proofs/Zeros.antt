@@ -1,7 +1,7 @@
 -- Zeros, and the first byte that isn't one.
-use Rattle.std.proofs.Common.{inl, inr, ◌⊎◌, lit<, ◌≡◌, ◌≢◌, ℕ, ◌+◌, ◌-◌, ◌<◌, ◌≤◌, List, [], ◌∷◌, ◌++◌, length, take, drop, get_or, replicate, refl, sym, ap, subst, ◌∙◌, arith, length-append}
+use Rattle.std.proofs.Common.{inl, inr, ◌⊎◌, lit<, ◌≡◌, ℕ, ◌+◌, ◌-◌, ◌<◌, ◌≤◌, List, [], ◌∷◌, ◌++◌, length, take, drop, get_or, replicate, refl, sym, ap, subst, ◌∙◌, arith, length-append}
 use Rattle.std.specs.Prelude.{All}
-use Rattle.std.proofs.lemmas.List.{length-take-le, take-append-drop, length-drop, drop_all, take-take, take-append-le, length-replicate, get_or-replicate, get_or_append_left, get_or-append_right, get_or-take, get_or-drop, replicate-append-replicate, replicate_more, take_more, drop-append-le, drop-take, take_all, nil_from_length}
+use Rattle.std.proofs.lemmas.List.{length-take-le, take-append-drop, length-drop, drop_all, take-take, length-replicate, get_or-replicate, get_or_append_left, get_or-take, get_or-drop, replicate-append-replicate, replicate_more, take_more, drop-append-le, drop-take}
 use Rattle.std.proofs.lemmas.Bool.{cases_lt}
 use Rattle.std.proofs.lemmas.List.Elements.{All-append, All-take, All-replicate, All-from_get_or}
 use Rattle.tape_frames.specs.declared.column.Form.TheVariants as forms
@@ -48,6 +48,7 @@ blank_sticks rest at long first =
     filled small =
         let sum : at + (12 - at) ≡ 12 = omega (arith, small) in
         sym (ap (λ (x : List ℕ). x ++ replicate (12 - at) 0) (front_zeros 12 at rest long first) ∙ replicate-append-replicate {A = ℕ} at (12 - at) 0 ∙ ap (λ (n : ℕ). replicate n 0) sum)
+
     go : at < 12 → (field : Field) (left more : List ℕ) → IsOf forms.Blank field → take (at + 1) rest ++ more ≡ spelled field ++ left → ⊥
     go small (Blank n) left more is e =
         let long_enough : at < length (replicate {A = ℕ} n 0) = omega (arith, small, is, length-replicate {A = ℕ} n 0) in
@@ -109,9 +110,9 @@ filled_raw n from at rest long fits le zeros =
       long = omega (arith, length-append front tail, front_long, length-replicate {A = ℕ} (n - (from + at)) 0);
       each = All-append (λ (b : ℕ). b < 256) front tail (All-take (λ (b : ℕ). b < 256) (from + at) rest (All-from_get_or (λ (b : ℕ). b < 256) rest 0 (λ i _. fits i))) (All-replicate (λ (b : ℕ). b < 256) (n - (from + at)) 0 (lit< tt));
       zeros = drop-append-le from front tail (omega (arith, front_long))
-        ∙ ap (λ (x : List ℕ). x ++ tail) (drop-take from at rest ∙ sym (inner_front n from at rest long le) ∙ zeros)
-        ∙ replicate-append-replicate {A = ℕ} at (n - (from + at)) 0
-        ∙ ap (λ (m : ℕ). replicate m 0) sum;
+          ∙ ap (λ (x : List ℕ). x ++ tail) (drop-take from at rest ∙ sym (inner_front n from at rest long le) ∙ zeros)
+          ∙ replicate-append-replicate {A = ℕ} at (n - (from + at)) 0
+          ∙ ap (λ (m : ℕ). replicate m 0) sum;
     }
 
 -- a byte of zeros at the end

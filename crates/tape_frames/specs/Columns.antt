@@ -1,5 +1,5 @@
 -- What a field of a frame may be, behind the fields before it.
-use Rattle.std.specs.Prelude.{◌≡◌, ◌⊎◌, ℕ, ◌+◌, ◌-◌, ◌<◌, ◌≤◌, ◌==◌, Bool, true, false, IsTrue, List, [], ◌∷◌, ◌++◌, length, drop, replicate, All, slice_index_or, if◌then◌else◌}
+use Rattle.std.specs.Prelude.{◌≡◌, ◌⊎◌, ℕ, ◌+◌, ◌-◌, ◌<◌, ◌≤◌, ◌==◌, true, false, IsTrue, List, [], ◌∷◌, ◌++◌, length, drop, replicate, All, slice_index_or, if◌then◌else◌}
 use Rattle.bk_text.specs.Alphabets.{IsName, IsHost, IsTapeName}
 use Rattle.tape_frames.specs.declared.column.Text.{Text}
 use Rattle.tape_frames.specs.declared.column.Text.TheVariants as texts

@@ -1,6 +1,5 @@
 -- The block of a frame.
-use Rattle.std.specs.Prelude.{◌≡◌, ℕ, List, [], ◌++◌}
-use Rattle.std.specs.List.{flat_map}
+use Rattle.std.specs.Prelude.{◌≡◌, ℕ, List, []}
 use Rattle.tape_frames.specs.declared.frame.Frame.{Frame}
 use Rattle.tape_frames.specs.declared.frame.Frame.TheVariants.{Label, VolHead, Data, VolEnd, DumpEnd}
 use Rattle.tape_frames.specs.declared.row.Kind.{Kind}

@@ -1,5 +1,5 @@
 -- The fields of each kind, as its row has them.
-use Rattle.std.specs.Prelude.{◌≡◌, ◌≢◌, ◌⊎◌, ℕ, ◌-◌, ◌≤◌, List, [], ◌∷◌, length, drop, replicate}
+use Rattle.std.specs.Prelude.{◌≡◌, ◌≢◌, ◌⊎◌, ℕ, ◌-◌, ◌≤◌, List, [], ◌∷◌, drop, replicate}
 use Rattle.bk_text.specs.Alphabets.{IsTapeName}
 use Rattle.tape_frames.specs.declared.label.LabelFields.{LabelFields}
 use Rattle.tape_frames.specs.declared.vol_head.VolHeadFields.{VolHeadFields}

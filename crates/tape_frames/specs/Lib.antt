@@ -7,3 +7,6 @@ pub mod Frames
 pub mod Blocks
 pub mod Sticks
 pub mod Rests
+pub mod Heads
+pub mod Builds
+pub mod Decodes

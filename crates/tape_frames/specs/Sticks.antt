@@ -1,5 +1,5 @@
 -- What the reading of a field answers.
-use Rattle.std.specs.Prelude.{◌≡◌, ◌≢◌, ℕ, ◌+◌, ◌<◌, ◌≤◌, List, [], ◌∷◌, ◌++◌, length, take, replicate, slice_index, Result, Ok, Err, ⊤}
+use Rattle.std.specs.Prelude.{◌≡◌, ◌≢◌, ℕ, ◌+◌, ◌<◌, ◌≤◌, List, ◌++◌, length, take, replicate, slice_index, Result, Ok, Err, ⊤}
 use Rattle.bk_text.specs.Alphabets.{IsNameByte, IsNoDash}
 use Rattle.tape_frames.specs.declared.column.Text.{Text}
 use Rattle.tape_frames.specs.declared.column.Text.TheVariants as texts

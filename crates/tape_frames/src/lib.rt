@@ -2,11 +2,14 @@
 //! and a block that is no frame's is refused at its exact place. The layout is this project's own.
 #![tactic(auto)]
 
+mod build;
 mod column;
 mod data;
+mod decoding;
 mod dump_end;
 mod fault;
 mod frame;
+mod head;
 mod item;
 mod label;
 mod place;
@@ -17,6 +20,7 @@ mod vol_head;
 mod writing;
 
 pub use data::{Data, DataFields};
+pub use decoding::{decode, one_frame};
 pub use dump_end::{DumpEnd, DumpEndFields};
 pub use fault::FrameFault;
 pub use frame::Frame;

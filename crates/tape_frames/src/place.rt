@@ -106,10 +106,7 @@ pub fn read_item<'a>(form: Form, rest: &'a [u8]) -> Result<Item<'a>, usize>
 {
     match form {
         Form::Number { low, high } => Ok(Item::Number(read_number(low, high, rest)?)),
-        Form::Word {
-            text,
-            may_be_empty,
-        } => read_word(text, may_be_empty, rest),
+        Form::Word { text, may_be_empty } => read_word(text, may_be_empty, rest),
         Form::Blank => read_blank(rest),
         Form::Bytes { count, used } => read_bytes(count, used as usize, rest),
     }

@@ -13,7 +13,11 @@ use bk_text::List;
 use std::alloc::Global;
 
 /// The fields of a row, behind which all is zeros; else the first byte after which no such fields go on.
-pub fn read_row<'a>(alloc: Global, row: &[Column], body: &'a [u8]) -> Result<List<Item<'a>>, FrameFault>
+pub fn read_row<'a>(
+    alloc: Global,
+    row: &[Column],
+    body: &'a [u8],
+) -> Result<List<Item<'a>>, FrameFault>
     requires { room row.now ≤ length body.now }
     ensures { MatchResult result (λ items. FillsRow row.now body.now (map field_of items)) (λ fault. RowFault row.now body.now fault) }
 {

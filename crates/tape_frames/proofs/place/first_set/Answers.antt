@@ -1,4 +1,4 @@
-use Rattle.std.proofs.Common.{ℕ, ◌≡◌, ◌≤◌, ◌∙◌, length, take, replicate, refl, sym, ap, arith}
+use Rattle.std.proofs.Common.{ℕ, ◌≡◌, ◌∙◌, length, replicate, sym, ap, arith}
 use Rattle.std.proofs.lemmas.List.{take_all}
 use Rattle.tape_frames.proofs.Zeros.{zeros_more}
 use Rattle.tape_frames.proofs.place.first_set.Goals as goal

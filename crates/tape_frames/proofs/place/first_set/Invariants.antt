@@ -1,4 +1,4 @@
-use Rattle.std.proofs.Common.{◌≡◌, ℕ, take, replicate}
+use Rattle.std.proofs.Common.{◌≡◌, take, replicate}
 use Rattle.tape_frames.proofs.place.first_set.Given as goal
 
 abbrev pub invariant-loop-at : goal.invariant-loop-at

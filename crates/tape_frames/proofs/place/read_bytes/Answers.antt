@@ -1,4 +1,4 @@
-use Rattle.std.proofs.Common.{rules, ℕ, List, ◌≡◌, ◌≤◌, ◌<◌, ◌+◌, length, take, drop, replicate, subst, arith, length-drop}
+use Rattle.std.proofs.Common.{rules, ℕ, List, ◌≡◌, ◌≤◌, ◌+◌, length, take, drop, replicate, subst, arith, length-drop}
 use Rattle.std.proofs.lemmas.List.{length-take-le, take_rest}
 use Rattle.tape_frames.specs.Sticks.{IsFirstSet}
 use Rattle.tape_frames.proofs.Zeros.{raw_reads, raw_sticks}

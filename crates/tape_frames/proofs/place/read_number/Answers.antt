@@ -1,6 +1,6 @@
-use Rattle.std.proofs.Common.{◌≡◌, ◌≤◌, ◌<◌, ℕ, ◌∙◌, get_or, sym, arith}
+use Rattle.std.proofs.Common.{arith}
 use Rattle.std.proofs.lemmas.Bool.{iff_false}
-use Rattle.tape_frames.proofs.Numbers.{of_four, stuck_0, stuck_1, stuck_2, stuck_3, read_four}
+use Rattle.tape_frames.proofs.Numbers.{stuck_0, stuck_1, stuck_2, stuck_3, read_four}
 use Rattle.tape_frames.proofs.place.read_number.Goals as goal
 
 pub returns-then-not-meets : goal.returns-then-not-meets

@@ -1,7 +1,5 @@
-use Rattle.std.proofs.Common.{rules, ◌⊎◌, inl, inr, ◌≡◌, ◌≤◌, ◌<◌, ◌+◌, ◌-◌, ℕ, List, [], length, take, drop, get_or, arith, refl, sym, ap, subst}
-use Rattle.tape_frames.specs.declared.column.Form.TheVariants as forms
-use Rattle.tape_frames.specs.Fields.{Word}
-use Rattle.tape_frames.specs.Columns.{IsOf, IsTextOf, most}
+use Rattle.std.proofs.Common.{◌≡◌, ◌+◌, ◌-◌, ℕ, take, drop, get_or, arith, sym, subst}
+use Rattle.tape_frames.specs.Columns.{IsTextOf}
 use Rattle.tape_frames.specs.Sticks.{WordSticks}
 use Rattle.tape_frames.proofs.Words.{length_sticks, text_sticks, text_reads, not_empty, not_long}
 use Rattle.tape_frames.proofs.place.read_word.Goals as goal

@@ -1,6 +1,5 @@
-use Rattle.std.proofs.Common.{◌≡◌, ◌+◌, ◌-◌, length, arith, ap, ◌∙◌, List, ℕ, ◌++◌}
+use Rattle.std.proofs.Common.{◌+◌, ◌-◌, length, arith, ap, ◌∙◌}
 use borrow.Rule.Slice.PartMut.{put_mid}
-use Rattle.tape_frames.specs.Fields.{padded}
 use Rattle.tape_frames.proofs.Writes.{put_written}
 use Rattle.tape_frames.proofs.writing.put.Goals as goal
 

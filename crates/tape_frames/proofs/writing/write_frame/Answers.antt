@@ -1,4 +1,4 @@
-use Rattle.std.proofs.Common.{rules, ◌≡◌, ℕ, ◌+◌, ◌<◌, ◌≤◌, List, [], ◌++◌, length, map, get_or, subst, sym, refl, ap, ◌∙◌, arith}
+use Rattle.std.proofs.Common.{rules, ◌≡◌, ◌+◌, ◌<◌, ◌≤◌, [], ◌++◌, length, map, get_or, subst, sym, refl, ap, ◌∙◌, arith}
 use Rattle.std.specs.List.{flat_map}
 use Rattle.std.proofs.lemmas.List.{get_or-map, length-map}
 use Rattle.tape_frames.specs.declared.item.Item.TheVariants as items
@@ -6,7 +6,7 @@ use Rattle.tape_frames.specs.Fields.{Field, Number, spelled, padded}
 use Rattle.tape_frames.specs.Items.{field_of, IsShort}
 use Rattle.tape_frames.specs.Rows.{row, head}
 use Rattle.tape_frames.proofs.Forms.{follows_room, follows_short, row_room}
-use Rattle.tape_frames.proofs.Writes.{Written, written_none, written_room, written_more, written_all}
+use Rattle.tape_frames.proofs.Writes.{written_none, written_room, written_more, written_all}
 use Rattle.tape_frames.proofs.writing.write_frame.Goals as goal
 
 pub loop-item-init : goal.loop-item-init

@@ -1,4 +1,4 @@
-use Rattle.std.proofs.Common.{rules, ◌≡◌, ◌<◌, ◌≤◌, length, get_or, ℕ, arith, refl, ◌∙◌, ap}
+use Rattle.std.proofs.Common.{rules, ◌≡◌, ◌≤◌, length, arith, refl}
 use Rattle.tape_frames.specs.Layouts.{IsData}
 use Rattle.tape_frames.proofs.data.Data.new.Goals as goal
 

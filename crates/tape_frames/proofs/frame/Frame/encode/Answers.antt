@@ -1,4 +1,4 @@
-use Rattle.std.proofs.Common.{◌≡◌, ◌∙◌, ap, sym}
+use Rattle.std.proofs.Common.{◌∙◌, ap, sym}
 use Rattle.tape_frames.specs.Frames.{spelling}
 use Rattle.tape_frames.proofs.frame.Frame.encode.Goals as goal
 

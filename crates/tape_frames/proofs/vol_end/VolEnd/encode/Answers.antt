@@ -1,4 +1,4 @@
-use Rattle.std.proofs.Common.{◌≡◌, ◌∙◌, ap}
+use Rattle.std.proofs.Common.{◌∙◌, ap}
 use Rattle.tape_frames.specs.declared.row.Kind.TheVariants as kinds
 use Rattle.tape_frames.specs.declared.vol_end.VolEndFields.{VolEndFields}
 use Rattle.tape_frames.specs.Blocks.{block_of}
