@@ -1,2 +1,5 @@
 pub mod Fails
+mod LevelLaws
+pub mod LevelParts
+mod PatternRows
 mod WordLaws

@@ -1,9 +1,9 @@
 -- Words byte by byte.
-use Rattle.std.proofs.Common.{zero, suc, ◌≡◌, ◌≢◌, ℕ, ◌+◌, ◌<◌, ◌≤◌, List, [], ◌∷◌, ◌++◌, length, take, drop, get_or, refl, sym, ◌∙◌, ap, subst, arith, length-append}
-use Rattle.std.proofs.lemmas.List.{take-append-drop, take_all, append-nil, length-take-le, get_or-take, get_or_append_left, take_more}
+use Rattle.std.proofs.Common.{zero, suc, ◌≡◌, ℕ, ◌+◌, ◌<◌, ◌≤◌, List, [], ◌∷◌, ◌++◌, length, take, get_or, refl, sym, ◌∙◌, subst, arith, length-append}
+use Rattle.std.proofs.lemmas.List.{take_all, length-take-le, get_or-take, get_or_append_left}
 use Rattle.std.proofs.lemmas.List.Elements.{All-get_or, All-more, All-cons, All-nil}
 use Rattle.bk_text.specs.Places.{Begun, FailsAt}
-use Rattle.bk_text.specs.Alphabets.{IsNameByte, IsWord}
+use Rattle.bk_text.specs.Alphabets.{IsNameByte}
 use Rattle.bk_text.specs.Words.{Allowed, AllowedFirst, IsWordOf, MayStand}
 use Rattle.bk_text.specs.declared.words.Alphabet.{Alphabet}
 use Rattle.bk_text.specs.declared.words.Alphabet.TheVariants.{Plain, NoPeriod, AnyFirst}

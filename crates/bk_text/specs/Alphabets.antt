@@ -1,5 +1,5 @@
 -- The forms of names: 1 to so many bytes of an alphabet.
-use Rattle.std.specs.Prelude.{◌≡◌, ◌≢◌, ℕ, ◌<◌, ◌≤◌, List, length, All, slice_index, ⊤}
+use Rattle.std.specs.Prelude.{◌≢◌, ℕ, ◌<◌, ◌≤◌, List, length, All, slice_index, ⊤}
 
 -- a byte of a name: 33 to 126 without '/'
 abbrev pub IsNameByte : ℕ → Type 0

@@ -1,5 +1,5 @@
 -- Where a text stops being of a form.
-use Rattle.std.specs.Prelude.{◌≡◌, ℕ, ◌+◌, ◌<◌, ◌≤◌, List, ◌++◌, length, take}
+use Rattle.std.specs.Prelude.{ℕ, ◌+◌, ◌<◌, ◌≤◌, List, ◌++◌, length, take}
 
 -- some text of the form begins with these bytes
 abbrev pub Begun : (List ℕ → Type 0) → List ℕ → Type 0

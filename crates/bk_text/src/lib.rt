@@ -5,6 +5,7 @@
 mod cursor;
 mod expiry;
 mod host;
+mod level_path;
 mod list;
 mod name;
 mod out;
@@ -17,6 +18,7 @@ mod words;
 pub use cursor::{Cursor, Short};
 pub use expiry::Expiry;
 pub use host::Host;
+pub use level_path::LevelPath;
 pub use list::{Bytes, List};
 pub use name::Name;
 pub use out::Out;
@@ -24,3 +26,6 @@ pub use part::Part;
 pub use set_name::SetName;
 pub use tape_name::TapeName;
 pub use texts::TextFault;
+
+#[cfg(test)]
+mod tests;

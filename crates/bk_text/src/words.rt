@@ -15,7 +15,7 @@ pub enum Alphabet {
     AnyFirst,
 }
 
-fn is_allowed(alphabet: Alphabet, byte: u8) -> bool
+pub fn is_allowed(alphabet: Alphabet, byte: u8) -> bool
     ensures { IsTrue result ↔ Allowed alphabet byte }
 {
     let plain = 32 < byte && byte < 127 && byte != b'/';

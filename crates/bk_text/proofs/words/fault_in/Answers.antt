@@ -1,7 +1,7 @@
-use Rattle.std.proofs.Common.{ℕ, ◌∙◌, ◌<◌, ◌≡◌, ◌≤◌, length, subst, arith, sym}
+use Rattle.std.proofs.Common.{ℕ, ◌∙◌, ◌<◌, ◌≡◌, length, subst, arith, sym}
 use Rattle.std.proofs.lemmas.List.Elements.{All-nil}
 use Rattle.std.proofs.lemmas.Bool.{eqb-true, eqb-false, false≢true}
-use Rattle.bk_text.specs.Words.{Allowed, MayStand}
+use Rattle.bk_text.specs.Words.{Allowed}
 use Rattle.bk_text.proofs.WordLaws.{Goes, goes_more, word_fails, word_whole, nothing_fails}
 use Rattle.bk_text.proofs.words.fault_in.Goals as goal
 

@@ -1,0 +1,24 @@
+use Rattle.std.proofs.Common.{ℕ, ◌≡◌, ◌++◌, ◌≤◌, ◌+◌, length, take, drop, refl, sym, ◌∙◌, arith}
+use Rattle.backup_cli.proofs.TellLaws.{TellingAt, more_told, part_told, rest_length}
+use Rattle.backup_cli.proofs.telling.tell_all.Goals as goal
+
+pub loop-at-preserved : goal.loop-at-preserved
+loop-at-preserved g c =
+    let so_far = c.loop-at.invariant.0 in
+    let only = c.loop-at.invariant.1 in
+    (record {
+      within = omega (arith, c.in-Ok.ensures.front, rest_length c.loop-at.at c.args.piece.now, so_far.within);
+      told = λ told. more_told c.loop-at.at c.in-Ok.count c.args.piece.now _ _ _ (so_far.told told) (c.in-Ok.ensures.told told);
+    }, record {
+      files = λ told. c.in-Ok.ensures.files told ∙ only.files told;
+      same_count = c.in-Ok.ensures.count ∙ only.same_count;
+      same_present = c.in-Ok.ensures.present ∙ only.same_present;
+      faults_stay = omega (arith, c.in-Ok.ensures.faults, only.faults_stay);
+      tell_faults_stay = omega (arith, c.in-Ok.ensures.cause.later, only.tell_faults_stay);
+    })
+
+pub returns-in-Err-clause-told : goal.returns-in-Err-clause-told
+returns-in-Err-clause-told g c = λ told. record {
+  ok = tt;
+  err = part_told c.loop-at.at c.args.piece.now _ _ _ (c.loop-at.invariant.0.told told) (c.in-Err.ensures.part told);
+}

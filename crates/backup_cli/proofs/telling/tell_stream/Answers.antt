@@ -1,0 +1,30 @@
+use Rattle.std.proofs.Common.{◌≡◌, ◌++◌, refl, sym, ◌∙◌, ap, subst, List}
+use Rattle.std.specs.List.{flat_map}
+use Rattle.vnode_model.specs.declared.increments.IncrementFields.{IncrementFields}
+use Rattle.vnode_model.specs.declared.increments.Entry.{Entry}
+use Rattle.backup_cli.specs.Tells.{ToldFront}
+use Rattle.backup_cli.specs.Replies.{entry_line, volume_line}
+use Rattle.backup_cli.proofs.TellLaws.{first_told, second_told, both_told}
+use Rattle.backup_cli.proofs.telling.tell_stream.Goals as goal
+
+pub returns-in-Err-clause-told : goal.returns-in-Err-clause-told
+returns-in-Err-clause-told g c = λ told. record {
+  ok = tt;
+  err = first_told (volume_line c.args.increment.now) (flat_map entry_line c.args.increment.now.entries) _ _ (c.in-Err.ensures.told _ c.line_of_volume.ensures told).err;
+}
+
+pub returns-in-Err-tell_entries-clause-told : goal.returns-in-Err-tell_entries-clause-told
+returns-in-Err-tell_entries-clause-told g c = λ told. record {
+  ok = tt;
+  err = second_told (volume_line c.args.increment.now) (flat_map entry_line c.args.increment.now.entries) _ _ _ (c.in-Ok.ensures.told _ c.line_of_volume.ensures told).ok
+      (let same : c.as_slice.result.now ≡ c.args.increment.now.entries = c.as_slice.ensures ∙ ap (λ (f : IncrementFields). f.entries) c.fields.ensures.value in
+       subst (λ (es : List Entry). ToldFront (flat_map entry_line es) (g.M.Media.seen c.tell_line.new.media).told (g.M.Media.seen c.tell_entries.new.media).told) same (c.in-Err-tell_entries.ensures.told told).err);
+}
+
+pub returns-in-Ok-tell_entries-clause-told : goal.returns-in-Ok-tell_entries-clause-told
+returns-in-Ok-tell_entries-clause-told g c = λ told. record {
+  ok = both_told (volume_line c.args.increment.now) (flat_map entry_line c.args.increment.now.entries) _ _ _ (c.in-Ok.ensures.told _ c.line_of_volume.ensures told).ok
+      (let same : c.as_slice.result.now ≡ c.args.increment.now.entries = c.as_slice.ensures ∙ ap (λ (f : IncrementFields). f.entries) c.fields.ensures.value in
+       (c.in-Ok-tell_entries.ensures.told told).ok ∙ ap (λ (es : List Entry). (g.M.Media.seen c.tell_line.new.media).told ++ flat_map entry_line es) same);
+  err = tt;
+}

@@ -1,0 +1,19 @@
+-- What an input is, read as one whole stream.
+use Rattle.std.specs.Prelude.{◌≡◌, ◌⊎◌, ℕ, ◌<◌, List, take}
+use Rattle.std.specs.Prelude.{length as count}
+use Rattle.vnode_model.specs.declared.increments.Increment.{Increment}
+use Rattle.dump_stream.specs.Stream.{Spells}
+use Rattle.dump_stream.specs.Reads.{IsCut, IsBad}
+use Rattle.backup_cli.specs.declared.examined.Examined.{Examined}
+use Rattle.backup_cli.specs.declared.examined.Examined.TheVariants.{Stream, Cut, Bad}
+
+-- a stream of so many bytes with bytes after it
+abbrev pub IsFollowed : List ℕ → ℕ → Type 0
+IsFollowed bytes at = (at < count bytes) × (i : Increment) × Spells (take at bytes) i
+
+-- The bytes are one stream; or a proper prefix of one, told with its length; or they stop being one at a place, which
+-- is the length of a stream where bytes follow it.
+abbrev pub IsExamined : List ℕ → Examined → Type 0
+IsExamined bytes (Stream i) = Spells bytes i
+IsExamined bytes (Cut length) = IsCut bytes × (length ≡ count bytes)
+IsExamined bytes (Bad at) = IsBad bytes at ⊎ IsFollowed bytes at

@@ -1,0 +1,25 @@
+-- What telling pieces to a media leaves of it.
+use Rattle.std.specs.Prelude.{◌≡◌, ℕ, ◌≤◌, Bool, List, [], ◌∷◌, ◌++◌, Result, OnOk, OnErr}
+use Rattle.crash_moments.specs.Moments.{Rose}
+use Rattle.media_core.specs.Media.{Image}
+
+-- the first bytes of others
+abbrev pub Heads : List ℕ → List ℕ → Type 0
+Heads front whole = (rest : List ℕ) × (whole ≡ front ++ rest)
+
+-- a front of these lines was told
+abbrev pub ToldFront : List ℕ → List ℕ → List ℕ → Type 0
+ToldFront lines old new = (front : List ℕ) × Heads front lines × (new ≡ old ++ front)
+
+-- the lines were told, or a front of them where a call failed
+pub record ToldLines {T E : Type 0} (lines old new : List ℕ) (result : Result T E) : Type 0 where
+  pub ok : OnOk result (new ≡ old ++ lines)
+  pub err : OnErr result (ToldFront lines old new)
+
+-- the files stay as they are, and no count of faults falls
+pub record OnlyTells {D : Type 0} (tells : Type 0) (seen : D → Image) (count : D → ℕ) (present : D → ℕ → Bool) (faults tell_faults : D → ℕ) (old new : D) : Type 0 where
+  pub files : tells → (seen new).file ≡ (seen old).file
+  pub same_count : count new ≡ count old
+  pub same_present : present new ≡ present old
+  pub faults_stay : faults old ≤ faults new
+  pub tell_faults_stay : tell_faults old ≤ tell_faults new

@@ -1,0 +1,208 @@
+//! Reading from one field to the next: what may come, and where reading stands after it.
+
+ghost use Rattle.std.specs.Prelude.{◌≡◌, [], IfOk, IsSome};
+ghost use Rattle.dump_stream.specs.Forms.{number_from};
+ghost use Rattle.dump_stream.specs.Fields.{AreFields};
+ghost use Rattle.dump_stream.specs.Stream.{header_table};
+ghost use Rattle.dump_stream.specs.Machine.{form_at, after, with_field, with_entry, begun};
+ghost use Rattle.dump_stream.specs.Sound.{IsSound, IsNameThere};
+
+use crate::fields::{data_of, has_tag, is_used, typed};
+use crate::form::Form;
+use crate::judge::number_at;
+use crate::records::{dump_from, entry_from, header_from};
+use crate::sofar::{DumpHead, Field, Sofar};
+use crate::tables::{dump_form, header_form, vnode_form};
+use bk_text::{Bytes, List};
+use std::alloc::{AllocError, Global};
+use vnode_model::{Entry, IncrementFields};
+
+/// The form behind a tag, where the tag may come.
+pub fn form_of(sofar: &Sofar, tag: u8) -> Option<Form>
+    ensures { result ≡ form_at sofar.now tag }
+{
+    match sofar {
+        Sofar::Start => (tag == 1).then_some(Form::Opening),
+        Sofar::Dump { fields } => {
+            let fields = fields.as_slice();
+            if tag == 2 {
+                has_tag(fields, b'n').then_some(Form::Exact(0))
+            } else if is_used(fields, tag) {
+                None
+            } else {
+                dump_form(tag)
+            }
+        }
+        Sofar::Volume { fields, .. } => {
+            let fields = fields.as_slice();
+            if tag == 3 {
+                has_tag(fields, b'n').then_some(Form::Vnode { last: 0 })
+            } else if tag == 4 {
+                has_tag(fields, b'n').then_some(Form::Closing)
+            } else if is_used(fields, tag) {
+                None
+            } else {
+                header_form(tag)
+            }
+        }
+        Sofar::Vnode {
+            made,
+            room,
+            number,
+            fields,
+            ..
+        } => {
+            let fields = fields.as_slice();
+            if tag == 3 {
+                (typed(fields) && made.entries.as_slice().len() + 1 < 65_536).then_some(
+                    Form::Vnode { last: *number },
+                )
+            } else if tag == 4 {
+                typed(fields).then_some(Form::Closing)
+            } else if is_used(fields, tag) {
+                None
+            } else {
+                vnode_form(*number, *room, tag)
+            }
+        }
+        Sofar::Ended { .. } => None,
+    }
+}
+
+fn with(mut fields: List<Field>, tag: u8, payload: Bytes) -> Result<List<Field>, AllocError>
+    ensures { IfOk result (λ all. all ≡ with_field fields tag payload) }
+{
+    fields.push(Field { tag, payload })?;
+    Ok(fields)
+}
+
+fn begin(alloc: Global, dump: DumpHead, fields: &[Field]) -> Result<IncrementFields, AllocError>
+    requires listed { AreFields header_table [] fields.now }
+    requires named { IsNameThere fields.now }
+    ensures { IfOk result (λ made. made ≡ begun dump fields.now) }
+{
+    let header = header_from(alloc, fields)?;
+    Ok(IncrementFields {
+        dump_id: dump.id,
+        dump_name: dump.name,
+        from: dump.from,
+        to: dump.to,
+        header,
+        entries: List::new(alloc),
+    })
+}
+
+fn add_entry(mut made: IncrementFields, entry: Entry) -> Result<IncrementFields, AllocError>
+    ensures { IfOk result (λ more. more ≡ with_entry made entry) }
+{
+    made.entries.push(entry)?;
+    Ok(made)
+}
+
+fn vnode_begun(alloc: Global, made: IncrementFields, room: usize, head: &[u8]) -> Sofar
+    ensures { result ≡ Sofar.Vnode made room (number_from 0 head.now) (number_from 4 head.now) [] }
+{
+    Sofar::Vnode {
+        made,
+        room,
+        number: number_at(head, 0),
+        uniq: number_at(head, 4),
+        fields: List::new(alloc),
+    }
+}
+
+fn after_dump(
+    alloc: Global,
+    fields: List<Field>,
+    tag: u8,
+    payload: Bytes,
+) -> Result<Sofar, AllocError>
+    requires comes { IsSome (form_at (Sofar.Dump fields) tag) }
+    requires sound { IsSound (Sofar.Dump fields) }
+    ensures { IfOk result (λ next. next ≡ after (Sofar.Dump fields) tag payload) }
+{
+    if tag == 2 {
+        let dump = dump_from(alloc, fields.as_slice())?;
+        Ok(Sofar::Volume {
+            dump,
+            fields: List::new(alloc),
+        })
+    } else {
+        Ok(Sofar::Dump {
+            fields: with(fields, tag, payload)?,
+        })
+    }
+}
+
+fn after_volume(
+    alloc: Global,
+    dump: DumpHead,
+    fields: List<Field>,
+    tag: u8,
+    payload: Bytes,
+) -> Result<Sofar, AllocError>
+    requires comes { IsSome (form_at (Sofar.Volume dump fields) tag) }
+    requires sound { IsSound (Sofar.Volume dump fields) }
+    ensures { IfOk result (λ next. next ≡ after (Sofar.Volume dump fields) tag payload) }
+{
+    if tag == 3 {
+        let made = begin(alloc, dump, fields.as_slice())?;
+        Ok(vnode_begun(alloc, made, 268_435_456, payload.as_slice()))
+    } else if tag == 4 {
+        let made = begin(alloc, dump, fields.as_slice())?;
+        Ok(Sofar::Ended { made })
+    } else {
+        Ok(Sofar::Volume {
+            dump,
+            fields: with(fields, tag, payload)?,
+        })
+    }
+}
+
+/// Where reading stands after a field.
+pub fn stand_after(
+    sofar: Sofar,
+    alloc: Global,
+    tag: u8,
+    payload: Bytes,
+) -> Result<Sofar, AllocError>
+    requires sound { IsSound sofar }
+    requires comes { IsSome (form_at sofar tag) }
+    ensures { IfOk result (λ next. next ≡ after sofar tag payload) }
+{
+    match sofar {
+        Sofar::Start => Ok(Sofar::Dump {
+            fields: List::new(alloc),
+        }),
+        Sofar::Dump { fields } => after_dump(alloc, fields, tag, payload),
+        Sofar::Volume { dump, fields } => after_volume(alloc, dump, fields, tag, payload),
+        Sofar::Vnode {
+            made,
+            room,
+            number,
+            uniq,
+            fields,
+        } => {
+            if tag == 3 {
+                let entry = entry_from(alloc, number, uniq, fields.as_slice())?;
+                let room = room.saturating_sub(data_of(fields.as_slice()).len());
+                let made = add_entry(made, entry)?;
+                Ok(vnode_begun(alloc, made, room, payload.as_slice()))
+            } else if tag == 4 {
+                let entry = entry_from(alloc, number, uniq, fields.as_slice())?;
+                Ok(Sofar::Ended {
+                    made: add_entry(made, entry)?,
+                })
+            } else {
+                Ok(Sofar::Vnode {
+                    made,
+                    room,
+                    number,
+                    uniq,
+                    fields: with(fields, tag, payload)?,
+                })
+            }
+        }
+        Sofar::Ended { made } => Ok(Sofar::Ended { made }),
+    }
+}

@@ -1,0 +1,6 @@
+mod DiskModel
+mod Emptying
+mod Files
+mod Fill
+mod Memory
+mod Tracking

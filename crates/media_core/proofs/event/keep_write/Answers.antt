@@ -1,0 +1,7 @@
+use Rattle.std.proofs.Common.{◌≡◌, rules}
+use Rattle.media_core.proofs.event.keep_write.Goals as goal
+
+pub returns-in-Ok-clause-past : goal.returns-in-Ok-clause-past
+returns-in-Ok-clause-past c =
+    let same : c.in_ok-bytes.bytes.items ≡ c.args.from.now = search rules in
+    record { kept = c.in_ok-bytes.bytes; is = same; more = c.in_ok-push.ensures.items }

@@ -1,0 +1,18 @@
+use Rattle.std.proofs.Common.{◌≢◌, sym, ◌∙◌, arith}
+use Rattle.media_core.proofs.Emptying.{emptied_shown}
+use Rattle.media_core.proofs.mem.MemMedia.empty_journal.Goals as goal
+
+pub invariant_of-self-clause-files_kept : goal.invariant_of-self-clause-files_kept
+invariant_of-self-clause-files_kept c =
+    let m = c.args.self.now in
+    emptied_shown m.files.items c.empty_first.new.files.items m.past.items c.empty_in_all.new.past.items m.files_kept c.empty_first.ensures.first c.empty_first.ensures.others c.empty_in_all.ensures
+
+pub invariant_of-self-clause-told_kept : goal.invariant_of-self-clause-told_kept
+invariant_of-self-clause-told_kept c = c.args.self.now.told_kept ∙ sym c.empty_in_all.ensures.told
+
+pub invariant_of-self-clause-absent : goal.invariant_of-self-clause-absent
+invariant_of-self-clause-absent c = λ k bytes past left.
+    let m = c.args.self.now in
+    let some = m.some_files in
+    let ne : k ≢ 0 = λ is. absurd (omega (arith, is, past, some)) in
+    m.absent k bytes past (((c.empty_in_all.ensures.others k ne).left bytes).0 left)

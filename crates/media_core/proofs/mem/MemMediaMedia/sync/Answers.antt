@@ -1,0 +1,25 @@
+use Rattle.std.proofs.Common.{◌≡◌, length, sym, ◌∙◌, ap}
+use Rattle.media_core.specs.Events.{seen_after}
+use Rattle.media_core.proofs.Memory.{sync_leads, sync_keeps, sync_shows, sync_absent}
+use Rattle.media_core.proofs.mem.MemMediaMedia.sync.Goals as goal
+
+pub invariant_of-self-in-Ok-clause-files_kept : goal.invariant_of-self-in-Ok-clause-files_kept
+invariant_of-self-in-Ok-clause-files_kept c = λ k.
+    let m = c.args.self.now in
+    let shows : seen_after c.keep_sync.new.past.items ≡ seen_after m.past.items = ap seen_after c.in-Ok.ensures.ok ∙ sync_shows m.past.items c.args.f in
+    m.files_kept k ∙ sym (ap (λ s. s.file k) shows)
+
+pub invariant_of-self-in-Ok-clause-told_kept : goal.invariant_of-self-in-Ok-clause-told_kept
+invariant_of-self-in-Ok-clause-told_kept c =
+    let m = c.args.self.now in
+    let shows : seen_after c.keep_sync.new.past.items ≡ seen_after m.past.items = ap seen_after c.in-Ok.ensures.ok ∙ sync_shows m.past.items c.args.f in
+    m.told_kept ∙ sym (ap (λ s. s.told) shows)
+
+pub invariant_of-self-in-Ok-clause-absent : goal.invariant_of-self-in-Ok-clause-absent
+invariant_of-self-in-Ok-clause-absent c = sync_absent (length c.args.self.now.away.items) c.args.self.now.past.items _ _ c.args.self.now.absent c.in-Ok.ensures.ok
+
+pub returns-in-Ok-clause-durable : goal.returns-in-Ok-clause-durable
+returns-in-Ok-clause-durable c = sync_keeps c.args.self.now.past.items _ c.args.f c.in-Ok.ensures.ok
+
+pub returns-in-Ok-clause-crash : goal.returns-in-Ok-clause-crash
+returns-in-Ok-clause-crash c = sync_leads c.args.self.now _ c.args.f c.in-Ok.ensures.ok

@@ -1,0 +1,12 @@
+pub mod ClockMem
+pub mod Disk
+pub mod Emptied
+pub mod Events
+pub mod Files
+pub mod Kept
+pub mod Later
+pub mod Media
+pub mod Model
+pub mod Plan
+pub mod Source
+pub mod Tracks

@@ -1,0 +1,62 @@
+-- Numbered files and one output, and what the calls of a media do to them.
+use Rattle.std.specs.Prelude.{◌≡◌, ◌≢◌, ◌⊎◌, ℕ, ◌+◌, ◌≤◌, max, List, [], ◌++◌, length, take, drop, Result, Ok, Err}
+
+-- the bytes of each file, and what was told
+pub record Image : Type 0 where
+  pub file : ℕ → List ℕ
+  pub told : List ℕ
+
+-- a file with these bytes at this offset
+abbrev pub written : ℕ → List ℕ → List ℕ → List ℕ
+written at bytes old = take at old ++ bytes ++ drop (at + length bytes) old
+
+abbrev pub Holds : ℕ → List ℕ → List ℕ → List ℕ → Type 0
+Holds at bytes old new = new ≡ written at bytes old
+
+-- after a write of n bytes that a crash cuts short: any bytes in the range and past the old end, the same elsewhere
+pub record Torn (at n : ℕ) (old new : List ℕ) : Type 0 where
+  pub before : take at new ≡ take at old
+  pub after : drop (at + n) new ≡ drop (at + n) old
+  pub no_shorter : length old ≤ length new
+  pub no_longer : length new ≤ max (length old) (at + n)
+
+-- one file changes so, and nothing else
+pub record AtFile (f : ℕ) (Change : List ℕ → List ℕ → Type 0) (old new : Image) : Type 0 where
+  pub here : Change (old.file f) (new.file f)
+  pub others : (k : ℕ) → k ≢ f → new.file k ≡ old.file k
+  pub told : new.told ≡ old.told
+
+-- nothing changes
+abbrev pub Same : Image → Image → Type 0
+Same old new = new ≡ old
+
+-- the files stay, and the output has a front of a piece more, once it has all that was taken
+pub record Tells (taken piece : List ℕ) (old new : Image) : Type 0 where
+  pub files : (k : ℕ) → new.file k ≡ old.file k
+  pub told : (new.told ≡ old.told) ⊎ ((old.told ≡ taken) × ((n : ℕ) × (new.told ≡ taken ++ take n piece)))
+
+-- a front of a list
+abbrev pub IsFront : List ℕ → List ℕ → Type 0
+IsFront front whole = (n : ℕ) × (front ≡ take n whole)
+
+-- a list with more behind it
+abbrev pub Extends : List ℕ → List ℕ → Type 0
+Extends old new = (more : List ℕ) × (new ≡ old ++ more)
+
+-- a front of a piece more was told
+abbrev pub ToldPart : List ℕ → List ℕ → List ℕ → Type 0
+ToldPart piece old new = (n : ℕ) × (new ≡ old ++ take n piece)
+
+-- what of a piece was in progress: what was taken of it, or all of it where the call failed
+abbrev pub in_progress : {E : Type 0} → Result ℕ E → List ℕ → List ℕ
+in_progress (Ok n) piece = take n piece
+in_progress (Err e) piece = piece
+
+-- how much of a piece was taken: nothing where the call failed
+abbrev pub taken_by : {E : Type 0} → Result ℕ E → ℕ
+taken_by (Ok n) = n
+taken_by (Err e) = 0
+
+-- empty files, and nothing told
+abbrev pub nothing : Image
+nothing = record { file = λ k. []; told = [] }

@@ -1,0 +1,34 @@
+-- What a line of a configuration says.
+use Rattle.std.specs.Prelude.{ℕ, List, [], ◌∷◌, Bool, ◌==◌, slice_index, if◌then◌else◌, Option, Some, None}
+use Rattle.tape_config.specs.declared.line.Line.{Line}
+use Rattle.tape_config.specs.declared.line.Line.TheVariants.{Skipped, Device, NameCheck}
+use Rattle.tape_config.specs.Numbers.{plain_of, size_of, capacity_of}
+use Rattle.tape_config.specs.Words.{words_of, slots_of, switch_of, is_same_word, name_check_word}
+
+-- a port offset: 0 to 58510
+abbrev pub offset_of : List ℕ → Option ℕ
+offset_of word = plain_of 58510 word
+
+-- a device line, where each of its words is one
+abbrev pub device_line : Option ℕ → Option ℕ → Option (ℕ × ℕ) → Option ℕ → Option Line
+device_line (Some capacity) (Some filemark) (Some slots) (Some offset) =
+    Some (Device (record { offset = offset; capacity = capacity_of capacity; filemark = filemark; first = slots.0; last = slots.1 }))
+device_line _ _ _ _ = None
+
+-- a line on name checking
+abbrev pub check_line : Option Bool → Option ℕ → Option Line
+check_line (Some on) (Some offset) = Some (NameCheck offset on)
+check_line _ _ = None
+
+-- A line has two words, with both sizes absent, or four, or three on name checking.
+abbrev pub words_say : List (List ℕ) → Option Line
+words_say [] = Some Skipped
+words_say (one ∷ []) = None
+words_say (device ∷ offset ∷ []) = device_line (Some 0) (Some 0) (slots_of device) (offset_of offset)
+words_say (name ∷ switch ∷ offset ∷ []) = if is_same_word name name_check_word then check_line (switch_of switch) (offset_of offset) else None
+words_say (capacity ∷ filemark ∷ device ∷ offset ∷ []) = device_line (size_of capacity) (size_of filemark) (slots_of device) (offset_of offset)
+words_say (_ ∷ _ ∷ _ ∷ _ ∷ _ ∷ _) = None
+
+-- what a line says, if it is none but skipped where it has no words or begins with '#'
+abbrev pub line_says : List ℕ → Option Line
+line_says line = if slice_index line 0 == 35 then Some Skipped else words_say (words_of line)

@@ -1,0 +1,51 @@
+-- The words of a configuration line.
+use Rattle.std.specs.Prelude.{ℕ, List, [], ◌∷◌, length, drop, map, Bool, ◌||◌, ◌==◌, nat_eq, nat_lt, nat_le, if◌then◌else◌, Option, Some, None, true, false}
+use Rattle.std.specs.List.{filter, slice_split, starts_with, before_first, after_first}
+use Rattle.std.specs.Cmp.Lexicographic.{pointwise}
+use Rattle.std.specs.Char.{to_ascii_lowercase}
+use Rattle.tape_config.specs.Numbers.{plain_of}
+
+-- a space or a tab
+abbrev pub is_blank : ℕ → Bool
+is_blank b = (b == 32) || (b == 9)
+
+-- the words of a line: the pieces between spaces and tabs that have a byte
+abbrev pub words_of : List ℕ → List (List ℕ)
+words_of line = filter (λ word. nat_lt 0 (length word)) (slice_split is_blank line)
+
+-- a word in either case
+abbrev pub is_same_word : List ℕ → List ℕ → Bool
+is_same_word word known = pointwise nat_eq (map to_ascii_lowercase word) known
+
+-- "name_check", "yes" and "no"
+abbrev pub name_check_word : List ℕ
+name_check_word = 110 ∷ 97 ∷ 109 ∷ 101 ∷ 95 ∷ 99 ∷ 104 ∷ 101 ∷ 99 ∷ 107 ∷ []
+
+abbrev pub yes_word : List ℕ
+yes_word = 121 ∷ 101 ∷ 115 ∷ []
+
+abbrev pub no_word : List ℕ
+no_word = 110 ∷ 111 ∷ []
+
+-- yes or no
+abbrev pub switch_of : List ℕ → Option Bool
+switch_of word = if is_same_word word yes_word then Some true else if is_same_word word no_word then Some false else None
+
+-- two slots, of which the second isn't below the first
+abbrev pub in_order : Option ℕ → Option ℕ → Option (ℕ × ℕ)
+in_order (Some first) (Some last) = if nat_le first last then Some (first, last) else None
+in_order _ _ = None
+
+-- "slots:", in front of the slots of a device
+abbrev pub slots_word : List ℕ
+slots_word = 115 ∷ 108 ∷ 111 ∷ 116 ∷ 115 ∷ 58 ∷ []
+
+abbrev pub is_dash : ℕ → Bool
+is_dash b = b == 45
+
+-- the slots of a device: slots:a-b
+abbrev pub slots_of : List ℕ → Option (ℕ × ℕ)
+slots_of word =
+    if starts_with nat_eq word slots_word
+    then in_order (plain_of 65535 (before_first is_dash (drop 6 word))) (plain_of 65535 (after_first is_dash (drop 6 word)))
+    else None

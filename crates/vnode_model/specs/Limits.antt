@@ -1,0 +1,71 @@
+-- The order, the parity and the limits of a volume's vnodes and of an increment's entries.
+use Rattle.std.specs.Prelude.{◌≡◌, ◌⊎◌, ⊤, ℕ, ◌%◌, ◌<◌, ◌≤◌, List, length, map, replicate, sum_by, All, AllPairs}
+use Rattle.vnode_model.specs.declared.vnodes.VnodeKind.{VnodeKind}
+use Rattle.vnode_model.specs.declared.vnodes.VnodeKind.TheVariants.{File, Directory, Symlink}
+use Rattle.vnode_model.specs.declared.vnodes.Vnode.{Vnode}
+use Rattle.vnode_model.specs.declared.increments.Entry.{Entry}
+use Rattle.vnode_model.specs.declared.increments.Entry.TheVariants.{Whole, Kept}
+
+-- ---- parity: directories have odd numbers, files and symbolic links even ones
+
+abbrev pub IsOdd : ℕ → Type 0
+IsOdd n = n % 2 ≡ 1
+
+abbrev pub IsEven : ℕ → Type 0
+IsEven n = n % 2 ≡ 0
+
+abbrev pub KindFits : VnodeKind → ℕ → Type 0
+KindFits File n = IsEven n
+KindFits Directory n = IsOdd n
+KindFits Symlink n = IsEven n
+
+-- ---- order: directories come first, each class in ascending order
+
+abbrev pub StandsBefore : ℕ → ℕ → Type 0
+StandsBefore m n = (IsOdd m × IsEven n) ⊎ ((m % 2 ≡ n % 2) × (m < n))
+
+-- ---- limits
+
+-- the vnodes of a volume, the bytes of one vnode's data, and those of all of them
+abbrev pub most_vnodes : ℕ
+most_vnodes = 65536
+
+abbrev pub most_data : ℕ
+most_data = 16777216
+
+abbrev pub all_data : ℕ
+all_data = 268435456
+
+-- only a directory has an access list other than zeros
+abbrev pub AccessFits : VnodeKind → List ℕ → Type 0
+AccessFits File access = access ≡ replicate 192 0
+AccessFits Directory access = ⊤
+AccessFits Symlink access = access ≡ replicate 192 0
+
+-- ---- entries, and a volume's vnodes as whole ones
+
+pub record IsFitVnode (v : Vnode) : Type 0 where
+  pub kind : KindFits v.kind v.number
+  pub access : AccessFits v.kind v.access
+  pub body : length v.body ≤ most_data
+
+abbrev pub IsFit : Entry → Type 0
+IsFit (Whole v) = IsFitVnode v
+IsFit (Kept number uniq) = ⊤
+
+abbrev pub number_of : Entry → ℕ
+number_of (Whole v) = v.number
+number_of (Kept number uniq) = number
+
+abbrev pub data_len : Entry → ℕ
+data_len (Whole v) = length v.body
+data_len (Kept number uniq) = 0
+
+-- Entries that have the order, the parity and the limits. They break them first at the least place such that the
+-- entries up to it, with it, are not fit.
+pub record AreFit (entries : List Entry) : Type 0 where
+  pub few : length entries ≤ most_vnodes
+  pub numbered : All (λ n. 1 ≤ n) (map number_of entries)
+  pub ordered : AllPairs StandsBefore (map number_of entries)
+  pub each : All IsFit entries
+  pub small : sum_by data_len entries ≤ all_data

@@ -1,0 +1,52 @@
+//! Vnodes.
+
+ghost use Rattle.std.specs.Prelude.{◌↔◌, IsTrue};
+ghost use Rattle.vnode_model.specs.Limits.{StandsBefore};
+
+use bk_text::Bytes;
+
+/// What a vnode is.
+#[derive(Clone, Copy, Debug, PartialEq, Eq)]
+pub enum VnodeKind {
+    File,
+    Directory,
+    Symlink,
+}
+
+/// A vnode: a file, a directory or a symbolic link of a volume, with its data.
+#[derive(Debug, Drop)]
+pub struct Vnode {
+    pub number: u32,
+    /// Tells this vnode from an earlier one of its number.
+    pub uniq: u32,
+    pub kind: VnodeKind,
+    pub links: u16,
+    pub data_version: u32,
+    /// When the data was last changed, in seconds since 1970.
+    pub modified: u32,
+    pub author: u32,
+    pub owner: u32,
+    pub group: u32,
+    pub mode: u16,
+    /// The number of the directory that it stands in.
+    pub parent: u32,
+    /// When the server last changed it, in seconds since 1970.
+    pub server_modified: u32,
+    /// A directory's access list, as the server keeps it.
+    pub access: [u8; 192],
+    /// The data.
+    pub body: Bytes,
+}
+
+/// Whether a vnode of the first number may stand before one of the second: directories, which have odd numbers, come
+/// first, each class in ascending order.
+pub fn stands_before(first: u32, second: u32) -> bool
+    ensures { IsTrue result ↔ StandsBefore first second }
+{
+    let classes = (first % 2 == 1, second % 2 == 1);
+    match classes {
+        (true, false) => true,
+        (false, true) => false,
+        (true, true) | (false, false) => first < second,
+    }
+}
