@@ -8,18 +8,19 @@ use Rattle.tape_frames.specs.declared.column.Form.TheVariants as forms
 use Rattle.tape_frames.specs.declared.label.LabelFields.{LabelFields}
 use Rattle.tape_frames.specs.declared.row.Kind.{Kind}
 use Rattle.tape_frames.specs.declared.row.Kind.TheVariants as kinds
-use Rattle.tape_frames.specs.Fields.{Field, Number, Word, Blank, Raw, number, text}
+use Rattle.tape_frames.specs.Fields.{Field, Number, Word, Path, Blank, Raw, number, text}
 use Rattle.tape_frames.specs.Columns.{IsOf, IsTextOf, Follows, positive, number_at}
 use Rattle.tape_frames.specs.Rows.{row}
-use Rattle.tape_frames.specs.Layouts.{label_values, vol_head_values, data_values, vol_end_values, dump_end_values, FitsLabel, FitsVolHead, FitsData, FitsVolEnd, FitsDumpEnd, IsLabel, IsData}
+use Rattle.tape_frames.specs.Layouts.{label_values, dump_head_values, vol_head_values, data_values, vol_end_values, dump_end_values, FitsLabel, FitsDumpHead, FitsVolHead, FitsData, FitsVolEnd, FitsDumpEnd, IsLabel, IsDumpHead, IsData}
 use Rattle.tape_frames.specs.Frames.{kind_of, values}
-use Rattle.tape_frames.specs.Builds.{label_of, vol_head_of, data_of, vol_end_of, dump_end_of, frame_of, text_at}
+use Rattle.tape_frames.specs.Builds.{label_of, dump_head_of, vol_head_of, data_of, vol_end_of, dump_end_of, frame_of, text_at}
 
 -- ---- a field by its form
 
 is_number : (low high : ℕ) (f : Field) → IsOf (forms.Number low high) f → Number (number f) ≡ f
 is_number low high (Number n) is = refl
 is_number low high (Word w) is = absurd is
+is_number low high (Path w) is = absurd is
 is_number low high (Blank w) is = absurd is
 is_number low high (Raw w) is = absurd is
 
@@ -30,18 +31,28 @@ is_like false f is = is_number 1 4294967295 f is
 is_word : (name : Text) (b : Bool) (f : Field) → IsOf (forms.Word name b) f → Word (text f) ≡ f
 is_word form b (Number n) is = absurd is
 is_word form b (Word w) is = refl
+is_word form b (Path w) is = absurd is
 is_word form b (Blank w) is = absurd is
 is_word form b (Raw w) is = absurd is
+
+is_path : (f : Field) → IsOf forms.Level f → Path (text f) ≡ f
+is_path (Number n) is = absurd is
+is_path (Word w) is = absurd is
+is_path (Path w) is = refl
+is_path (Blank w) is = absurd is
+is_path (Raw w) is = absurd is
 
 is_blank : (f : Field) → IsOf forms.Blank f → Blank 12 ≡ f
 is_blank (Number n) is = absurd is
 is_blank (Word w) is = absurd is
+is_blank (Path w) is = absurd is
 is_blank (Blank n) is = ap Blank (sym is)
 is_blank (Raw w) is = absurd is
 
 is_raw : (n used : ℕ) (f : Field) → IsOf (forms.Bytes n used) f → Raw (text f) ≡ f
 is_raw n used (Number m) is = absurd is
 is_raw n used (Word w) is = absurd is
+is_raw n used (Path w) is = absurd is
 is_raw n used (Blank w) is = absurd is
 is_raw n used (Raw w) is = refl
 
@@ -101,6 +112,31 @@ data_back (a ∷ b ∷ c ∷ d ∷ e ∷ []) h =
     cc
 data_back (a ∷ b ∷ c ∷ d ∷ e ∷ f ∷ fs) h = absurd h.1.1.1.1.1
 
+pub dump_head_back : (fs : List Field) → Follows [] (row kinds.DumpHead) fs → dump_head_values (dump_head_of fs) ≡ fs
+dump_head_back [] h = absurd h
+dump_head_back (a ∷ []) h = absurd h.1
+dump_head_back (a ∷ b ∷ []) h = absurd h.1.1
+dump_head_back (a ∷ b ∷ c ∷ []) h = absurd h.1.1.1
+dump_head_back (a ∷ b ∷ c ∷ d ∷ []) h = absurd h.1.1.1.1
+dump_head_back (a ∷ b ∷ c ∷ d ∷ e ∷ []) h = absurd h.1.1.1.1.1
+dump_head_back (a ∷ b ∷ c ∷ d ∷ e ∷ f ∷ []) h = absurd h.1.1.1.1.1.1
+dump_head_back (a ∷ b ∷ c ∷ d ∷ e ∷ f ∷ i ∷ []) h = absurd h.1.1.1.1.1.1.1
+dump_head_back (a ∷ b ∷ c ∷ d ∷ e ∷ f ∷ i ∷ j ∷ []) h = absurd h.1.1.1.1.1.1.1.1
+dump_head_back (a ∷ b ∷ c ∷ d ∷ e ∷ f ∷ i ∷ j ∷ k ∷ []) h = absurd h.1.1.1.1.1.1.1.1.1
+dump_head_back (a ∷ b ∷ c ∷ d ∷ e ∷ f ∷ i ∷ j ∷ k ∷ l ∷ []) h =
+    let ea = is_number 1 4294967295 a h.0 in
+    let eb = is_number (cond (number a == 0) 0 1) (number a) b h.1.0 in
+    let ec = is_number 0 4294967295 c h.1.1.0 in
+    let ed = is_number 0 4294967295 d h.1.1.1.0 in
+    let ee = is_number 1 4294967295 e h.1.1.1.1.0 in
+    let ef = is_number 1 4294967295 f h.1.1.1.1.1.0 in
+    let ei = is_number 1 4294967295 i h.1.1.1.1.1.1.0 in
+    let ej = is_word texts.SetName false j h.1.1.1.1.1.1.1.0 in
+    let ek = is_path k h.1.1.1.1.1.1.1.1.0 in
+    let el = is_word texts.Base false l h.1.1.1.1.1.1.1.1.1.0 in
+    cc
+dump_head_back (a ∷ b ∷ c ∷ d ∷ e ∷ f ∷ i ∷ j ∷ k ∷ l ∷ m ∷ fs) h = absurd h.1.1.1.1.1.1.1.1.1.1
+
 pub vol_head_back : (fs : List Field) → Follows [] (row kinds.VolHead) fs → vol_head_values (vol_head_of fs) ≡ fs
 vol_head_back [] h = absurd h
 vol_head_back (a ∷ []) h = absurd h.1
@@ -126,6 +162,7 @@ vol_head_back (a ∷ b ∷ c ∷ d ∷ e ∷ f ∷ i ∷ j ∷ k ∷ l ∷ fs) h
 
 pub kind_back : (kind : Kind) (fs : List Field) → kind_of (frame_of kind fs) ≡ kind
 kind_back kinds.Label fs = refl
+kind_back kinds.DumpHead fs = refl
 kind_back kinds.VolHead fs = refl
 kind_back kinds.Data fs = refl
 kind_back kinds.VolEnd fs = refl
@@ -133,6 +170,7 @@ kind_back kinds.DumpEnd fs = refl
 
 pub values_back : (kind : Kind) (fs : List Field) → Follows [] (row kind) fs → values (frame_of kind fs) ≡ fs
 values_back kinds.Label fs h = label_back fs h
+values_back kinds.DumpHead fs h = dump_head_back fs h
 values_back kinds.VolHead fs h = vol_head_back fs h
 values_back kinds.Data fs h = data_back fs h
 values_back kinds.VolEnd fs h = vol_end_back fs h
@@ -164,6 +202,21 @@ label_is a h = (
 
 pub label_fits : (fs : List Field) → Follows [] (row kinds.Label) fs → IsLabel (label_of fs)
 label_fits fs h = label_is (label_of fs) (subst (Follows [] (row kinds.Label)) (sym (label_back fs h)) h)
+
+up_some : (b : Bool) (first n : ℕ) → (first == 0) ≡ b → 1 ≤ first → cond b 0 1 ≤ n → 1 ≤ n
+up_some true first n e some low = absurd (omega (arith, eqb-true first 0 e))
+up_some false first n e some low = low
+
+pub dump_head_is : (fs : List Field) → Follows [] (row kinds.DumpHead) fs → IsDumpHead (dump_head_of fs)
+dump_head_is fs h =
+    let d : FitsDumpHead (dump_head_of fs) = subst (Follows [] (row kinds.DumpHead)) (sym (dump_head_back fs h)) h in (
+      up_some (number_at fs 0 == 0) (number_at fs 0) (number_at fs 1) refl d.0.0 d.1.0.0,
+      d.1.0.1,
+      d.1.1.1.1.0.0,
+      d.1.1.1.1.1.0.0,
+      d.1.1.1.1.1.1.0.0,
+      (name_only texts.Base (text_at fs 9) d.1.1.1.1.1.1.1.1.1.0).1,
+    )
 
 pub vol_head_fits : (fs : List Field) → Follows [] (row kinds.VolHead) fs → FitsVolHead (vol_head_of fs)
 vol_head_fits fs h = subst (Follows [] (row kinds.VolHead)) (sym (vol_head_back fs h)) h

@@ -10,7 +10,7 @@ use Rattle.tape_frames.specs.declared.column.Form.{Form}
 use Rattle.tape_frames.specs.declared.column.Form.TheVariants as forms
 use Rattle.tape_frames.specs.declared.row.Kind.{Kind}
 use Rattle.tape_frames.specs.declared.row.Kind.TheVariants as kinds
-use Rattle.tape_frames.specs.Fields.{Field, Number, Word, Blank, Raw, spelled}
+use Rattle.tape_frames.specs.Fields.{Field, Number, Word, Path, Blank, Raw, spelled}
 use Rattle.tape_frames.specs.Items.{IsShort}
 use Rattle.tape_frames.specs.Columns.{IsTextOf, IsOf, form_at, number_at, positive, Follows, most, form_size, size, room}
 use Rattle.tape_frames.specs.Rows.{row}
@@ -18,12 +18,16 @@ use Rattle.tape_frames.specs.Rows.{row}
 pub text_short : (name : Text) (bytes : List ℕ) → IsTextOf name bytes → length bytes ≤ most name
 text_short texts.Name bytes is = is.short
 text_short texts.Host bytes is = is.short
+text_short texts.SetName bytes is = is.short
 text_short texts.TapeName bytes is = is.short
+text_short texts.Base bytes is = is.1
 
 most_short : (name : Text) → most name < 256
 most_short texts.Name = lit< tt
 most_short texts.Host = lit< tt
+most_short texts.SetName = lit< tt
 most_short texts.TapeName = lit< tt
+most_short texts.Base = lit< tt
 
 word_short : (form : Text) (b : Bool) (bytes : List ℕ) → IsOf (forms.Word form b) (Word bytes) → length bytes ≤ most form
 word_short form b bytes (inl is) = text_short form bytes is
@@ -32,6 +36,7 @@ word_short form b bytes (inr is) = omega (arith, ap length is.1)
 pub of_form_size : (form : Form) (f : Field) → IsOf form f → length (spelled f) ≤ form_size form
 of_form_size (forms.Number low high) (Number n) is = omega arith
 of_form_size (forms.Word name b) (Word bytes) is = omega (arith, word_short name b bytes is)
+of_form_size forms.Level (Path bytes) is = omega (arith, is.short)
 of_form_size forms.Blank (Blank count) is = omega (arith, is, length-replicate {A = ℕ} count 0)
 of_form_size (forms.Bytes count used) (Raw bytes) is = omega (arith, is.0)
 of_form_size form f is = absurd is
@@ -39,6 +44,7 @@ of_form_size form f is = absurd is
 pub of_form_short : (form : Form) (f : Field) → IsOf form f → IsShort f
 of_form_short (forms.Number low high) (Number n) is = tt
 of_form_short (forms.Word name b) (Word bytes) is = omega (arith, word_short name b bytes is, most_short name)
+of_form_short forms.Level (Path bytes) is = omega (arith, is.short)
 of_form_short forms.Blank (Blank count) is = tt
 of_form_short (forms.Bytes count used) (Raw bytes) is = tt
 of_form_short form f is = absurd is
@@ -48,10 +54,12 @@ form_within columns.Any before = lit≤ tt
 form_within columns.Positive before = lit≤ tt
 form_within columns.Flag before = lit≤ tt
 form_within columns.Used before = lit≤ tt
+form_within columns.UpToFirst before = lit≤ tt
 form_within columns.LikeFirst before = elim (number_at before 0 == 0) as (λ b. form_size (cond b (forms.Number 0 0) positive) ≤ 4) [ true ↦ lit≤ tt | false ↦ lit≤ tt ]
 form_within (columns.Name form) before = omega arith
 form_within columns.NameLikeFirst before = lit≤ tt
 form_within columns.MaybeName before = lit≤ tt
+form_within columns.Level before = lit≤ tt
 form_within columns.Blank before = lit≤ tt
 form_within columns.Bytes before = lit≤ tt
 
@@ -71,6 +79,7 @@ follows_short before (c ∷ cs) [] i d h lt = absurd h
 
 pub row_room : (kind : Kind) → room (row kind) ≤ 16376
 row_room kinds.Label = lit≤ tt
+row_room kinds.DumpHead = lit≤ tt
 row_room kinds.VolHead = lit≤ tt
 row_room kinds.Data = lit≤ tt
 row_room kinds.VolEnd = lit≤ tt

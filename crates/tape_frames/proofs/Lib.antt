@@ -7,3 +7,4 @@ mod Rests
 mod Heads
 mod Builds
 mod Wholes
+mod Paths

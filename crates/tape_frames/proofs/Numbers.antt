@@ -3,7 +3,7 @@ use Rattle.std.proofs.Common.{zero, suc, ◌≡◌, ℕ, ◌+◌, ◌-◌, ◌/�
 use Rattle.std.specs.Int.{w32, from_be_bytes, to_be_bytes}
 use Rattle.std.proofs.lemmas.Nat.{from_be_bytes-to_be_bytes_4, be_bytes_4}
 use Rattle.tape_frames.specs.declared.column.Form.TheVariants as forms
-use Rattle.tape_frames.specs.Fields.{Field, Number, Word, Blank, Raw, spelled}
+use Rattle.tape_frames.specs.Fields.{Field, Number, Word, Path, Blank, Raw, spelled}
 use Rattle.tape_frames.specs.Columns.{IsOf}
 use Rattle.tape_frames.specs.Sticks.{Sticks, Reads}
 
@@ -94,24 +94,25 @@ start_3 low high a b c le big fa fb fc lo hi =
     record { n = m.n; low_n = m.low_n; n_high = m.n_high; rest = f.d ∷ []; is = f.bytes ∙ ap (λ (x : ℕ). x ∷ f.b ∷ f.c ∷ f.d ∷ []) same ∙ ap (λ (x : ℕ). a ∷ x ∷ f.c ∷ f.d ∷ []) same_b ∙ ap (λ (x : ℕ). a ∷ b ∷ x ∷ f.d ∷ []) same_c }
 
 -- the answer where a number of these bounds begins so, and none goes on so
-stuck : (low high at : ℕ) (rest : List ℕ) → at < length rest → Start low high (take at rest)
+stuck : (low high at : ℕ) (rest : List ℕ) → high ≤ 4294967295 → at < length rest → Start low high (take at rest)
     → ((n : ℕ) (left more : List ℕ) → low ≤ n → n ≤ high → take (at + 1) rest ++ more ≡ to_be_bytes w32 n ++ left → ⊥)
     → Sticks (forms.Number low high) rest at
-stuck low high at rest lt start none = record {
+stuck low high at rest big lt start none = record {
   within = lt;
-  before = (Number start.n, start.rest, (start.low_n, start.n_high), start.is);
+  before = (Number start.n, start.rest, (start.low_n, start.n_high, omega (arith, start.n_high, big)), start.is);
   here = go;
 }
   where
     go : (field : Field) (left more : List ℕ) → IsOf (forms.Number low high) field → take (at + 1) rest ++ more ≡ spelled field ++ left → ⊥
     go (Number n) left more is e = none n left more is.0 is.1 e
     go (Word w) left more is e = is
+    go (Path w) left more is e = is
     go (Blank w) left more is e = is
     go (Raw w) left more is e = is
 
 pub stuck_0 : (low high : ℕ) (rest : List ℕ) → low ≤ high → high ≤ 4294967295 → 4 ≤ length rest
     → ((low ≤ of_four (get_or rest 0 0) 255 255 255) × (of_four (get_or rest 0 0) 0 0 0 ≤ high) → ⊥) → Sticks (forms.Number low high) rest 0
-stuck_0 low high (a ∷ r) le big long apart = stuck low high 0 (a ∷ r) (omega arith) (start_0 low high le) (λ n left more ln nh e.
+stuck_0 low high (a ∷ r) le big long apart = stuck low high 0 (a ∷ r) big (omega arith) (start_0 low high le) (λ n left more ln nh e.
     let f = four n (omega arith) in
     let e2 : a ∷ more ≡ f.a ∷ f.b ∷ f.c ∷ f.d ∷ left = e ∙ ap (λ (x : List ℕ). x ++ left) f.bytes in
     let same : a ≡ f.a = cc in
@@ -121,7 +122,7 @@ stuck_0 low high [] le big long apart = absurd (omega arith)
 pub stuck_1 : (low high : ℕ) (rest : List ℕ) → low ≤ high → high ≤ 4294967295 → 4 ≤ length rest → get_or rest 0 0 < 256
     → (low ≤ of_four (get_or rest 0 0) 255 255 255) × (of_four (get_or rest 0 0) 0 0 0 ≤ high)
     → ((low ≤ of_four (get_or rest 0 0) (get_or rest 1 0) 255 255) × (of_four (get_or rest 0 0) (get_or rest 1 0) 0 0 ≤ high) → ⊥) → Sticks (forms.Number low high) rest 1
-stuck_1 low high (a ∷ b ∷ r) le big long fa meet apart = stuck low high 1 (a ∷ b ∷ r) (omega arith) (start_1 low high a le big fa meet.0 meet.1) (λ n left more ln nh e.
+stuck_1 low high (a ∷ b ∷ r) le big long fa meet apart = stuck low high 1 (a ∷ b ∷ r) big (omega arith) (start_1 low high a le big fa meet.0 meet.1) (λ n left more ln nh e.
     let f = four n (omega arith) in
     let e2 : a ∷ b ∷ more ≡ f.a ∷ f.b ∷ f.c ∷ f.d ∷ left = e ∙ ap (λ (x : List ℕ). x ++ left) f.bytes in
     let same : a ≡ f.a = cc in
@@ -133,7 +134,7 @@ stuck_1 low high (a ∷ []) le big long fa meet apart = absurd (omega arith)
 pub stuck_2 : (low high : ℕ) (rest : List ℕ) → low ≤ high → high ≤ 4294967295 → 4 ≤ length rest → get_or rest 0 0 < 256 → get_or rest 1 0 < 256
     → (low ≤ of_four (get_or rest 0 0) (get_or rest 1 0) 255 255) × (of_four (get_or rest 0 0) (get_or rest 1 0) 0 0 ≤ high)
     → ((low ≤ of_four (get_or rest 0 0) (get_or rest 1 0) (get_or rest 2 0) 255) × (of_four (get_or rest 0 0) (get_or rest 1 0) (get_or rest 2 0) 0 ≤ high) → ⊥) → Sticks (forms.Number low high) rest 2
-stuck_2 low high (a ∷ b ∷ c ∷ r) le big long fa fb meet apart = stuck low high 2 (a ∷ b ∷ c ∷ r) (omega arith) (start_2 low high a b le big fa fb meet.0 meet.1) (λ n left more ln nh e.
+stuck_2 low high (a ∷ b ∷ c ∷ r) le big long fa fb meet apart = stuck low high 2 (a ∷ b ∷ c ∷ r) big (omega arith) (start_2 low high a b le big fa fb meet.0 meet.1) (λ n left more ln nh e.
     let f = four n (omega arith) in
     let e2 : a ∷ b ∷ c ∷ more ≡ f.a ∷ f.b ∷ f.c ∷ f.d ∷ left = e ∙ ap (λ (x : List ℕ). x ++ left) f.bytes in
     let same : a ≡ f.a = cc in
@@ -147,7 +148,7 @@ stuck_2 low high (a ∷ b ∷ []) le big long fa fb meet apart = absurd (omega a
 pub stuck_3 : (low high : ℕ) (rest : List ℕ) → low ≤ high → high ≤ 4294967295 → 4 ≤ length rest → get_or rest 0 0 < 256 → get_or rest 1 0 < 256 → get_or rest 2 0 < 256
     → (low ≤ of_four (get_or rest 0 0) (get_or rest 1 0) (get_or rest 2 0) 255) × (of_four (get_or rest 0 0) (get_or rest 1 0) (get_or rest 2 0) 0 ≤ high)
     → ((low ≤ of_four (get_or rest 0 0) (get_or rest 1 0) (get_or rest 2 0) (get_or rest 3 0)) × (of_four (get_or rest 0 0) (get_or rest 1 0) (get_or rest 2 0) (get_or rest 3 0) ≤ high) → ⊥) → Sticks (forms.Number low high) rest 3
-stuck_3 low high (a ∷ b ∷ c ∷ d ∷ r) le big long fa fb fc meet apart = stuck low high 3 (a ∷ b ∷ c ∷ d ∷ r) (omega arith) (start_3 low high a b c le big fa fb fc meet.0 meet.1) (λ n left more ln nh e.
+stuck_3 low high (a ∷ b ∷ c ∷ d ∷ r) le big long fa fb fc meet apart = stuck low high 3 (a ∷ b ∷ c ∷ d ∷ r) big (omega arith) (start_3 low high a b c le big fa fb fc meet.0 meet.1) (λ n left more ln nh e.
     let f = four n (omega arith) in
     let e2 : a ∷ b ∷ c ∷ d ∷ more ≡ f.a ∷ f.b ∷ f.c ∷ f.d ∷ left = e ∙ ap (λ (x : List ℕ). x ++ left) f.bytes in
     let same : a ≡ f.a = cc in
@@ -164,7 +165,7 @@ pub read_four : (low high : ℕ) (rest : List ℕ) (n : ℕ) → 4 ≤ length re
     → n ≡ of_four (get_or rest 0 0) (get_or rest 1 0) (get_or rest 2 0) (get_or rest 3 0) → low ≤ n → n ≤ high → Reads (forms.Number low high) rest (Number n)
 read_four low high (a ∷ b ∷ c ∷ d ∷ r) n long fits is lo hi =
     let bytes : to_be_bytes w32 n ≡ a ∷ b ∷ c ∷ d ∷ [] = be_bytes_4 (a ∷ b ∷ c ∷ d ∷ []) n refl (four_fits a b c d (fits 0) (fits 1) (fits 2) (fits 3)) is in
-    ((lo, hi), (r, ap (λ (x : List ℕ). x ++ r) (sym bytes)))
+    ((lo, hi, omega (arith, is, fits 0, fits 1, fits 2, fits 3)), (r, ap (λ (x : List ℕ). x ++ r) (sym bytes)))
   where
     four_fits : (a b c d : ℕ) → a < 256 → b < 256 → c < 256 → d < 256 → (i : ℕ) → get_or (a ∷ b ∷ c ∷ d ∷ []) i 0 < 256
     four_fits a b c d fa fb fc fd zero = fa

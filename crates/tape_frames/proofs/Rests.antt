@@ -1,8 +1,10 @@
 -- What stands behind fields that were read.
-use Rattle.std.proofs.Common.{inl, lit<, lit≤, ◌≡◌, ℕ, ◌+◌, ◌-◌, ◌<◌, ◌≤◌, ◌==◌, true, false, cond, List, [], ◌∷◌, ◌++◌, length, take, drop, get_or, replicate, refl, sym, ap, subst, ◌∙◌, append_assoc, arith, length-append, length-drop}
+use Rattle.std.proofs.Common.{Bool, inl, lit<, lit≤, ◌≡◌, ℕ, ◌+◌, ◌-◌, ◌<◌, ◌≤◌, ◌==◌, true, false, cond, List, [], ◌∷◌, ◌++◌, length, take, drop, get_or, replicate, refl, sym, ap, subst, ◌∙◌, append_assoc, arith, length-append, length-drop}
 use Rattle.std.specs.List.{flat_map}
-use Rattle.std.specs.Int.{w32, from_be_bytes, to_be_bytes}
-use Rattle.std.proofs.lemmas.Nat.{from_be_bytes-to_be_bytes_4}
+use Rattle.std.specs.Int.{w16, w32, from_be_bytes, to_be_bytes}
+use Rattle.std.proofs.lemmas.Nat.{from_be_bytes-to_be_bytes_2, from_be_bytes-to_be_bytes_4}
+use Rattle.std.proofs.lemmas.Bool.{eqb-false}
+use Rattle.bk_text.proofs.LevelLaws.{short_path}
 use Rattle.std.proofs.lemmas.List.{append-nil, length-take-le, take-append-drop, take_at, drop_at, drop_all, take_more, drop_more, flat_map_more, length-replicate, get_or-replicate, drop-replicate, replicate-append-replicate, take_all}
 use Rattle.std.proofs.Math.Seq.{take-append-add, take-add}
 use Rattle.std.proofs.lemmas.List.Elements.{All-replicate}
@@ -13,7 +15,7 @@ use Rattle.tape_frames.specs.declared.column.Column.TheVariants as columns
 use Rattle.tape_frames.specs.declared.column.Text.TheVariants as texts
 use Rattle.tape_frames.specs.declared.column.Form.{Form}
 use Rattle.tape_frames.specs.declared.column.Form.TheVariants as forms
-use Rattle.tape_frames.specs.Fields.{Field, Number, Word, Blank, Raw, spelled}
+use Rattle.tape_frames.specs.Fields.{Field, Number, Word, Path, Blank, Raw, spelled}
 use Rattle.tape_frames.specs.Columns.{IsOf, form_at, number_at, positive, Follows, size, room, form_size}
 use Rattle.tape_frames.specs.Sticks.{Sticks, Reads, IsBounded, IsFirstSet}
 use Rattle.tape_frames.specs.Rests.{Rest, FillsRow}
@@ -30,21 +32,31 @@ zeros_raw : (n used : ℕ) → IsOf (forms.Bytes n used) (Raw (zeros n))
 unfolding zeros
 zeros_raw n used = (length-replicate {A = ℕ} n 0, All-replicate (λ (b : ℕ). b < 256) n 0 (lit< tt), drop-replicate {X = ℕ} used n 0)
 
+some_of : (n : ℕ) → (n ≡ 0 → ⊥) → 1 ≤ n
+some_of n not = omega arith
+
+up_bounded : (b : Bool) (n : ℕ) → (n == 0) ≡ b → IsBounded (forms.Number (cond b 0 1) n)
+up_bounded true n e = (omega arith, lit≤ tt)
+up_bounded false n e = (some_of n (eqb-false n 0 e), lit≤ tt)
+
 pub bounded : (c : Column) (before : List Field) → IsBounded (form_at c before)
 bounded columns.Any before = (lit≤ tt, lit≤ tt)
 bounded columns.Positive before = (lit≤ tt, lit≤ tt)
 bounded columns.Flag before = (lit≤ tt, lit≤ tt)
 bounded columns.Used before = (lit≤ tt, lit≤ tt)
+bounded columns.UpToFirst before = up_bounded (number_at before 0 == 0) (number_at before 0) refl
 bounded columns.LikeFirst before = elim (number_at before 0 == 0) as (λ b. IsBounded (cond b (forms.Number 0 0) positive)) [ true ↦ (lit≤ tt, lit≤ tt) | false ↦ (lit≤ tt, lit≤ tt) ]
 bounded (columns.Name form) before = tt
 bounded columns.NameLikeFirst before = tt
 bounded columns.MaybeName before = tt
+bounded columns.Level before = tt
 bounded columns.Blank before = tt
 bounded columns.Bytes before = tt
 
 some_field : (form : Form) → IsBounded form → (f : Field) × IsOf form f
-some_field (forms.Number low high) b = (Number low, (omega arith, b.0))
+some_field (forms.Number low high) b = (Number low, (omega arith, b.0, omega (arith, b.1)))
 some_field (forms.Word name e) b = (Word (97 ∷ []), inl (a_word name))
+some_field forms.Level b = (Path (47 ∷ 97 ∷ []), short_path)
 some_field forms.Blank b = (Blank 12, refl)
 some_field (forms.Bytes n used) b = (Raw (zeros n), zeros_raw n used)
 
@@ -60,12 +72,16 @@ size_small columns.Any = lit≤ tt
 size_small columns.Positive = lit≤ tt
 size_small columns.Flag = lit≤ tt
 size_small columns.Used = lit≤ tt
+size_small columns.UpToFirst = lit≤ tt
 size_small columns.LikeFirst = lit≤ tt
 size_small (columns.Name texts.Name) = lit≤ tt
 size_small (columns.Name texts.Host) = lit≤ tt
+size_small (columns.Name texts.SetName) = lit≤ tt
+size_small (columns.Name texts.Base) = lit≤ tt
 size_small (columns.Name texts.TapeName) = lit≤ tt
 size_small columns.NameLikeFirst = lit≤ tt
 size_small columns.MaybeName = lit≤ tt
+size_small columns.Level = lit≤ tt
 size_small columns.Blank = lit≤ tt
 size_small columns.Bytes = lit≤ tt
 
@@ -80,18 +96,26 @@ split_same a b r s long e = (
   sym (drop_at a r (length a) refl) ∙ ap (drop (length a)) e ∙ drop_at b s (length a) (sym long),
 )
 
-number_same : (low high n m : ℕ) (r s : List ℕ) → high ≤ 4294967295 → n ≤ high → m ≤ high → to_be_bytes w32 n ++ r ≡ to_be_bytes w32 m ++ s → (Number n ≡ Number m) × (r ≡ s)
-number_same low high n m r s big nh mh e =
+number_same : (n m : ℕ) (r s : List ℕ) → n < 4294967296 → m < 4294967296 → to_be_bytes w32 n ++ r ≡ to_be_bytes w32 m ++ s → (Number n ≡ Number m) × (r ≡ s)
+number_same n m r s nh mh e =
     let both = split_same (to_be_bytes w32 n) (to_be_bytes w32 m) r s refl e in
     (ap Number (sym (from_be_bytes-to_be_bytes_4 n (omega arith)) ∙ ap (from_be_bytes w32) both.0 ∙ from_be_bytes-to_be_bytes_4 m (omega arith)), both.1)
 
+path_same : (v w r s : List ℕ) → length v ≤ 256 → length w ≤ 256 → spelled (Path v) ++ r ≡ spelled (Path w) ++ s → (Path v ≡ Path w) × (r ≡ s)
+path_same v w r s vs ws e =
+    let both = split_same (to_be_bytes w16 (length v)) (to_be_bytes w16 (length w)) (v ++ r) (w ++ s) refl e in
+    let len : length v ≡ length w = sym (from_be_bytes-to_be_bytes_2 (length v) (omega arith)) ∙ ap (from_be_bytes w16) both.0 ∙ from_be_bytes-to_be_bytes_2 (length w) (omega arith) in
+    let rest = split_same v w r s len both.1 in
+    (ap Path rest.0, rest.1)
+
 pub same_field : (form : Form) (f g : Field) (r s : List ℕ) → IsBounded form → IsOf form f → IsOf form g → spelled f ++ r ≡ spelled g ++ s → (f ≡ g) × (r ≡ s)
-same_field (forms.Number low high) (Number n) (Number m) r s b is is2 e = number_same low high n m r s b.1 is.1 is2.1 e
+same_field (forms.Number low high) (Number n) (Number m) r s b is is2 e = number_same n m r s is.2 is2.2 e
 same_field (forms.Word form x) (Word v) (Word w) r s b is is2 e =
     let len : length v ≡ length w = cc in
     let rest : v ++ r ≡ w ++ s = cc in
     let both = split_same v w r s len rest in
     (ap Word both.0, both.1)
+same_field forms.Level (Path v) (Path w) r s b is is2 e = path_same v w r s is.short is2.short e
 same_field forms.Blank (Blank n) (Blank m) r s b is is2 e =
     let same : n ≡ m = is ∙ sym is2 in
     (ap Blank same, (split_same (replicate n 0) (replicate m 0) r s (ap (λ (k : ℕ). length (replicate {A = ℕ} k 0)) same) e).1)
@@ -110,6 +134,14 @@ same_field forms.Blank (Raw v) g r s b is is2 e = absurd is
 same_field (forms.Bytes n used) (Number v) g r s b is is2 e = absurd is
 same_field (forms.Bytes n used) (Word v) g r s b is is2 e = absurd is
 same_field (forms.Bytes n used) (Blank v) g r s b is is2 e = absurd is
+same_field forms.Level (Number v) g r s b is is2 e = absurd is
+same_field forms.Level (Word v) g r s b is is2 e = absurd is
+same_field forms.Level (Blank v) g r s b is is2 e = absurd is
+same_field forms.Level (Raw v) g r s b is is2 e = absurd is
+same_field (forms.Number low high) (Path v) g r s b is is2 e = absurd is
+same_field (forms.Word form x) (Path v) g r s b is is2 e = absurd is
+same_field forms.Blank (Path v) g r s b is is2 e = absurd is
+same_field (forms.Bytes n used) (Path v) g r s b is is2 e = absurd is
 same_field other f g r s b is is2 e = absurd is2
 
 -- ---- a field that was read

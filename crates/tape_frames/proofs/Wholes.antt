@@ -61,11 +61,12 @@ same_fields (c ∷ cs) before (f ∷ fs) [] r s h i e = absurd i
 -- ---- kinds
 
 kind_from : ℕ → Kind
-kind_from n = cond (n == 3) kinds.VolHead (cond (n == 4) kinds.Data (cond (n == 5) kinds.VolEnd (cond (n == 6) kinds.DumpEnd kinds.Label)))
+kind_from n = cond (n == 2) kinds.DumpHead (cond (n == 3) kinds.VolHead (cond (n == 4) kinds.Data (cond (n == 5) kinds.VolEnd (cond (n == 6) kinds.DumpEnd kinds.Label))))
 
 kind_again : (k : Kind) → kind_from (code k) ≡ k
 unfolding kind_from
 kind_again kinds.Label = refl
+kind_again kinds.DumpHead = refl
 kind_again kinds.VolHead = refl
 kind_again kinds.Data = refl
 kind_again kinds.VolEnd = refl
@@ -165,6 +166,7 @@ fault_moved k block Memory long front h = tt
 
 frame_again : (f : Frame) → frame_of (kind_of f) (values f) ≡ f
 frame_again (frames.Label a) = refl
+frame_again (frames.DumpHead a) = refl
 frame_again (frames.VolHead a) = refl
 frame_again (frames.Data a) = refl
 frame_again (frames.VolEnd a) = refl

@@ -4,13 +4,13 @@ use Rattle.std.specs.Prelude.{All}
 use Rattle.std.proofs.lemmas.Bool.{cases_lt, false≢true}
 use Rattle.std.proofs.lemmas.List.{length-take-le, take-append-drop, take-take, length-replicate, get_or-replicate, get_or_append_left, get_or-append_right, get_or-take}
 use Rattle.std.proofs.lemmas.List.Elements.{All-from_get_or, All-get_or}
-use Rattle.bk_text.specs.Alphabets.{IsNameByte}
+use Rattle.bk_text.specs.Alphabets.{IsNameByte, IsSetNameByte, IsTapeName}
 use Rattle.tape_frames.specs.declared.column.Text.{Text}
 use Rattle.tape_frames.specs.declared.column.Text.TheVariants as texts
 use Rattle.tape_frames.specs.declared.column.Form.TheVariants as forms
-use Rattle.tape_frames.specs.Fields.{Field, Number, Word, Blank, Raw, spelled}
+use Rattle.tape_frames.specs.Fields.{Field, Number, Word, Path, Blank, Raw, spelled}
 use Rattle.tape_frames.specs.Columns.{IsOf, IsTextOf, most}
-use Rattle.tape_frames.specs.Sticks.{MayStand, MayBegin, WordSticks, Sticks, Reads}
+use Rattle.tape_frames.specs.Sticks.{IsByteOf, MayStand, MayBegin, WordSticks, Sticks, Reads}
 use Rattle.tape_frames.proofs.Forms.{text_short}
 use Rattle.tape_frames.proofs.Zeros.{seen}
 
@@ -24,29 +24,46 @@ a_plain = (lit< tt, lit< tt, λ (e : 97 ≡ 47). omega arith)
 a_begins : (text : Text) → MayBegin text 97
 a_begins texts.Name = λ (e : 97 ≡ 45). omega arith
 a_begins texts.Host = λ (e : 97 ≡ 45). omega arith
+a_begins texts.SetName = λ (e : 97 ≡ 45). omega arith
 a_begins texts.TapeName = tt
+a_begins texts.Base = tt
+
+a_byte : (text : Text) → IsByteOf text 97
+a_byte texts.Name = a_plain
+a_byte texts.Host = a_plain
+a_byte texts.SetName = (a_plain, λ (e : 97 ≡ 46). omega arith)
+a_byte texts.TapeName = a_plain
+a_byte texts.Base = a_plain
 
 a_stands : (text : Text) (k : ℕ) → MayStand text k 97
-a_stands text k = (a_plain, λ _. a_begins text)
+a_stands text k = (a_byte text, λ _. a_begins text)
 
-each_byte : (text : Text) (bytes : List ℕ) → ((k : ℕ) → k < length bytes → MayStand text k (get_or bytes k 0)) → All IsNameByte bytes
-each_byte text bytes stands = All-from_get_or IsNameByte bytes 0 (λ i lt. (stands i lt).0)
+each_byte : (text : Text) (bytes : List ℕ) → ((k : ℕ) → k < length bytes → MayStand text k (get_or bytes k 0)) → All (IsByteOf text) bytes
+each_byte text bytes stands = All-from_get_or (IsByteOf text) bytes 0 (λ i lt. (stands i lt).0)
 
 of_stands : (text : Text) (bytes : List ℕ) → 0 < length bytes → length bytes ≤ most text → ((k : ℕ) → k < length bytes → MayStand text k (get_or bytes k 0)) → IsTextOf text bytes
 of_stands texts.Name bytes some short stands = record { some = some; short = short; first = (stands 0 some).1 refl; each = each_byte texts.Name bytes stands }
 of_stands texts.Host bytes some short stands = record { some = some; short = short; first = (stands 0 some).1 refl; each = each_byte texts.Host bytes stands }
 of_stands texts.TapeName bytes some short stands = record { some = some; short = short; first = (stands 0 some).1 refl; each = each_byte texts.TapeName bytes stands }
+of_stands texts.SetName bytes some short stands = record { some = some; short = short; first = (stands 0 some).1 refl; each = each_byte texts.SetName bytes stands }
+of_stands texts.Base bytes some short stands =
+    let name : IsTapeName bytes = record { some = some; short = omega (arith, short); first = (stands 0 some).1 refl; each = each_byte texts.Base bytes stands } in
+    (name, short)
 
 pub word_some : (text : Text) (bytes : List ℕ) → IsTextOf text bytes → 0 < length bytes
 word_some texts.Name bytes is = is.some
 word_some texts.Host bytes is = is.some
+word_some texts.SetName bytes is = is.some
 word_some texts.TapeName bytes is = is.some
+word_some texts.Base bytes is = is.0.some
 
 -- a name has at each place a byte that may stand there
 stands_of : (text : Text) (bytes : List ℕ) (k : ℕ) → IsTextOf text bytes → k < length bytes → MayStand text k (get_or bytes k 0)
 stands_of texts.Name bytes k is lt = (All-get_or IsNameByte bytes k 0 lt is.each, λ e. subst (λ (i : ℕ). MayBegin texts.Name (get_or bytes i 0)) (sym e) is.first)
 stands_of texts.Host bytes k is lt = (All-get_or IsNameByte bytes k 0 lt is.each, λ e. subst (λ (i : ℕ). MayBegin texts.Host (get_or bytes i 0)) (sym e) is.first)
 stands_of texts.TapeName bytes k is lt = (All-get_or IsNameByte bytes k 0 lt is.each, λ e. subst (λ (i : ℕ). MayBegin texts.TapeName (get_or bytes i 0)) (sym e) is.first)
+stands_of texts.SetName bytes k is lt = (All-get_or IsSetNameByte bytes k 0 lt is.each, λ e. subst (λ (i : ℕ). MayBegin texts.SetName (get_or bytes i 0)) (sym e) is.first)
+stands_of texts.Base bytes k is lt = (All-get_or IsNameByte bytes k 0 lt is.0.each, λ e. subst (λ (i : ℕ). MayBegin texts.Base (get_or bytes i 0)) (sym e) is.0.first)
 
 pub stands_none : (text : Text) (bytes : List ℕ) → Stands text 0 bytes
 unfolding Stands
@@ -111,7 +128,9 @@ a_word text = of_stands text (97 ∷ []) (lit< tt) (a_short text) (λ k lt. subs
     a_short : (text : Text) → 1 ≤ most text
     a_short texts.Name = lit≤ tt
     a_short texts.Host = lit≤ tt
+    a_short texts.SetName = lit≤ tt
     a_short texts.TapeName = lit≤ tt
+    a_short texts.Base = lit≤ tt
 
 -- ---- behind its length
 
@@ -119,6 +138,7 @@ a_word text = of_stands text (97 ∷ []) (lit< tt) (a_short text) (λ k lt. subs
 lengths_differ : (text : Text) (may_be_empty : Bool) (len : ℕ) (r : List ℕ) → ((w : List ℕ) → IsOf (forms.Word text may_be_empty) (Word w) → length w ≡ len → ⊥)
     → (field : Field) (left more : List ℕ) → IsOf (forms.Word text may_be_empty) field → len ∷ more ≡ spelled field ++ left → ⊥
 lengths_differ text e len r none (Word w) left more is h = none w is (let same : length w ≡ len = cc in same)
+lengths_differ text e len r none (Path w) left more is h = is
 lengths_differ text e len r none (Number w) left more is h = is
 lengths_differ text e len r none (Blank w) left more is h = is
 lengths_differ text e len r none (Raw w) left more is h = is
@@ -149,6 +169,7 @@ word_byte text e len at r lt within not (Word w) left more is h =
     go : (w : List ℕ) → IsOf (forms.Word text e) (Word w) → at < length w → get_or w at 0 ≡ get_or r at 0 → ⊥
     go w (inl is) below same = not (subst (MayStand text at) same (stands_of text w at is below))
     go w (inr is) below same = omega (arith, ap length is.1)
+word_byte text e len at r lt within not (Path w) left more is h = is
 word_byte text e len at r lt within not (Number w) left more is h = is
 word_byte text e len at r lt within not (Blank w) left more is h = is
 word_byte text e len at r lt within not (Raw w) left more is h = is

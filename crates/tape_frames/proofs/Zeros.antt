@@ -5,7 +5,7 @@ use Rattle.std.proofs.lemmas.List.{length-take-le, take-append-drop, length-drop
 use Rattle.std.proofs.lemmas.Bool.{cases_lt}
 use Rattle.std.proofs.lemmas.List.Elements.{All-append, All-take, All-replicate, All-from_get_or}
 use Rattle.tape_frames.specs.declared.column.Form.TheVariants as forms
-use Rattle.tape_frames.specs.Fields.{Field, Number, Word, Blank, Raw, spelled}
+use Rattle.tape_frames.specs.Fields.{Field, Number, Word, Path, Blank, Raw, spelled}
 use Rattle.tape_frames.specs.Columns.{IsOf}
 use Rattle.tape_frames.specs.Sticks.{Sticks, Reads, IsFirstSet}
 
@@ -56,6 +56,7 @@ blank_sticks rest at long first =
         first_byte 12 at rest long first (sym (seen rest more at (omega (arith, small))) ∙ ap (λ (x : List ℕ). get_or x at 0) e ∙ zero_there)
     go small (Number w) left more is e = is
     go small (Word w) left more is e = is
+    go small (Path w) left more is e = is
     go small (Raw w) left more is e = is
 
 -- ---- bytes with zeros from one on
@@ -139,6 +140,7 @@ raw_stuck n used at rest long fits lt first =
         first.2 (set_at_place n used at rest lt ∙ sym (seen rest more (used + at) (omega arith)) ∙ ap (λ (x : List ℕ). get_or x (used + at) 0) e ∙ zero_at n used at bytes left is.0 lt is.2)
     go (Number w) left more is e = is
     go (Word w) left more is e = is
+    go (Path w) left more is e = is
     go (Blank w) left more is e = is
 
 by_from : (n used from at : ℕ) (rest : List ℕ) → from ≡ used → Sticks (forms.Bytes n used) rest (used + at) → Sticks (forms.Bytes n used) rest (from + at)

@@ -3,6 +3,7 @@ use Rattle.std.specs.Prelude.{ℕ, List, slice_index_or}
 use Rattle.tape_frames.specs.declared.frame.Frame.{Frame}
 use Rattle.tape_frames.specs.declared.frame.Frame.TheVariants as frames
 use Rattle.tape_frames.specs.declared.label.LabelFields.{LabelFields}
+use Rattle.tape_frames.specs.declared.dump_head.DumpHeadFields.{DumpHeadFields}
 use Rattle.tape_frames.specs.declared.vol_head.VolHeadFields.{VolHeadFields}
 use Rattle.tape_frames.specs.declared.data.DataFields.{DataFields}
 use Rattle.tape_frames.specs.declared.vol_end.VolEndFields.{VolEndFields}
@@ -23,6 +24,20 @@ label_of fs = record {
   tape = number_at fs 1;
   afs = text_at fs 2;
   permanent = text_at fs 3;
+}
+
+abbrev pub dump_head_of : List Field → DumpHeadFields
+dump_head_of fs = record {
+  id = number_at fs 0;
+  initial = number_at fs 1;
+  parent = number_at fs 2;
+  expires = number_at fs 3;
+  tape = number_at fs 4;
+  part = number_at fs 5;
+  volumes = number_at fs 6;
+  set = text_at fs 7;
+  level = text_at fs 8;
+  base = text_at fs 9;
 }
 
 abbrev pub vol_head_of : List Field → VolHeadFields
@@ -64,6 +79,7 @@ dump_end_of fs = record {
 
 abbrev pub frame_of : Kind → List Field → Frame
 frame_of kinds.Label fs = frames.Label (label_of fs)
+frame_of kinds.DumpHead fs = frames.DumpHead (dump_head_of fs)
 frame_of kinds.VolHead fs = frames.VolHead (vol_head_of fs)
 frame_of kinds.Data fs = frames.Data (data_of fs)
 frame_of kinds.VolEnd fs = frames.VolEnd (vol_end_of fs)

@@ -1,17 +1,18 @@
 -- The block of a frame.
 use Rattle.std.specs.Prelude.{◌≡◌, ℕ, List, []}
 use Rattle.tape_frames.specs.declared.frame.Frame.{Frame}
-use Rattle.tape_frames.specs.declared.frame.Frame.TheVariants.{Label, VolHead, Data, VolEnd, DumpEnd}
+use Rattle.tape_frames.specs.declared.frame.Frame.TheVariants.{Label, DumpHead, VolHead, Data, VolEnd, DumpEnd}
 use Rattle.tape_frames.specs.declared.row.Kind.{Kind}
 use Rattle.tape_frames.specs.declared.row.Kind.TheVariants as kinds
 use Rattle.tape_frames.specs.Fields.{Field}
 use Rattle.tape_frames.specs.Columns.{Follows}
 use Rattle.tape_frames.specs.Rows.{row}
 use Rattle.tape_frames.specs.Blocks.{block_of}
-use Rattle.tape_frames.specs.Layouts.{label_values, vol_head_values, data_values, vol_end_values, dump_end_values}
+use Rattle.tape_frames.specs.Layouts.{label_values, dump_head_values, vol_head_values, data_values, vol_end_values, dump_end_values}
 
 abbrev pub kind_of : Frame → Kind
 kind_of (Label a) = kinds.Label
+kind_of (DumpHead a) = kinds.DumpHead
 kind_of (VolHead a) = kinds.VolHead
 kind_of (Data a) = kinds.Data
 kind_of (VolEnd a) = kinds.VolEnd
@@ -19,6 +20,7 @@ kind_of (DumpEnd a) = kinds.DumpEnd
 
 abbrev pub values : Frame → List Field
 values (Label a) = label_values a
+values (DumpHead a) = dump_head_values a
 values (VolHead a) = vol_head_values a
 values (Data a) = data_values a
 values (VolEnd a) = vol_end_values a

@@ -1,6 +1,7 @@
 -- What the reading of a field answers.
-use Rattle.std.specs.Prelude.{◌≡◌, ◌≢◌, ℕ, ◌+◌, ◌<◌, ◌≤◌, List, ◌++◌, length, take, replicate, slice_index, Result, Ok, Err, ⊤}
-use Rattle.bk_text.specs.Alphabets.{IsNameByte, IsNoDash}
+use Rattle.std.specs.Prelude.{◌≡◌, ◌≢◌, ℕ, ◌+◌, ◌<◌, ◌≤◌, ◌⊎◌, List, ◌++◌, length, take, replicate, slice_index, Result, Ok, Err, ⊤}
+use Rattle.bk_text.specs.Alphabets.{IsNameByte, IsSetNameByte, IsNoDash}
+use Rattle.bk_text.specs.LevelPaths.{IsLevelPath}
 use Rattle.tape_frames.specs.declared.column.Text.{Text}
 use Rattle.tape_frames.specs.declared.column.Text.TheVariants as texts
 use Rattle.tape_frames.specs.declared.column.Form.{Form}
@@ -18,11 +19,21 @@ IsFirstSet bytes at = (at < length bytes) × (take at bytes ≡ replicate at 0) 
 abbrev pub MayBegin : Text → ℕ → Type 0
 MayBegin texts.Name b = IsNoDash b
 MayBegin texts.Host b = IsNoDash b
+MayBegin texts.SetName b = IsNoDash b
 MayBegin texts.TapeName b = ⊤
+MayBegin texts.Base b = ⊤
+
+-- a byte of a name
+abbrev pub IsByteOf : Text → ℕ → Type 0
+IsByteOf texts.Name = IsNameByte
+IsByteOf texts.Host = IsNameByte
+IsByteOf texts.SetName = IsSetNameByte
+IsByteOf texts.TapeName = IsNameByte
+IsByteOf texts.Base = IsNameByte
 
 -- a byte that a name may have at this place
 abbrev pub MayStand : Text → ℕ → ℕ → Type 0
-MayStand text at b = IsNameByte b × (at ≡ 0 → MayBegin text b)
+MayStand text at b = IsByteOf text b × (at ≡ 0 → MayBegin text b)
 
 -- names of this length begin with the bytes before this place, and none with its byte too
 pub record WordSticks (text : Text) (bytes : List ℕ) (at : ℕ) : Type 0 where
@@ -30,10 +41,21 @@ pub record WordSticks (text : Text) (bytes : List ℕ) (at : ℕ) : Type 0 where
   pub before : (word : List ℕ) × (rest : List ℕ) × IsTextOf text word × (length word ≡ length bytes) × (word ≡ take at bytes ++ rest)
   pub here : MayStand text at (slice_index bytes at) → ⊥
 
--- numbers have bounds of four bytes, the lower one below the upper one
+-- a byte that a path may have where its element has so many bytes so far and so many bytes stand behind it
+abbrev pub MayFollow : ℕ → ℕ → ℕ → Type 0
+MayFollow count left b = ((b ≡ 47) × (0 < count) × (0 < left)) ⊎ (IsNameByte b × (count < 28) × (count ≡ 27 → left ≡ 1 → ⊥))
+
+-- paths of this length begin with the bytes before this place, and none with its byte too
+pub record PathSticks (bytes : List ℕ) (at : ℕ) : Type 0 where
+  pub within : at < length bytes
+  pub before : (path : List ℕ) × (rest : List ℕ) × IsLevelPath path × (length path ≡ length bytes) × (path ≡ take at bytes ++ rest)
+  pub here : (path rest : List ℕ) → IsLevelPath path → length path ≡ length bytes → take (at + 1) bytes ++ rest ≡ path → ⊥
+
+-- numbers have bounds, the lower one of four bytes and at most the upper one
 abbrev pub IsBounded : Form → Type 0
-IsBounded (forms.Number low high) = (low ≤ high) × (high ≤ 4294967295)
+IsBounded (forms.Number low high) = (low ≤ high) × (low ≤ 4294967295)
 IsBounded (forms.Word text may_be_empty) = Unit {0}
+IsBounded forms.Level = Unit {0}
 IsBounded forms.Blank = Unit {0}
 IsBounded (forms.Bytes count used) = Unit {0}
 

@@ -5,18 +5,19 @@ ghost use Rattle.tape_frames.specs.declared.row.Kind.TheVariants as kinds;
 ghost use Rattle.tape_frames.specs.Items.{field_of};
 ghost use Rattle.tape_frames.specs.Columns.{Follows};
 ghost use Rattle.tape_frames.specs.Rows.{row};
-ghost use Rattle.tape_frames.specs.Builds.{text_at, label_of, vol_head_of, data_of, vol_end_of, dump_end_of, frame_of};
+ghost use Rattle.tape_frames.specs.Builds.{text_at, label_of, dump_head_of, vol_head_of, data_of, vol_end_of, dump_end_of, frame_of};
 
 use crate::column::number_in;
 use crate::data::{Data, DataFields};
 use crate::dump_end::{DumpEnd, DumpEndFields};
+use crate::dump_head::{DumpHead, DumpHeadFields};
 use crate::frame::Frame;
 use crate::item::Item;
 use crate::label::{Label, LabelFields};
 use crate::row::Kind;
 use crate::vol_end::{VolEnd, VolEndFields};
 use crate::vol_head::{VolHead, VolHeadFields};
-use bk_text::{Bytes, Host, Name, Part};
+use bk_text::{Bytes, Host, LevelPath, Name, Part, SetName, TapeName};
 use std::alloc::{AllocError, Global};
 
 /// The bytes that a row has at this place; none where no bytes stand there.
@@ -25,6 +26,7 @@ fn text_in<'a>(items: &[Item<'a>], at: usize) -> &'a [u8]
 {
     match items.get(at) {
         Some(Item::Word(text)) => text,
+        Some(Item::Path(text)) => text,
         Some(Item::Raw(bytes)) => bytes,
         _ => &[],
     }
@@ -41,6 +43,25 @@ fn label_from(alloc: Global, items: &[Item]) -> Result<Label, AllocError>
         permanent: Bytes::from_slice(alloc, text_in(items, 3))?,
     };
     Ok(Label::new(fields))
+}
+
+fn dump_head_from(alloc: Global, items: &[Item]) -> Result<DumpHead, AllocError>
+    requires { Follows [] (row kinds.DumpHead) (map field_of items.now) }
+    ensures { IfOk result (λ a. a ≡ dump_head_of (map field_of items.now)) }
+{
+    let fields = DumpHeadFields {
+        id: number_in(items, 0),
+        initial: number_in(items, 1),
+        parent: number_in(items, 2),
+        expires: number_in(items, 3),
+        tape: number_in(items, 4),
+        part: number_in(items, 5),
+        volumes: number_in(items, 6),
+        set: SetName::from_bytes(alloc, text_in(items, 7))?,
+        level: LevelPath::from_bytes(alloc, text_in(items, 8))?,
+        base: TapeName::from_bytes(alloc, text_in(items, 9))?,
+    };
+    Ok(DumpHead::new(fields))
 }
 
 fn vol_head_from(alloc: Global, items: &[Item]) -> Result<VolHead, AllocError>
@@ -106,6 +127,7 @@ pub fn build(alloc: Global, kind: Kind, items: &[Item]) -> Result<Frame, AllocEr
 {
     match kind {
         Kind::Label => Ok(Frame::Label(label_from(alloc, items)?)),
+        Kind::DumpHead => Ok(Frame::DumpHead(dump_head_from(alloc, items)?)),
         Kind::VolHead => Ok(Frame::VolHead(vol_head_from(alloc, items)?)),
         Kind::Data => Ok(Frame::Data(data_from(items))),
         Kind::VolEnd => Ok(Frame::VolEnd(vol_end_from(items))),

@@ -14,8 +14,12 @@ pub enum Text {
     Name,
     /// A server's name.
     Host,
+    /// The name of a volume set.
+    SetName,
     /// The name on a tape's label.
     TapeName,
+    /// A tape's name of at most 69 bytes, which has room for a number behind it.
+    Base,
 }
 
 /// What a field of a row may be.
@@ -29,6 +33,8 @@ pub enum Column {
     Flag,
     /// A number of bytes, 1 to 16,352.
     Used,
+    /// A number of at most the row's first, and of at least 1 where that isn't 0.
+    UpToFirst,
     /// 0 where the row's first number is 0, and another number where it isn't.
     LikeFirst,
     /// A name of this form.
@@ -37,6 +43,8 @@ pub enum Column {
     NameLikeFirst,
     /// A tape's name, or nothing.
     MaybeName,
+    /// The path of a level.
+    Level,
     /// Twelve zeros.
     Blank,
     /// 16,352 bytes, zeros from the row's third number on.
@@ -50,6 +58,8 @@ pub enum Form {
     Number { low: u32, high: u32 },
     /// A name of this form, or perhaps nothing.
     Word { text: Text, may_be_empty: bool },
+    /// The path of a level.
+    Level,
     /// Twelve zeros.
     Blank,
     /// So many bytes, zeros from the used ones on.
@@ -87,6 +97,10 @@ pub fn form_of(column: Column, before: &[Item]) -> Form
             low: 1,
             high: 16352,
         },
+        Column::UpToFirst => Form::Number {
+            low: if number_in(before, 0) == 0 { 0 } else { 1 },
+            high: number_in(before, 0),
+        },
         Column::LikeFirst => {
             if number_in(before, 0) == 0 {
                 zero
@@ -106,6 +120,7 @@ pub fn form_of(column: Column, before: &[Item]) -> Form
             text: Text::TapeName,
             may_be_empty: true,
         },
+        Column::Level => Form::Level,
         Column::Blank => Form::Blank,
         Column::Bytes => Form::Bytes {
             count: 16352,

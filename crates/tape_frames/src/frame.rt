@@ -5,6 +5,7 @@ ghost use Rattle.tape_frames.specs.Frames.{spelling};
 
 use crate::data::Data;
 use crate::dump_end::DumpEnd;
+use crate::dump_head::DumpHead;
 use crate::label::Label;
 use crate::vol_end::VolEnd;
 use crate::vol_head::VolHead;
@@ -15,6 +16,8 @@ use crate::writing::Block;
 pub enum Frame {
     /// The label in front of all.
     Label(Label),
+    /// The head of a dump's part on a tape.
+    DumpHead(DumpHead),
     /// The head of a volume's fragment.
     VolHead(VolHead),
     /// A piece of a volume's stream.
@@ -32,6 +35,7 @@ impl Frame {
     {
         match self {
             Frame::Label(a) => a.encode(into),
+            Frame::DumpHead(a) => a.encode(into),
             Frame::VolHead(a) => a.encode(into),
             Frame::Data(a) => a.encode(into),
             Frame::VolEnd(a) => a.encode(into),

@@ -13,6 +13,7 @@ fn likely_kind(number: u8) -> Kind
     ensures { (kind : AnyKind) → code kind ≡ number → code result ≡ number }
 {
     match number {
+        2 => Kind::DumpHead,
         3 => Kind::VolHead,
         4 => Kind::Data,
         5 => Kind::VolEnd,

@@ -11,6 +11,8 @@ pub enum Item<'a> {
     Number(u32),
     /// A text behind its length in one byte.
     Word(&'a [u8]),
+    /// A text behind its length in two bytes.
+    Path(&'a [u8]),
     /// So many zeros.
     Blank(usize),
     /// These bytes, as they are.
@@ -25,6 +27,7 @@ pub fn len_of(item: &Item) -> usize
     match item {
         Item::Number(_) => 4,
         Item::Word(text) => 1 + text.len(),
+        Item::Path(text) => 2 + text.len(),
         Item::Blank(count) => *count,
         Item::Raw(bytes) => bytes.len(),
     }

@@ -1,8 +1,9 @@
 //! The first byte of a field that isn't of its form.
 
 ghost use Rattle.std.specs.Prelude.{◌≡◌, ◌↔◌, ◌+◌, ◌<◌, ◌≤◌, length, replicate, IsTrue, MatchOption};
+ghost use Rattle.bk_text.specs.LevelPaths.{IsLevelPath};
 ghost use Rattle.tape_frames.specs.Columns.{IsTextOf, most, form_size};
-ghost use Rattle.tape_frames.specs.Sticks.{MayStand, WordSticks, IsFirstSet, ReadsNumber, ReadsItem, IsBounded};
+ghost use Rattle.tape_frames.specs.Sticks.{MayBegin, IsByteOf, MayStand, MayFollow, WordSticks, PathSticks, IsFirstSet, ReadsNumber, ReadsItem, IsBounded};
 
 use crate::column::{Form, Text};
 use crate::item::Item;
@@ -67,9 +68,31 @@ fn most_of(text: Text) -> usize
     ensures { result ≡ most text }
 {
     match text {
-        Text::Name => 31,
+        Text::Name | Text::SetName => 31,
         Text::Host => 63,
         Text::TapeName => 80,
+        Text::Base => 69,
+    }
+}
+
+/// Whether it is a byte of a name.
+fn is_byte(text: Text, byte: u8) -> bool
+    ensures { IsTrue result ↔ IsByteOf text byte }
+{
+    let plain = 32 < byte && byte < 127 && byte != b'/';
+    match text {
+        Text::SetName => plain && byte != b'.',
+        Text::Name | Text::Host | Text::TapeName | Text::Base => plain,
+    }
+}
+
+/// Whether a name may begin with this byte.
+fn may_begin(text: Text, byte: u8) -> bool
+    ensures { IsTrue result ↔ MayBegin text byte }
+{
+    match text {
+        Text::Name | Text::Host | Text::SetName => byte != b'-',
+        Text::TapeName | Text::Base => true,
     }
 }
 
@@ -77,11 +100,7 @@ fn most_of(text: Text) -> usize
 fn may_stand(text: Text, at: usize, byte: u8) -> bool
     ensures { IsTrue result ↔ MayStand text at byte }
 {
-    let any_first = match text {
-        Text::Name | Text::Host => false,
-        Text::TapeName => true,
-    };
-    32 < byte && byte < 127 && byte != b'/' && (at > 0 || any_first || byte != b'-')
+    is_byte(text, byte) && (at > 0 || may_begin(text, byte))
 }
 
 /// The first byte of a text that no name of this length has there.
@@ -107,6 +126,7 @@ pub fn read_item<'a>(form: Form, rest: &'a [u8]) -> Result<Item<'a>, usize>
     match form {
         Form::Number { low, high } => Ok(Item::Number(read_number(low, high, rest)?)),
         Form::Word { text, may_be_empty } => read_word(text, may_be_empty, rest),
+        Form::Level => read_level(rest),
         Form::Blank => read_blank(rest),
         Form::Bytes { count, used } => read_bytes(count, used as usize, rest),
     }
@@ -132,6 +152,57 @@ fn read_word<'a>(text: Text, may_be_empty: bool, rest: &'a [u8]) -> Result<Item<
     match word_place(text, bytes) {
         Some(at) => Err(1 + at),
         None => Ok(Item::Word(bytes)),
+    }
+}
+
+/// Whether a byte may stand in a path where its element has so many bytes so far and so many bytes stand behind it.
+fn may_follow(count: usize, left: usize, byte: u8) -> bool
+    ensures { IsTrue result ↔ MayFollow count left byte }
+{
+    if byte == b'/' {
+        count > 0 && left > 0
+    } else {
+        is_byte(Text::Name, byte) && count < 28 && (count != 27 || left != 1)
+    }
+}
+
+/// The first byte of a text that no path of this length has there.
+fn path_place(bytes: &[u8]) -> Option<usize>
+    requires some { 1 < length bytes.now }
+    requires short { length bytes.now ≤ 256 }
+    ensures { MatchOption result (IsLevelPath bytes.now) (λ at. PathSticks bytes.now at) }
+{
+    if bytes[0] != b'/' {
+        return Some(0);
+    }
+    let mut count = 0;
+    for at in 1..bytes.len() {
+        let byte = bytes[at];
+        if !may_follow(count, bytes.len() - at - 1, byte) {
+            return Some(at);
+        }
+        count = if byte == b'/' { 0 } else { count + 1 };
+    }
+    None
+}
+
+/// The path of a level at the front behind its length.
+fn read_level<'a>(rest: &'a [u8]) -> Result<Item<'a>, usize>
+    requires room { 258 ≤ length rest.now }
+    ensures { ReadsItem Form.Level rest.now result }
+{
+    let [high, low] = [rest[0], rest[1]];
+    if high > 1 {
+        return Err(0);
+    }
+    let len = u16::from_be_bytes([high, low]) as usize;
+    if len < 2 || len > 256 {
+        return Err(1);
+    }
+    let bytes = &rest[2..2 + len];
+    match path_place(bytes) {
+        Some(at) => Err(2 + at),
+        None => Ok(Item::Path(bytes)),
     }
 }
 

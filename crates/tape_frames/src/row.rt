@@ -10,6 +10,8 @@ use crate::column::{Column, Text};
 pub enum Kind {
     /// Version 1, kind 1.
     Label,
+    /// Version 1, kind 2.
+    DumpHead,
     /// Version 1, kind 3.
     VolHead,
     /// Version 1, kind 4.
@@ -25,6 +27,19 @@ const LABEL: &[Column] = &[
     Column::LikeFirst,
     Column::NameLikeFirst,
     Column::MaybeName,
+];
+
+const DUMP_HEAD: &[Column] = &[
+    Column::Positive,
+    Column::UpToFirst,
+    Column::Any,
+    Column::Any,
+    Column::Positive,
+    Column::Positive,
+    Column::Positive,
+    Column::Name(Text::SetName),
+    Column::Level,
+    Column::Name(Text::Base),
 ];
 
 const VOL_HEAD: &[Column] = &[
@@ -63,6 +78,7 @@ pub fn row_of(kind: Kind) -> &'static [Column]
 {
     match kind {
         Kind::Label => LABEL,
+        Kind::DumpHead => DUMP_HEAD,
         Kind::VolHead => VOL_HEAD,
         Kind::Data => DATA,
         Kind::VolEnd => VOL_END,
@@ -76,6 +92,7 @@ pub fn head_of(kind: Kind) -> [u8; 8]
 {
     let code = match kind {
         Kind::Label => 1,
+        Kind::DumpHead => 2,
         Kind::VolHead => 3,
         Kind::Data => 4,
         Kind::VolEnd => 5,

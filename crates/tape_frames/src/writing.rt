@@ -33,6 +33,10 @@ fn put_item(block: &mut Block, at: usize, item: &Item)
             put(block, at, &[text.len() as u8]);
             put(block, at + 1, text);
         }
+        Item::Path(text) => {
+            put(block, at, &(text.len() as u16).to_be_bytes());
+            put(block, at + 2, text);
+        }
         Item::Blank(_) => {}
         Item::Raw(bytes) => put(block, at, bytes),
     }

@@ -1,14 +1,31 @@
-use Rattle.std.proofs.Common.{◌≡◌, ◌+◌, ℕ, List, [], ◌∷◌, ◌++◌, length, map, drop, get_or, sym, ap, subst, ◌∙◌, arith}
+use Rattle.std.proofs.Common.{◌≡◌, ◌+◌, ◌-◌, ◌≤◌, take, ℕ, List, [], ◌∷◌, ◌++◌, length, map, drop, get_or, sym, ap, subst, ◌∙◌, arith}
 use Rattle.std.proofs.lemmas.List.{map_push, take_rest}
 use Rattle.tape_frames.specs.declared.item.Item.{Item}
 use Rattle.tape_frames.specs.declared.column.Column.TheVariants as columns
 use Rattle.tape_frames.specs.declared.column.Form.{Form}
 use Rattle.tape_frames.specs.Fields.{Field, spelled}
 use Rattle.tape_frames.specs.Items.{field_of}
-use Rattle.tape_frames.specs.Columns.{form_at}
-use Rattle.tape_frames.specs.Sticks.{Reads, Sticks, IsFirstSet}
-use Rattle.tape_frames.proofs.Rests.{ReadSo, read_more, read_sticks, read_tail, field_small}
+use Rattle.tape_frames.specs.Columns.{form_at, form_size}
+use Rattle.tape_frames.specs.Sticks.{Reads, Sticks, IsFirstSet, IsBounded}
+use Rattle.tape_frames.proofs.Rests.{bounded, read_room, ReadSo, read_more, read_sticks, read_tail, field_small}
 use Rattle.tape_frames.proofs.reading.read_row.Goals as goal
+
+pub read_item-requires-clause-room : goal.read_item-requires-clause-room
+read_item-requires-clause-room c =
+    let col = get_or c.args.row.now c.loop-column.column-index columns.Any in
+    let fields = map field_of c.loop-column.items in
+    let form : c.form_of.result ≡ form_at col fields = c.form_of.ensures ∙ ap (λ (x : List Item). form_at col (map field_of x)) c.as_slice.ensures in
+    let fits : form_size (form_at col fields) ≤ length (drop c.loop-column.at c.args.body.now)
+    = read_room c.args.row.now c.loop-column.column-index c.args.body.now fields c.loop-column.at columns.Any c.loop-column.invariant c.loop-column-test.true in
+    subst (λ (f : Form). form_size f ≤ length (take (length c.args.body.now - c.loop-column.at) (drop c.loop-column.at c.args.body.now))) (sym form)
+    (subst (λ (x : List ℕ). form_size (form_at col fields) ≤ length x) (sym (take_rest c.args.body.now c.loop-column.at)) fits)
+
+pub read_item-requires-clause-some : goal.read_item-requires-clause-some
+read_item-requires-clause-some c =
+    let col = get_or c.args.row.now c.loop-column.column-index columns.Any in
+    let fields = map field_of c.loop-column.items in
+    let form : c.form_of.result ≡ form_at col fields = c.form_of.ensures ∙ ap (λ (x : List Item). form_at col (map field_of x)) c.as_slice.ensures in
+    subst IsBounded (sym form) (bounded col fields)
 
 pub len_of-at-requires : goal.len_of-at-requires
 len_of-at-requires c =

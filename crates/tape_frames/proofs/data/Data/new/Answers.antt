@@ -8,4 +8,4 @@ invariant_of-result c =
     let dump : c.args.fields.dump ≤ 4294967295 = search rules in
     let index : c.args.fields.index ≤ 4294967295 = search rules in
     let long : length c.args.fields.bytes ≡ 16352 = search rules in
-    ((omega arith, dump), ((omega arith, index), ((is.0, is.1), (refl, ((long, c.are_bytes.ensures, is.2), tt)))))
+    ((omega arith, dump, omega (arith, dump)), ((omega arith, index, omega (arith, index)), ((is.0, is.1, omega (arith, is.1)), (refl, ((long, c.are_bytes.ensures, is.2), tt)))))
