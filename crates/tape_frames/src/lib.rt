@@ -31,3 +31,6 @@ pub use row::Kind;
 pub use vol_end::{VolEnd, VolEndFields};
 pub use vol_head::{VolHead, VolHeadFields};
 pub use writing::Block;
+
+#[cfg(test)]
+mod tests;
