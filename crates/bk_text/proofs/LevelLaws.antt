@@ -83,7 +83,7 @@ again_to count at bs (c ∷ cs) elements each_byte some each joined short =
     let slash : c ≡ 47 = cc in
     absurd (is.2 slash)
 
-again_from : (count at : ℕ) (bs : List ℕ) → 0 < count → count ≤ 28 → PathRest 0 (at + 1) bs → PathRest count at (47 ∷ bs)
+pub again_from : (count at : ℕ) (bs : List ℕ) → 0 < count → count ≤ 28 → PathRest 0 (at + 1) bs → PathRest count at (47 ∷ bs)
 again_from count at bs some most rest = record {
   front = [];
   elements = rest.front ∷ rest.elements;
@@ -115,7 +115,7 @@ byte_to count at b bs (c ∷ cs) elements other each_byte most each joined short
       },
     )
 
-byte_from : (count at b : ℕ) (bs : List ℕ) → IsNameByte b → PathRest (count + 1) (at + 1) bs → PathRest count at (b ∷ bs)
+pub byte_from : (count at b : ℕ) (bs : List ℕ) → IsNameByte b → PathRest (count + 1) (at + 1) bs → PathRest count at (b ∷ bs)
 byte_from count at b bs is rest = record {
   front = b ∷ rest.front;
   elements = rest.elements;
@@ -149,13 +149,13 @@ path_begins text some slash = record {
 }
 
 -- the next byte, and what stands behind it
-next_byte : (at b : ℕ) (text rest : List ℕ) → at < length text → get_or text at 0 ≡ b → take (at + 1) text ++ rest ≡ take at text ++ (b ∷ rest)
+pub next_byte : (at b : ℕ) (text rest : List ℕ) → at < length text → get_or text at 0 ≡ b → take (at + 1) text ++ rest ≡ take at text ++ (b ∷ rest)
 next_byte at b text rest within is = ap (λ (l : List ℕ). l ++ rest) (take_more text at 0 within) ∙ append_assoc (take at text) (get_or text at 0 ∷ []) rest ∙ ap (λ (c : ℕ). take at text ++ (c ∷ rest)) is
 
-again : (count at : ℕ) (bs : List ℕ) → PathRest count at (47 ∷ bs) → (0 < count) × PathRest 0 (at + 1) bs
+pub again : (count at : ℕ) (bs : List ℕ) → PathRest count at (47 ∷ bs) → (0 < count) × PathRest 0 (at + 1) bs
 again count at bs rest = again_to count at bs rest.front rest.elements rest.each_byte rest.some rest.each rest.joined rest.short
 
-one_more : (count at b : ℕ) (bs : List ℕ) → b ≢ 47 → PathRest count at (b ∷ bs) → IsNameByte b × (count < 28) × PathRest (count + 1) (at + 1) bs
+pub one_more : (count at b : ℕ) (bs : List ℕ) → b ≢ 47 → PathRest count at (b ∷ bs) → IsNameByte b × (count < 28) × PathRest (count + 1) (at + 1) bs
 one_more count at b bs other rest = byte_to count at b bs rest.front rest.elements other rest.each_byte rest.most rest.each rest.joined rest.short
 
 pub path_slash_more : (count at : ℕ) (text : List ℕ) → at < length text → GoesPath count at text → get_or text at 0 ≡ 47 → MayFollow count at 47 → GoesPath 0 (at + 1) text
@@ -253,7 +253,7 @@ nothing_joined [] some joined = omega arith
 nothing_joined (e ∷ es) some joined = cc
 
 -- a path has a first byte, which is a slash
-short_path : IsLevelPath (47 ∷ 97 ∷ [])
+pub short_path : IsLevelPath (47 ∷ 97 ∷ [])
 short_path = slash_from (97 ∷ []) (record {
   front = 97 ∷ [];
   elements = [];

@@ -1,5 +1,5 @@
 pub mod Fails
-mod LevelLaws
+pub mod LevelLaws
 pub mod LevelParts
 mod PatternRows
 mod WordLaws

@@ -1,0 +1,10 @@
+mod Writes
+mod Forms
+mod Numbers
+mod Zeros
+mod Words
+mod Rests
+mod Heads
+mod Builds
+mod Wholes
+mod Paths

@@ -1,0 +1,5 @@
+use Rattle.tape_frames.proofs.Wholes.{same_frame}
+use Rattle.tape_frames.proofs.decoding.one_frame.Goals as goal
+
+pub returns : goal.returns
+returns c = same_frame

@@ -1,0 +1,12 @@
+pub mod Fields
+pub mod Items
+pub mod Columns
+pub mod Rows
+pub mod Layouts
+pub mod Frames
+pub mod Blocks
+pub mod Sticks
+pub mod Rests
+pub mod Heads
+pub mod Builds
+pub mod Decodes

@@ -1,0 +1,85 @@
+//! A piece of a volume's stream on a tape.
+
+ghost use Rattle.std.specs.Prelude.{◌≡◌, ◌<◌, All};
+ghost use Rattle.tape_frames.specs.declared.row.Kind.TheVariants as kinds;
+ghost use Rattle.tape_frames.specs.Blocks.{block_of};
+ghost use Rattle.tape_frames.specs.Layouts.{data_values, IsData};
+
+use crate::item::Item;
+use crate::row::Kind;
+use crate::writing::{Block, write_frame};
+use std::marker::Model;
+
+/// The fields of a piece of data, in the order of its block.
+#[derive(Debug, Drop)]
+pub struct DataFields {
+    /// The id of the dump.
+    pub dump: u32,
+    /// The place of the volume in the dump, from 0 on.
+    pub index: u32,
+    /// The number of bytes that are used, 1 to 16,352.
+    pub used: u32,
+    /// These bytes, and zeros behind them.
+    pub bytes: [u8; 16352],
+}
+
+/// A piece of a volume's stream: 1 to 16,352 bytes.
+#[derive(Debug, Drop)]
+pub struct Data {
+    fields: DataFields,
+}
+
+impl Model for Data {
+    ghost use Rattle.tape_frames.specs.declared.data.DataFields.{DataFields};
+    ghost use Rattle.tape_frames.specs.Layouts.{FitsData};
+
+    ghost Value = { DataFields };
+
+    ghost view = { λ a. a.fields };
+
+    ghost invariant = { λ a. FitsData a.fields };
+}
+
+/// Bytes are below 256, whichever they are.
+fn are_bytes(bytes: &[u8])
+    ensures { All (λ b. b < 256) bytes.now }
+{
+    let _bytes = bytes;
+}
+
+impl Data {
+    /// The piece of these fields.
+    pub fn new(fields: DataFields) -> Self
+        requires { IsData fields }
+        ensures { result ≡ fields }
+    {
+        are_bytes(&fields.bytes);
+        Data { fields }
+    }
+
+    /// Its fields.
+    pub fn fields(&self) -> &DataFields
+        ensures value { result.now ≡ self.now }
+        ensures form { IsData self.now }
+    {
+        &self.fields
+    }
+
+    /// Writes its block. It takes no memory.
+    pub fn encode(&self, into: &mut Block)
+        ensures { into.new ≡ block_of kinds.Data (data_values self.now) }
+    {
+        let a = &self.fields;
+        write_frame(
+            into,
+            Kind::Data,
+            &[
+                Item::Number(a.dump),
+                Item::Number(a.index),
+                Item::Number(a.used),
+                Item::Blank(12),
+                Item::Raw(&a.bytes),
+            ],
+        );
+    }
+}

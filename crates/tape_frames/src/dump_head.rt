@@ -1,0 +1,112 @@
+//! The head of a dump's part on a tape.
+
+ghost use Rattle.std.specs.Prelude.{◌≡◌, ◌↔◌, IsTrue};
+ghost use Rattle.tape_frames.specs.declared.row.Kind.TheVariants as kinds;
+ghost use Rattle.tape_frames.specs.Blocks.{block_of};
+ghost use Rattle.tape_frames.specs.Layouts.{dump_head_values, IsDumpHead};
+
+use crate::item::Item;
+use crate::row::Kind;
+use crate::writing::{Block, write_frame};
+use bk_text::{LevelPath, SetName, TapeName};
+use std::marker::Model;
+
+/// The fields of a dump's head, in the order of its block.
+#[derive(Debug, Drop)]
+pub struct DumpHeadFields {
+    /// The id of the dump.
+    pub id: u32,
+    /// The id of the first dump on its tapes: its own, or an earlier one that it is appended to.
+    pub initial: u32,
+    /// The id of the dump that this one is taken since; 0 for a full dump.
+    pub parent: u32,
+    /// When it expires, in seconds since 1970; 0 where it has no expiration.
+    pub expires: u32,
+    /// The number of the tape, from 1 on.
+    pub tape: u32,
+    /// The number of this part of the dump, from 1 on.
+    pub part: u32,
+    /// The number of volumes of the dump.
+    pub volumes: u32,
+    /// The volume set.
+    pub set: SetName,
+    /// The level.
+    pub level: LevelPath,
+    /// What the names of its tapes begin with, at most 69 bytes.
+    pub base: TapeName,
+}
+
+/// The head of a dump's part. Id, initial, tape, part and volumes are at least 1, and initial is at most the id.
+#[derive(Debug, Drop)]
+pub struct DumpHead {
+    fields: DumpHeadFields,
+}
+
+impl Model for DumpHead {
+    ghost use Rattle.tape_frames.specs.declared.dump_head.DumpHeadFields.{DumpHeadFields};
+    ghost use Rattle.tape_frames.specs.Layouts.{FitsDumpHead};
+
+    ghost Value = { DumpHeadFields };
+
+    ghost view = { λ a. a.fields };
+
+    ghost invariant = { λ a. FitsDumpHead a.fields };
+}
+
+impl DumpHeadFields {
+    /// Whether a dump's head may have these fields.
+    pub fn is_dump_head(&self) -> bool
+        ensures { IsTrue result ↔ IsDumpHead self.now }
+    {
+        1 <= self.initial
+            && self.initial <= self.id
+            && 1 <= self.tape
+            && 1 <= self.part
+            && 1 <= self.volumes
+            && self.base.bytes().len() <= 69
+    }
+}
+
+impl DumpHead {
+    /// The head of these fields, which `DumpHeadFields::is_dump_head` tests.
+    pub fn new(fields: DumpHeadFields) -> Self
+        requires { IsDumpHead fields }
+        ensures { result ≡ fields }
+    {
+        let _set = fields.set.bytes();
+        let _level = fields.level.bytes();
+        let _base = fields.base.bytes();
+        DumpHead { fields }
+    }
+
+    /// Its fields.
+    pub fn fields(&self) -> &DumpHeadFields
+        ensures value { result.now ≡ self.now }
+        ensures form { IsDumpHead self.now }
+    {
+        &self.fields
+    }
+
+    /// Writes its block. It takes no memory.
+    pub fn encode(&self, into: &mut Block)
+        ensures { into.new ≡ block_of kinds.DumpHead (dump_head_values self.now) }
+    {
+        let a = &self.fields;
+        write_frame(
+            into,
+            Kind::DumpHead,
+            &[
+                Item::Number(a.id),
+                Item::Number(a.initial),
+                Item::Number(a.parent),
+                Item::Number(a.expires),
+                Item::Number(a.tape),
+                Item::Number(a.part),
+                Item::Number(a.volumes),
+                Item::Word(a.set.bytes()),
+                Item::Path(a.level.bytes()),
+                Item::Word(a.base.bytes()),
+            ],
+        );
+    }
+}

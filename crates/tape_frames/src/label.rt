@@ -1,0 +1,96 @@
+//! The label of a tape.
+
+ghost use Rattle.std.specs.Prelude.{◌≡◌, ◌↔◌, IsTrue};
+ghost use Rattle.tape_frames.specs.declared.row.Kind.TheVariants as kinds;
+ghost use Rattle.tape_frames.specs.Blocks.{block_of};
+ghost use Rattle.tape_frames.specs.Layouts.{label_values, IsLabel, IsMaybeName};
+
+use crate::item::Item;
+use crate::row::Kind;
+use crate::writing::{Block, write_frame};
+use bk_text::{Bytes, TapeName};
+use std::marker::Model;
+
+/// The fields of a label, in the order of its block.
+#[derive(Debug, Drop)]
+pub struct LabelFields {
+    /// The id of the initial dump that the tape belongs to, 0 where it carries none.
+    pub initial: u32,
+    /// The number of the tape in that dump, from 1 on; 0 where it carries none.
+    pub tape: u32,
+    /// The name that the dump's tapes are known by, a tape's name; it may be empty where the tape carries no dump.
+    pub afs: Bytes,
+    /// The name that stays with the tape, a tape's name or empty.
+    pub permanent: Bytes,
+}
+
+/// A tape's label. Initial and tape are both 0, or both aren't and the AFS name isn't empty.
+#[derive(Debug, Drop)]
+pub struct Label {
+    fields: LabelFields,
+}
+
+impl Model for Label {
+    ghost use Rattle.tape_frames.specs.declared.label.LabelFields.{LabelFields};
+    ghost use Rattle.tape_frames.specs.Layouts.{FitsLabel};
+
+    ghost Value = { LabelFields };
+
+    ghost view = { λ a. a.fields };
+
+    ghost invariant = { λ a. FitsLabel a.fields };
+}
+
+/// Whether these bytes are a tape's name, or none.
+fn is_maybe_name(bytes: &[u8]) -> bool
+    ensures { IsTrue result ↔ IsMaybeName bytes.now }
+{
+    TapeName::is_tape_name(bytes) || bytes.is_empty()
+}
+
+impl LabelFields {
+    /// Whether a label may have these fields.
+    pub fn is_label(&self) -> bool
+        ensures { IsTrue result ↔ IsLabel self.now }
+    {
+        is_maybe_name(self.afs.as_slice())
+            && is_maybe_name(self.permanent.as_slice())
+            && ((self.initial == 0 && self.tape == 0)
+                || (self.initial != 0 && self.tape != 0 && !self.afs.is_empty()))
+    }
+}
+
+impl Label {
+    /// The label of these fields, which `LabelFields::is_label` tests.
+    pub fn new(fields: LabelFields) -> Self
+        requires { IsLabel fields }
+        ensures { result ≡ fields }
+    {
+        Label { fields }
+    }
+
+    /// Its fields.
+    pub fn fields(&self) -> &LabelFields
+        ensures value { result.now ≡ self.now }
+        ensures form { IsLabel self.now }
+    {
+        &self.fields
+    }
+
+    /// Writes its block. It takes no memory.
+    pub fn encode(&self, into: &mut Block)
+        ensures { into.new ≡ block_of kinds.Label (label_values self.now) }
+    {
+        let a = &self.fields;
+        write_frame(
+            into,
+            Kind::Label,
+            &[
+                Item::Number(a.initial),
+                Item::Number(a.tape),
+                Item::Word(a.afs.as_slice()),
+                Item::Word(a.permanent.as_slice()),
+            ],
+        );
+    }
+}

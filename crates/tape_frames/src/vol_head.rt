@@ -1,0 +1,95 @@
+//! The head of a volume's fragment on a tape.
+
+ghost use Rattle.std.specs.Prelude.{◌≡◌, ◌≤◌};
+ghost use Rattle.tape_frames.specs.declared.row.Kind.TheVariants as kinds;
+ghost use Rattle.tape_frames.specs.Blocks.{block_of};
+ghost use Rattle.tape_frames.specs.Layouts.{vol_head_values};
+
+use crate::item::Item;
+use crate::row::Kind;
+use crate::writing::{Block, write_frame};
+use bk_text::{Host, Name, Part};
+use std::marker::Model;
+
+/// The fields of a volume's head, in the order of its block.
+#[derive(Debug, Drop)]
+pub struct VolHeadFields {
+    /// The id of the dump.
+    pub dump: u32,
+    /// The place of the volume in the dump, from 0 on.
+    pub index: u32,
+    /// The number of this fragment of the volume's stream, from 1 on.
+    pub fragment: u32,
+    /// The id of the volume.
+    pub volume: u32,
+    /// The time of the copy that was dumped, in seconds since 1970.
+    pub clone: u32,
+    /// The time from which on changes are dumped, in seconds since 1970; 0 for the whole volume.
+    pub from: u32,
+    /// The name of the volume.
+    pub name: Name,
+    /// The server that it lies on.
+    pub server: Host,
+    /// The partition that it lies on.
+    pub partition: Part,
+}
+
+/// The head of a volume's fragment. The fragment's number is at least 1.
+#[derive(Debug, Drop)]
+pub struct VolHead {
+    fields: VolHeadFields,
+}
+
+impl Model for VolHead {
+    ghost use Rattle.tape_frames.specs.declared.vol_head.VolHeadFields.{VolHeadFields};
+    ghost use Rattle.tape_frames.specs.Layouts.{FitsVolHead};
+
+    ghost Value = { VolHeadFields };
+
+    ghost view = { λ a. a.fields };
+
+    ghost invariant = { λ a. FitsVolHead a.fields };
+}
+
+impl VolHead {
+    /// The head of these fields.
+    pub fn new(fields: VolHeadFields) -> Self
+        requires { 1 ≤ fields.fragment }
+        ensures { result ≡ fields }
+    {
+        let _name = fields.name.bytes();
+        let _server = fields.server.bytes();
+        let _partition = fields.partition.bytes();
+        VolHead { fields }
+    }
+
+    /// Its fields.
+    pub fn fields(&self) -> &VolHeadFields
+        ensures value { result.now ≡ self.now }
+        ensures fragment { 1 ≤ self.now.fragment }
+    {
+        &self.fields
+    }
+
+    /// Writes its block. It takes no memory.
+    pub fn encode(&self, into: &mut Block)
+        ensures { into.new ≡ block_of kinds.VolHead (vol_head_values self.now) }
+    {
+        let a = &self.fields;
+        write_frame(
+            into,
+            Kind::VolHead,
+            &[
+                Item::Number(a.dump),
+                Item::Number(a.index),
+                Item::Number(a.fragment),
+                Item::Number(a.volume),
+                Item::Number(a.clone),
+                Item::Number(a.from),
+                Item::Word(a.name.bytes()),
+                Item::Word(a.server.bytes()),
+                Item::Word(a.partition.bytes()),
+            ],
+        );
+    }
+}
