@@ -1,0 +1,6 @@
+mod Closing
+mod Committing
+mod Naming
+mod Opening
+mod Slots
+mod Spans

@@ -1,0 +1,4 @@
+pub mod Fit
+pub mod Log
+pub mod State
+pub mod Turn

@@ -1,0 +1,6 @@
+//! A log in one file of a media. A crash at any moment leaves the log from before a call or the one after it.
+#![tactic(auto)]
+
+mod settle;
+mod state;
+mod turn;
