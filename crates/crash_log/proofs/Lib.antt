@@ -1,6 +1,10 @@
 mod Closing
 mod Committing
+mod Formatting
+mod Front
 mod Naming
 mod Opening
 mod Slots
 mod Spans
+mod Stale
+mod WritingApart

@@ -60,6 +60,7 @@ pub record IsStale {D : Type 0} (moments : Moments D Image) (seen : D → Image)
   pub fine : IsFine (place_in log)
   pub none : log.more ≡ 0
   pub shut : log.other_open ≡ false
+  pub gate : gate_at (other_of log) ((seen media).file log.file) ≡ 1
   pub stands : Stands (base_of log) (place_in log) (settled_bytes log ((seen media).file log.file)) ((seen media).file log.file)
   pub other_bad : is_good (other_of log) ((seen media).file log.file) ≡ false
 

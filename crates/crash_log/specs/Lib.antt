@@ -1,4 +1,5 @@
 pub mod Fit
+pub mod Format
 pub mod Log
 pub mod State
 pub mod Turn

@@ -1,6 +1,9 @@
 //! A log in one file of a media. A crash at any moment leaves the log from before a call or the one after it.
 #![tactic(auto)]
 
+mod apart;
+mod format;
+mod mend;
 mod settle;
 mod state;
 mod turn;
