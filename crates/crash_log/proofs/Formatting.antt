@@ -1,5 +1,5 @@
 -- A blank file and a damaged one are formatted: at each moment their log is empty.
-use Rattle.std.proofs.Common.{◌≡◌, ◌≢◌, ◌⊎◌, inl, inr, ℕ, zero, suc, ◌+◌, ◌<◌, ◌≤◌, lit≤, Bool, true, false, List, [], ◌∷◌, ◌++◌, length, take, drop, refl, sym, ◌∙◌, ap, subst, arith, slice_index, length-drop}
+use Rattle.std.proofs.Common.{◌≡◌, ◌≢◌, ◌⊎◌, inl, inr, ℕ, zero, suc, ◌+◌, ◌<◌, ◌≤◌, lit≤, false, List, [], ◌∷◌, ◌++◌, length, drop, refl, sym, ◌∙◌, ap, subst, arith, slice_index, length-drop}
 use Rattle.std.proofs.lemmas.Bool.{cases_lt, cases_eq}
 use Rattle.std.proofs.lemmas.Bool.Decides.{nat_tests}
 use Rattle.std.proofs.lemmas.List.{length-take}
@@ -7,8 +7,8 @@ use Rattle.crash_moments.specs.Moments.{Moments, Leads}
 use Rattle.crash_moments.proofs.Joining.{weakened, joined, stays}
 use Rattle.media_core.specs.Media.{Image, Torn, AtFile, Holds, written}
 use Rattle.media_core.specs.Kept.{written_torn}
-use Rattle.crash_log.specs.Log.{span, Place, place_of, IsFine, gate_at, place_at, is_good, is_fine, log_of, HasLog}
-use Rattle.crash_log.specs.State.{base_of, other_of, place_in, put_bytes, settled_bytes, empty_state}
+use Rattle.crash_log.specs.Log.{span, place_of, IsFine, gate_at, place_at, is_good, log_of, HasLog}
+use Rattle.crash_log.specs.State.{settled_bytes, empty_state}
 use Rattle.crash_log.specs.Fit.{Stands, IsReady, IsStill, SameLog}
 use Rattle.crash_log.specs.Format.{first_place, IsFront, HasNoGood, IsShut, IsPlaced, IsFormatted, Has}
 use Rattle.crash_log.specs.declared.state.LogState.{LogState}

@@ -1,7 +1,7 @@
 -- The first bytes of a log without bytes.
-use Rattle.std.proofs.Common.{◌≡◌, ◌≢◌, ℕ, ◌+◌, ◌-◌, ◌<◌, List, [], ◌∷◌, ◌++◌, length, take, drop, replicate, slice_set, slice_index, refl, sym, ◌∙◌, ap, subst, arith}
+use Rattle.std.proofs.Common.{◌≡◌, ℕ, List, [], ◌∷◌, ◌++◌, length, drop, replicate, slice_set, slice_index, refl, sym, ◌∙◌, ap, subst, arith}
 use Rattle.std.proofs.lemmas.List.{get_or-take, get_or-drop, get_or-append_right, get_or-replicate, length-replicate, replicate-append-replicate}
-use Rattle.crash_log.specs.Log.{span, Place, place_of, gate_at, place_at}
+use Rattle.crash_log.specs.Log.{span, place_of, place_at}
 use Rattle.crash_log.specs.Format.{first_place, IsFront}
 
 abbrev slot : List ℕ
@@ -21,8 +21,8 @@ front_has n is = record {
   place = place_here (replicate n 0);
   other = λ is_one.
       let zero_is : slice_index (span 4096 1 (slot ++ replicate n 0)) 0 ≡ 0 =
-          get_or-take 1 (drop 4096 (slot ++ replicate n 0)) 0 0 (omega arith) ∙ get_or-drop 4096 (slot ++ replicate n 0) 0 0
-          ∙ get_or-append_right slot (replicate n 0) 24 4096 0 refl (omega arith) ∙ get_or-replicate n 4072 0 0 (omega (arith, is)) in
+      get_or-take 1 (drop 4096 (slot ++ replicate n 0)) 0 0 (omega arith) ∙ get_or-drop 4096 (slot ++ replicate n 0) 0 0
+      ∙ get_or-append_right slot (replicate n 0) 24 4096 0 refl (omega arith) ∙ get_or-replicate n 4072 0 0 (omega (arith, is)) in
       let no : 0 ≡ 1 = sym zero_is ∙ is_one in
       absurd (omega (arith, no));
 }

@@ -1,3 +1,4 @@
+pub mod Changing
 mod Closing
 mod Committing
 mod Formatting

@@ -1,14 +1,14 @@
 -- A stale gate is closed.
-use Rattle.std.proofs.Common.{◌≡◌, ◌≢◌, ◌⊎◌, inl, inr, ℕ, ◌+◌, ◌<◌, ◌≤◌, Bool, true, false, List, [], ◌∷◌, length, refl, sym, ◌∙◌, ap, subst, arith, slice_index}
+use Rattle.std.proofs.Common.{◌≡◌, inl, ℕ, ◌+◌, ◌≤◌, Bool, List, [], ◌∷◌, length, refl, sym, ◌∙◌, ap, subst, arith, slice_index}
 use Rattle.crash_moments.specs.Moments.{Moments, Leads}
 use Rattle.crash_moments.proofs.Joining.{weakened}
-use Rattle.media_core.specs.Media.{Image, Torn, AtFile, Holds, written}
+use Rattle.media_core.specs.Media.{Image, Torn, AtFile, Holds}
 use Rattle.media_core.specs.Kept.{written_torn}
-use Rattle.crash_log.specs.Log.{span, Place, place_of, IsFine, gate_at, place_at, is_good, log_of, HasLog}
-use Rattle.crash_log.specs.State.{base_of, other_of, place_in, put_bytes, settled_bytes}
+use Rattle.crash_log.specs.Log.{gate_at, log_of, HasLog}
+use Rattle.crash_log.specs.State.{base_of, other_of, place_in, settled_bytes}
 use Rattle.crash_log.specs.Fit.{Stands, Other, IsReady, IsStill, IsStale, SameBehind, SameLog}
 use Rattle.crash_log.specs.declared.state.LogState.{LogState}
-use Rattle.crash_log.proofs.Spans.{torn_span, written_span, same_behind}
+use Rattle.crash_log.proofs.Spans.{written_span, same_behind}
 use Rattle.crash_log.proofs.Slots.{stands_log, stands_apart, gate_torn_bad}
 use Rattle.crash_log.proofs.Closing.{apart, other_low}
 

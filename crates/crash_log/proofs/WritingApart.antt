@@ -1,13 +1,13 @@
 -- Data is written apart from the slots and the current range.
-use Rattle.std.proofs.Common.{◌≡◌, ◌≢◌, ◌⊎◌, inl, inr, ℕ, ◌+◌, ◌<◌, ◌≤◌, Bool, true, false, List, [], ◌∷◌, ◌++◌, length, take, drop, refl, sym, ◌∙◌, ap, subst, arith, slice_index, length-drop, take-add}
+use Rattle.std.proofs.Common.{◌≡◌, ◌⊎◌, inl, inr, ℕ, ◌+◌, ◌≤◌, Bool, true, false, List, ◌++◌, length, take, drop, sym, ◌∙◌, ap, subst, arith, slice_index, length-drop, take-add}
 use Rattle.std.proofs.lemmas.List.{length-take, drop-drop}
 use Rattle.crash_moments.specs.Moments.{Moments, Leads}
 use Rattle.crash_moments.proofs.Joining.{weakened}
 use Rattle.media_core.specs.Media.{Image, Torn, AtFile, Holds, written}
 use Rattle.media_core.specs.Kept.{written_torn}
-use Rattle.crash_log.specs.Log.{span, Place, place_of, IsFine, gate_at, place_at, successor, log_of, HasLog}
-use Rattle.crash_log.specs.State.{base_of, other_of, place_in, put_bytes, settled_bytes, with_more}
-use Rattle.crash_log.specs.Fit.{Stands, Yields, Other, IsReady}
+use Rattle.crash_log.specs.Log.{span, Place, place_of, gate_at, place_at, HasLog}
+use Rattle.crash_log.specs.State.{base_of, other_of, place_in, settled_bytes, with_more}
+use Rattle.crash_log.specs.Fit.{Stands, Other, IsReady}
 use Rattle.crash_log.specs.declared.state.LogState.{LogState}
 use Rattle.crash_log.proofs.Spans.{torn_span, written_span}
 use Rattle.crash_log.proofs.Slots.{stands_log, yields_still}

@@ -1,5 +1,5 @@
 -- The steps by which a blank file and a damaged one are formatted.
-use Rattle.std.specs.Prelude.{◌≡◌, ◌≢◌, ◌⊎◌, ℕ, ◌+◌, ◌≤◌, List, length, false}
+use Rattle.std.specs.Prelude.{◌≡◌, ◌≢◌, ℕ, ◌≤◌, List, length, false}
 use Rattle.crash_moments.specs.Moments.{Moments}
 use Rattle.media_core.specs.Media.{Image}
 use Rattle.crash_log.specs.Log.{Place, gate_at, place_at, is_good}

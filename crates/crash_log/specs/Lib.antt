@@ -1,3 +1,4 @@
+pub mod CrashLog
 pub mod Fit
 pub mod Format
 pub mod Log

@@ -10,7 +10,12 @@ use crate::state::LogState;
 use media_core::{Failed, Media};
 
 /// Writes bytes from `at` on, behind the slots and outside of the current range. The next sync settles them.
-pub fn write_apart<M: Media>(log: &LogState, media: &mut M, at: u64, bytes: &[u8]) -> Result<(), Failed>
+pub fn write_apart<M: Media>(
+    log: &LogState,
+    media: &mut M,
+    at: u64,
+    bytes: &[u8],
+) -> Result<(), Failed>
     requires here { IsTrue (M.present media.old log.now.file) }
     requires low { 8192 ≤ at }
     requires apart { (at + length bytes.now ≤ log.now.start) ⊎ (log.now.start + log.now.size ≤ at) }

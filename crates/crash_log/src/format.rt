@@ -96,12 +96,7 @@ fn close_gate<M: Media>(media: &mut M, f: u32, base: u64, is_open: bool) -> Resu
 }
 
 /// Closes both gates of a damaged file, of which it is known which are open.
-fn close_gates<M: Media>(
-    media: &mut M,
-    f: u32,
-    first: bool,
-    second: bool,
-) -> Result<(), Failed>
+fn close_gates<M: Media>(media: &mut M, f: u32, first: bool, second: bool) -> Result<(), Failed>
     requires here { IsTrue (M.present media.old f) }
     requires bad { M.tells → Has M.time M.seen HasNoGood f media.old }
     requires first { M.tells → (IsTrue first ↔ (gate_at 0 ((M.seen media.old).file f) ≡ 1)) }

@@ -3,7 +3,10 @@
 
 mod apart;
 mod format;
+mod log;
 mod mend;
 mod settle;
 mod state;
 mod turn;
+
+pub use log::{CrashLog, PutFault};

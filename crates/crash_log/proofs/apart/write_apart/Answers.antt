@@ -1,6 +1,4 @@
-use Rattle.std.proofs.Common.{◌≡◌, ◌⊎◌, inl, inr, ℕ, ◌+◌, ◌≤◌, [], ◌∷◌, List, length, refl, sym, ◌∙◌, ap, subst, arith, rules}
-use Rattle.crash_moments.specs.Moments.{Leads}
-use Rattle.media_core.specs.Media.{AtFile, Torn, Holds}
+use Rattle.std.proofs.Common.{length, refl}
 use Rattle.crash_log.proofs.WritingApart.{writing, wrote_ready, wrote_bytes, wrote_long, wrote_before, wrote_settled}
 use Rattle.crash_log.proofs.apart.write_apart.Goals as goal
 

@@ -1,6 +1,4 @@
-use Rattle.std.proofs.Common.{◌≡◌, ◌⊎◌, inl, inr, ℕ, ◌+◌, ◌≤◌, [], ◌∷◌, List, length, refl, sym, ◌∙◌, ap, subst, arith, rules}
-use Rattle.crash_moments.specs.Moments.{Leads}
-use Rattle.media_core.specs.Media.{AtFile, Torn, Holds}
+use Rattle.std.proofs.Common.{inl, inr, sym, ◌∙◌, arith}
 use Rattle.crash_log.proofs.Formatting.{empties_twice}
 use Rattle.crash_log.proofs.format.close_gates.Goals as goal
 

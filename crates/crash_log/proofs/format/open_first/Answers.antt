@@ -1,6 +1,3 @@
-use Rattle.std.proofs.Common.{◌≡◌, ◌⊎◌, inl, inr, ℕ, ◌+◌, ◌≤◌, [], ◌∷◌, List, length, refl, sym, ◌∙◌, ap, subst, arith, rules}
-use Rattle.crash_moments.specs.Moments.{Leads}
-use Rattle.media_core.specs.Media.{AtFile, Torn, Holds}
 use Rattle.crash_log.proofs.Formatting.{open_empties, open_has}
 use Rattle.crash_log.proofs.format.open_first.Goals as goal
 

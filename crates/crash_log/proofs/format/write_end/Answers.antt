@@ -1,6 +1,3 @@
-use Rattle.std.proofs.Common.{◌≡◌, ◌⊎◌, inl, inr, ℕ, ◌+◌, ◌≤◌, [], ◌∷◌, List, length, refl, sym, ◌∙◌, ap, subst, arith, rules}
-use Rattle.crash_moments.specs.Moments.{Leads}
-use Rattle.media_core.specs.Media.{AtFile, Torn, Holds}
 use Rattle.crash_log.proofs.Formatting.{end_empties, end_has}
 use Rattle.crash_log.proofs.format.write_end.Goals as goal
 

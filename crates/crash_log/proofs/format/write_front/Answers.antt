@@ -1,6 +1,6 @@
-use Rattle.std.proofs.Common.{◌≡◌, ◌⊎◌, inl, inr, ℕ, ◌+◌, ◌≤◌, [], ◌∷◌, List, length, refl, sym, ◌∙◌, ap, subst, arith, rules}
+use Rattle.std.proofs.Common.{ℕ, subst}
 use Rattle.crash_moments.specs.Moments.{Leads}
-use Rattle.media_core.specs.Media.{AtFile, Torn, Holds}
+use Rattle.media_core.specs.Media.{AtFile, Torn}
 use Rattle.crash_log.proofs.Formatting.{front_empties, front_has}
 use Rattle.crash_log.proofs.format.write_front.Goals as goal
 

@@ -1,4 +1,4 @@
-use Rattle.std.proofs.Common.{◌≡◌, ◌⊎◌, inl, inr, ℕ, ◌+◌, ◌≤◌, [], ◌∷◌, List, length, refl, sym, ◌∙◌, ap, subst, arith, rules}
+use Rattle.std.proofs.Common.{ℕ, [], ◌∷◌, subst}
 use Rattle.crash_moments.specs.Moments.{Leads}
 use Rattle.media_core.specs.Media.{AtFile, Torn, Holds}
 use Rattle.crash_log.proofs.Stale.{unstaling, unstale_same, unstale_ready}

@@ -1,7 +1,7 @@
-use Rattle.std.proofs.Common.{◌≡◌, ℕ, List, refl, sym, ◌∙◌, ap, subst}
-use Rattle.crash_log.specs.Fit.{FitsAs, IsReady, IsBlank, IsBad, IsStale}
+use Rattle.std.proofs.Common.{subst}
+use Rattle.crash_log.specs.Fit.{FitsAs, IsBlank, IsBad}
 use Rattle.crash_log.specs.declared.state.Needs.{Needs}
-use Rattle.crash_log.specs.declared.state.Needs.TheVariants.{Nothing, Blank, Damaged, Stale}
+use Rattle.crash_log.specs.declared.state.Needs.TheVariants.{Blank, Damaged}
 use Rattle.crash_log.proofs.Closing.{idle}
 use Rattle.crash_log.proofs.Formatting.{formatted_ready, empty_same, empty_settled, as_settled}
 use Rattle.crash_log.proofs.mend.mend.Goals as goal
