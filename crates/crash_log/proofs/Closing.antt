@@ -12,7 +12,7 @@ use Rattle.crash_log.specs.declared.state.LogState.{LogState}
 use Rattle.crash_log.proofs.Spans.{written_span, same_behind}
 use Rattle.crash_log.proofs.Slots.{Apart, IsOther, stands_log, stands_apart, gate_torn, shut_false}
 
-apart_of : (second : Bool) → Apart (if second then 4096 else 0) (if second then 0 else 4096)
+pub apart_of : (second : Bool) → Apart (if second then 4096 else 0) (if second then 0 else 4096)
 apart_of true = record { bases = inr (refl, refl) }
 apart_of false = record { bases = inl (refl, refl) }
 

@@ -4,6 +4,7 @@ mod Committing
 mod Formatting
 mod Front
 mod Naming
+mod OpenedLemmas
 mod Opening
 mod Slots
 mod Spans

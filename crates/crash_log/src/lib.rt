@@ -5,6 +5,7 @@ mod apart;
 mod format;
 mod log;
 mod mend;
+mod open;
 mod settle;
 mod state;
 mod turn;

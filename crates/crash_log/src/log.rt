@@ -1,12 +1,14 @@
 // A log in a file of a media.
-ghost use Rattle.std.specs.Prelude.{◌≡◌, ◌+◌, ◌^◌, ◌<◌, ◌≤◌, ◌++◌, ◌⊎◌, ◌↔◌, List, ℕ, length, take, drop, OnOk, OnErr, IsTrue, Err};
+ghost use Rattle.std.specs.Prelude.{◌≡◌, ◌+◌, ◌^◌, ◌<◌, ◌≤◌, ◌++◌, ◌⊎◌, ◌↔◌, List, ℕ, length, take, drop, OnOk, OnErr, IfOk, IsTrue, Err};
 ghost use Rattle.crash_moments.specs.Moments.{Leads, HasCause, Rose};
 ghost use Rattle.media_core.specs.Media.{Image, AtFile, Same};
-ghost use Rattle.crash_log.specs.Log.{log_of, HasLog, HasOneOf, Any};
+ghost use Rattle.crash_log.specs.Log.{is_damaged, log_of, HasLog, HasOneOf, Any};
 ghost use Rattle.crash_log.specs.State.{IsBounded};
+ghost use Rattle.crash_log.specs.Fit.{IsStill};
 
 use crate::apart::write_apart;
 use crate::mend::mend;
+use crate::open::read_state;
 use crate::state::{LogState, Needs};
 use crate::turn::turn_over;
 use media_core::{Failed, Media};
@@ -25,12 +27,35 @@ pub enum PutFault {
 /// told are as in an image at the call's entry.
 #[derive(Drop)]
 pub struct CrashLog {
-    pub state: LogState,
+    state: LogState,
     ghost bounded: { IsBounded state },
 }
 
 impl CrashLog {
     ghost use Rattle.crash_log.specs.CrashLog.{file_of, limit_of, length_of, damaged_of, log_bytes, settled_log, FitsIts, IsNow};
+
+    /// Opens the log of a file. It writes nothing. Its condition beside the file's being here is a limit of at most 2^36
+    /// bytes, and that no write to the file waits for a sync.
+    pub fn open<M: Media>(media: &mut M, f: u32, limit: u64) -> Result<CrashLog, Failed>
+        requires here { IsTrue (M.present media.old f) }
+        requires limit { limit ≤ 2 ^ 36 }
+        requires still { M.tells → IsStill M.time M.seen f media.old }
+        ensures file { IfOk result (λ log. file_of log ≡ f) }
+        ensures limit { IfOk result (λ log. limit_of log ≡ limit) }
+        ensures fits { M.tells → IfOk result (λ log. FitsIts M.time M.seen log media.new) }
+        ensures bytes { M.tells → IfOk result (λ log. log_bytes log ((M.seen media.old).file f) ≡ log_of ((M.seen media.old).file f)) }
+        ensures settled { M.tells → IfOk result (λ log. settled_log log ((M.seen media.old).file f) ≡ log_of ((M.seen media.old).file f)) }
+        ensures damaged { M.tells → IfOk result (λ log. damaged_of log ≡ is_damaged ((M.seen media.old).file f)) }
+        ensures seen { M.tells → M.seen media.new ≡ M.seen media.old }
+        ensures crash { M.tells → Leads M.time media.old media.new Same }
+        ensures count { M.count media.new ≡ M.count media.old }
+        ensures present { M.present media.new ≡ M.present media.old }
+        ensures cause { HasCause (M.faults media.old) (M.faults media.new) result }
+        ensures tell_faults { M.tell_faults media.old ≤ M.tell_faults media.new }
+    {
+        let state = read_state(media, f, limit)?;
+        Ok(CrashLog { state })
+    }
 
     /// How many bytes the log has, with those that were put.
     pub fn len(&self) -> u64
