@@ -1,0 +1,12 @@
+pub mod Changing
+mod Closing
+mod Committing
+mod Formatting
+mod Front
+mod Naming
+mod OpenedLemmas
+mod Opening
+mod Slots
+mod Spans
+mod Stale
+mod WritingApart

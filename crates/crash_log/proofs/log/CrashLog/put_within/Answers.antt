@@ -1,0 +1,35 @@
+use Rattle.std.proofs.Common.{◌+◌, length, ◌∙◌, arith}
+use Rattle.crash_log.specs.State.{settled_bytes}
+use Rattle.crash_log.proofs.Committing.{still_before}
+use Rattle.crash_log.proofs.Changing.{put_grown}
+use Rattle.crash_log.proofs.WritingApart.{more_ready}
+use Rattle.crash_log.proofs.log.CrashLog.put_within.Goals as goal
+
+pub returns-in_err-write_apart-clause-crash : goal.returns-in_err-write_apart-clause-crash
+returns-in_err-write_apart-clause-crash g c = λ told.
+    let m = g.M.Media in
+    let log = c.args.self.now.state in
+    let file = (m.seen c.args.media.now).file log.file in
+    still_before m.time log.file (settled_bytes log file) (settled_bytes log file) c.args.media.now c.mend.new.media c.write_apart.new.media _ (c.in_ok-mend.ensures.same told).settled (c.mend.ensures.crash told) (c.write_apart.ensures.crash told)
+
+pub returns-clause-crash : goal.returns-clause-crash
+returns-clause-crash g c = λ told.
+    let m = g.M.Media in
+    let log = c.args.self.now.state in
+    let file = (m.seen c.args.media.now).file log.file in
+    still_before m.time log.file (settled_bytes log file) (settled_bytes log file) c.args.media.now c.mend.new.media c.write_apart.new.media _ (c.in_ok-mend.ensures.same told).settled (c.mend.ensures.crash told) (c.write_apart.ensures.crash told)
+
+pub returns-clause-fits : goal.returns-clause-fits
+returns-clause-fits g c = λ told.
+    let m = g.M.Media in
+    let log = c.args.self.now.state in
+    let file = (m.seen c.args.media.now).file log.file in
+    more_ready m.time m.seen log c.write_apart.new.media (length c.args.piece.now) (c.in_ok-write_apart.ensures.ready told) (c.in_ok-write_apart.ensures.long told)
+
+pub returns-clause-bytes : goal.returns-clause-bytes
+returns-clause-bytes g c = λ told.
+    let m = g.M.Media in
+    let log = c.args.self.now.state in
+    let file = (m.seen c.args.media.now).file log.file in
+    put_grown log (length c.args.piece.now) file ((m.seen c.write_apart.new.media).file log.file) c.args.piece.now
+    (c.in_ok-write_apart.ensures.before told log.start (log.size + log.more) (omega arith) ∙ (c.in_ok-mend.ensures.same told).put) (c.in_ok-write_apart.ensures.bytes told)

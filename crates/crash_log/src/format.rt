@@ -1,0 +1,173 @@
+// A blank file and a damaged one become a log without bytes. A crash at any moment leaves an empty log.
+ghost use Rattle.std.specs.Prelude.{◌≡◌, ◌≢◌, ◌⊎◌, ◌↔◌, ◌+◌, ◌<◌, ◌≤◌, [], List, ℕ, length, OnOk, IsTrue};
+ghost use Rattle.crash_moments.specs.Moments.{Leads, HasCause};
+ghost use Rattle.media_core.specs.Media.{Image, AtFile};
+ghost use Rattle.crash_log.specs.Log.{gate_at, HasLog, Any};
+ghost use Rattle.crash_log.specs.Fit.{IsStill};
+ghost use Rattle.crash_log.specs.Format.{IsFront, HasNoGood, IsShut, IsPlaced, IsFormatted, Has};
+
+use crate::settle::settle;
+use crate::turn::fields;
+use media_core::{Failed, Media};
+
+/// Bytes 0 to 8,190 of a log without bytes: the first slot has gate 1, turn 0, start 8,192 and size 0, the second one is
+/// closed.
+fn front() -> [u8; 8191]
+    ensures { IsFront result }
+{
+    let mut bytes = [0; 8191];
+    bytes[0] = 1;
+    bytes[14] = 32;
+    bytes
+}
+
+/// Writes all but the last byte of the slots. The file stays blank, since it is shorter than they are.
+fn write_front<M: Media>(media: &mut M, f: u32) -> Result<(), Failed>
+    requires here { IsTrue (M.present media.old f) }
+    requires still { M.tells → IsStill M.time M.seen f media.old }
+    requires short { M.tells → length ((M.seen media.old).file f) < 8192 }
+    ensures front { M.tells → OnOk result (Has M.time M.seen IsFront f media.new) }
+    ensures frame { M.tells → OnOk result (AtFile f Any (M.seen media.old) (M.seen media.new)) }
+    ensures crash { M.tells → Leads M.time media.old media.new (AtFile f (HasLog [])) }
+    ensures count { M.count media.new ≡ M.count media.old }
+    ensures present { M.present media.new ≡ M.present media.old }
+    ensures cause { HasCause (M.faults media.old) (M.faults media.new) result }
+    ensures tell_faults { M.tell_faults media.old ≤ M.tell_faults media.new }
+{
+    settle(media, f, 0, &front())?;
+    Ok(())
+}
+
+/// Writes the last byte of the slots.
+fn write_end<M: Media>(media: &mut M, f: u32) -> Result<(), Failed>
+    requires here { IsTrue (M.present media.old f) }
+    requires front { M.tells → Has M.time M.seen IsFront f media.old }
+    ensures formatted { M.tells → OnOk result (Has M.time M.seen IsFormatted f media.new) }
+    ensures frame { M.tells → OnOk result (AtFile f Any (M.seen media.old) (M.seen media.new)) }
+    ensures crash { M.tells → Leads M.time media.old media.new (AtFile f (HasLog [])) }
+    ensures count { M.count media.new ≡ M.count media.old }
+    ensures present { M.present media.new ≡ M.present media.old }
+    ensures cause { HasCause (M.faults media.old) (M.faults media.new) result }
+    ensures tell_faults { M.tell_faults media.old ≤ M.tell_faults media.new }
+{
+    settle(media, f, 8191, &[0])?;
+    Ok(())
+}
+
+/// Formats a blank file.
+pub fn format_blank<M: Media>(media: &mut M, f: u32) -> Result<(), Failed>
+    requires here { IsTrue (M.present media.old f) }
+    requires still { M.tells → IsStill M.time M.seen f media.old }
+    requires short { M.tells → length ((M.seen media.old).file f) < 8192 }
+    ensures formatted { M.tells → OnOk result (Has M.time M.seen IsFormatted f media.new) }
+    ensures frame { M.tells → OnOk result (AtFile f Any (M.seen media.old) (M.seen media.new)) }
+    ensures crash { M.tells → Leads M.time media.old media.new (AtFile f (HasLog [])) }
+    ensures count { M.count media.new ≡ M.count media.old }
+    ensures present { M.present media.new ≡ M.present media.old }
+    ensures cause { HasCause (M.faults media.old) (M.faults media.new) result }
+    ensures tell_faults { M.tell_faults media.old ≤ M.tell_faults media.new }
+{
+    write_front(media, f)?;
+    write_end(media, f)?;
+    Ok(())
+}
+
+/// Closes the gate of the slot at a base, where it is open. A gate that isn't 1 isn't written again.
+fn close_gate<M: Media>(media: &mut M, f: u32, base: u64, is_open: bool) -> Result<(), Failed>
+    requires here { IsTrue (M.present media.old f) }
+    requires base { (base ≡ 0) ⊎ (base ≡ 4096) }
+    requires bad { M.tells → Has M.time M.seen HasNoGood f media.old }
+    requires gate { M.tells → (IsTrue is_open ↔ (gate_at base ((M.seen media.old).file f) ≡ 1)) }
+    ensures bad { M.tells → OnOk result (Has M.time M.seen HasNoGood f media.new) }
+    ensures shut { M.tells → OnOk result (gate_at base ((M.seen media.new).file f) ≢ 1) }
+    ensures others { M.tells → OnOk result ((o : ℕ) → (o + 1 ≤ base) ⊎ (base + 1 ≤ o) → gate_at o ((M.seen media.new).file f) ≡ gate_at o ((M.seen media.old).file f)) }
+    ensures frame { M.tells → OnOk result (AtFile f Any (M.seen media.old) (M.seen media.new)) }
+    ensures crash { M.tells → Leads M.time media.old media.new (AtFile f (HasLog [])) }
+    ensures count { M.count media.new ≡ M.count media.old }
+    ensures present { M.present media.new ≡ M.present media.old }
+    ensures cause { HasCause (M.faults media.old) (M.faults media.new) result }
+    ensures tell_faults { M.tell_faults media.old ≤ M.tell_faults media.new }
+{
+    if is_open {
+        settle(media, f, base, &[0])?;
+        return Ok(());
+    }
+    Ok(())
+}
+
+/// Closes both gates of a damaged file, of which it is known which are open.
+fn close_gates<M: Media>(media: &mut M, f: u32, first: bool, second: bool) -> Result<(), Failed>
+    requires here { IsTrue (M.present media.old f) }
+    requires bad { M.tells → Has M.time M.seen HasNoGood f media.old }
+    requires first { M.tells → (IsTrue first ↔ (gate_at 0 ((M.seen media.old).file f) ≡ 1)) }
+    requires second { M.tells → (IsTrue second ↔ (gate_at 4096 ((M.seen media.old).file f) ≡ 1)) }
+    ensures shut { M.tells → OnOk result (Has M.time M.seen IsShut f media.new) }
+    ensures frame { M.tells → OnOk result (AtFile f Any (M.seen media.old) (M.seen media.new)) }
+    ensures crash { M.tells → Leads M.time media.old media.new (AtFile f (HasLog [])) }
+    ensures count { M.count media.new ≡ M.count media.old }
+    ensures present { M.present media.new ≡ M.present media.old }
+    ensures cause { HasCause (M.faults media.old) (M.faults media.new) result }
+    ensures tell_faults { M.tell_faults media.old ≤ M.tell_faults media.new }
+{
+    close_gate(media, f, 0, first)?;
+    close_gate(media, f, 4096, second)?;
+    Ok(())
+}
+
+/// Writes the first slot's fields. Its gate is closed.
+fn write_place<M: Media>(media: &mut M, f: u32) -> Result<(), Failed>
+    requires here { IsTrue (M.present media.old f) }
+    requires shut { M.tells → Has M.time M.seen IsShut f media.old }
+    ensures placed { M.tells → OnOk result (Has M.time M.seen IsPlaced f media.new) }
+    ensures frame { M.tells → OnOk result (AtFile f Any (M.seen media.old) (M.seen media.new)) }
+    ensures crash { M.tells → Leads M.time media.old media.new (AtFile f (HasLog [])) }
+    ensures count { M.count media.new ≡ M.count media.old }
+    ensures present { M.present media.new ≡ M.present media.old }
+    ensures cause { HasCause (M.faults media.old) (M.faults media.new) result }
+    ensures tell_faults { M.tell_faults media.old ≤ M.tell_faults media.new }
+{
+    let fields = fields(0, 8192, 0);
+    settle(media, f, 1, &fields)?;
+    Ok(())
+}
+
+/// Opens the first slot, which has its fields.
+fn open_first<M: Media>(media: &mut M, f: u32) -> Result<(), Failed>
+    requires here { IsTrue (M.present media.old f) }
+    requires placed { M.tells → Has M.time M.seen IsPlaced f media.old }
+    ensures formatted { M.tells → OnOk result (Has M.time M.seen IsFormatted f media.new) }
+    ensures frame { M.tells → OnOk result (AtFile f Any (M.seen media.old) (M.seen media.new)) }
+    ensures crash { M.tells → Leads M.time media.old media.new (AtFile f (HasLog [])) }
+    ensures count { M.count media.new ≡ M.count media.old }
+    ensures present { M.present media.new ≡ M.present media.old }
+    ensures cause { HasCause (M.faults media.old) (M.faults media.new) result }
+    ensures tell_faults { M.tell_faults media.old ≤ M.tell_faults media.new }
+{
+    settle(media, f, 0, &[1])?;
+    Ok(())
+}
+
+/// Formats a damaged file, of which it is known which gates are open.
+pub fn format_damaged<M: Media>(
+    media: &mut M,
+    f: u32,
+    first: bool,
+    second: bool,
+) -> Result<(), Failed>
+    requires here { IsTrue (M.present media.old f) }
+    requires bad { M.tells → Has M.time M.seen HasNoGood f media.old }
+    requires first { M.tells → (IsTrue first ↔ (gate_at 0 ((M.seen media.old).file f) ≡ 1)) }
+    requires second { M.tells → (IsTrue second ↔ (gate_at 4096 ((M.seen media.old).file f) ≡ 1)) }
+    ensures formatted { M.tells → OnOk result (Has M.time M.seen IsFormatted f media.new) }
+    ensures frame { M.tells → OnOk result (AtFile f Any (M.seen media.old) (M.seen media.new)) }
+    ensures crash { M.tells → Leads M.time media.old media.new (AtFile f (HasLog [])) }
+    ensures count { M.count media.new ≡ M.count media.old }
+    ensures present { M.present media.new ≡ M.present media.old }
+    ensures cause { HasCause (M.faults media.old) (M.faults media.new) result }
+    ensures tell_faults { M.tell_faults media.old ≤ M.tell_faults media.new }
+{
+    close_gates(media, f, first, second)?;
+    write_place(media, f)?;
+    open_first(media, f)?;
+    Ok(())
+}

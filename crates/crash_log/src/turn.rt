@@ -1,0 +1,109 @@
+// The other slot becomes the current one: it is closed, gets its fields, and is opened, each with a sync.
+ghost use Rattle.std.specs.Prelude.{◌≡◌, ◌+◌, ◌^◌, ◌<◌, ◌≤◌, List, ℕ, length, OnOk, IsTrue};
+ghost use Rattle.crash_moments.specs.Moments.{Leads, HasCause};
+ghost use Rattle.media_core.specs.Media.{Image, AtFile};
+ghost use Rattle.crash_log.specs.Log.{place_of, span, IsFine, HasLog, HasOneOf, Any, successor};
+ghost use Rattle.crash_log.specs.State.{settled_bytes, place_for, moved_to};
+ghost use Rattle.crash_log.specs.Fit.{IsReady, SameBehind};
+ghost use Rattle.crash_log.specs.Turn.{IsClosed, IsNext, IsNamed};
+
+use crate::settle::settle;
+use crate::state::{LogState, following};
+use media_core::{Failed, Media};
+
+/// The bytes of a slot behind its gate.
+pub fn fields(turn: u8, start: u64, size: u64) -> [u8; 23]
+    ensures place { place_of result ≡ record { turn = turn; start = start; size = size } }
+    ensures length { length result ≡ 23 }
+{
+    let s = start.to_be_bytes();
+    let n = size.to_be_bytes();
+    [
+        turn, 0, 0, 0, 0, 0, 0, s[0], s[1], s[2], s[3], s[4], s[5], s[6], s[7], n[0], n[1], n[2],
+        n[3], n[4], n[5], n[6], n[7],
+    ]
+}
+
+/// Closes the other slot, where it is open. A gate that isn't 1 isn't written again.
+fn close_other<M: Media>(log: &LogState, media: &mut M) -> Result<(), Failed>
+    requires here { IsTrue (M.present media.old log.now.file) }
+    requires ready { M.tells → IsReady M.time M.seen log.now media.old }
+    ensures closed { M.tells → OnOk result (IsClosed M.time M.seen log.now media.new) }
+    ensures same { M.tells → OnOk result (SameBehind ((M.seen media.old).file log.now.file) ((M.seen media.new).file log.now.file)) }
+    ensures frame { M.tells → OnOk result (AtFile log.now.file Any (M.seen media.old) (M.seen media.new)) }
+    ensures crash { M.tells → Leads M.time media.old media.new (AtFile log.now.file (HasLog (settled_bytes log.now ((M.seen media.old).file log.now.file)))) }
+    ensures count { M.count media.new ≡ M.count media.old }
+    ensures present { M.present media.new ≡ M.present media.old }
+    ensures cause { HasCause (M.faults media.old) (M.faults media.new) result }
+    ensures tell_faults { M.tell_faults media.old ≤ M.tell_faults media.new }
+{
+    if log.other_open {
+        settle(media, log.file, log.other(), &[0])?;
+        return Ok(());
+    }
+    Ok(())
+}
+
+/// Writes the next place into the other slot, which is closed. The sync settles what was put, too.
+fn name_place<M: Media>(log: &LogState, media: &mut M, start: u64, size: u64) -> Result<(), Failed>
+    requires here { IsTrue (M.present media.old log.now.file) }
+    requires turn { log.now.turn ≤ 2 }
+    requires closed { M.tells → IsClosed M.time M.seen log.now media.old }
+    ensures named { M.tells → OnOk result (IsNamed M.time M.seen log.now (place_for log.now start size) media.new) }
+    ensures same { M.tells → OnOk result (SameBehind ((M.seen media.old).file log.now.file) ((M.seen media.new).file log.now.file)) }
+    ensures frame { M.tells → OnOk result (AtFile log.now.file Any (M.seen media.old) (M.seen media.new)) }
+    ensures crash { M.tells → Leads M.time media.old media.new (AtFile log.now.file (HasLog (settled_bytes log.now ((M.seen media.old).file log.now.file)))) }
+    ensures count { M.count media.new ≡ M.count media.old }
+    ensures present { M.present media.new ≡ M.present media.old }
+    ensures cause { HasCause (M.faults media.old) (M.faults media.new) result }
+    ensures tell_faults { M.tell_faults media.old ≤ M.tell_faults media.new }
+{
+    let fields = fields(following(log.turn), start, size);
+    settle(media, log.file, log.other() + 1, &fields)?;
+    Ok(())
+}
+
+/// Opens the other slot, which has the next place.
+fn open_other<M: Media>(log: &LogState, media: &mut M, start: u64, size: u64) -> Result<(), Failed>
+    requires here { IsTrue (M.present media.old log.now.file) }
+    requires named { M.tells → IsNamed M.time M.seen log.now (place_for log.now start size) media.old }
+    requires next { M.tells → IsNext log.now (place_for log.now start size) ((M.seen media.old).file log.now.file) }
+    ensures ready { M.tells → OnOk result (IsReady M.time M.seen (moved_to log.now (place_for log.now start size)) media.new) }
+    ensures same { M.tells → OnOk result (SameBehind ((M.seen media.old).file log.now.file) ((M.seen media.new).file log.now.file)) }
+    ensures frame { M.tells → OnOk result (AtFile log.now.file Any (M.seen media.old) (M.seen media.new)) }
+    ensures crash { M.tells → Leads M.time media.old media.new (AtFile log.now.file (HasOneOf (settled_bytes log.now ((M.seen media.old).file log.now.file)) (span start size ((M.seen media.old).file log.now.file)))) }
+    ensures count { M.count media.new ≡ M.count media.old }
+    ensures present { M.present media.new ≡ M.present media.old }
+    ensures cause { HasCause (M.faults media.old) (M.faults media.new) result }
+    ensures tell_faults { M.tell_faults media.old ≤ M.tell_faults media.new }
+{
+    settle(media, log.file, log.other(), &[1])?;
+    Ok(())
+}
+
+/// Makes the other slot the current one, at this place. A crash leaves the settled log or the bytes of this place.
+pub fn turn_over<M: Media>(
+    log: &LogState,
+    media: &mut M,
+    start: u64,
+    size: u64,
+) -> Result<(), Failed>
+    requires here { IsTrue (M.present media.old log.now.file) }
+    requires turn { log.now.turn ≤ 2 }
+    requires fine { IsFine (place_for log.now start size) }
+    requires ready { M.tells → IsReady M.time M.seen log.now media.old }
+    requires within { M.tells → start + size ≤ length ((M.seen media.old).file log.now.file) }
+    ensures ready { M.tells → OnOk result (IsReady M.time M.seen (moved_to log.now (place_for log.now start size)) media.new) }
+    ensures same { M.tells → OnOk result (SameBehind ((M.seen media.old).file log.now.file) ((M.seen media.new).file log.now.file)) }
+    ensures frame { M.tells → OnOk result (AtFile log.now.file Any (M.seen media.old) (M.seen media.new)) }
+    ensures crash { M.tells → Leads M.time media.old media.new (AtFile log.now.file (HasOneOf (settled_bytes log.now ((M.seen media.old).file log.now.file)) (span start size ((M.seen media.old).file log.now.file)))) }
+    ensures count { M.count media.new ≡ M.count media.old }
+    ensures present { M.present media.new ≡ M.present media.old }
+    ensures cause { HasCause (M.faults media.old) (M.faults media.new) result }
+    ensures tell_faults { M.tell_faults media.old ≤ M.tell_faults media.new }
+{
+    close_other(log, media)?;
+    name_place(log, media, start, size)?;
+    open_other(log, media, start, size)?;
+    Ok(())
+}
