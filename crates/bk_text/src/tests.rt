@@ -1,8 +1,7 @@
 //! Each text at its limits, and fields written and read again.
 
 use crate::{
-    Bytes, Cursor, Expiry, Host, LevelPath, List, Name, Out, Part, SetName, Short, TapeName,
-    TextFault,
+    Bytes, Cursor, Expiry, Host, List, Name, Out, Part, SetName, Short, TapeName, TextFault,
 };
 use std::alloc::{AllocError, Global};
 use std::test::Fail;
@@ -34,45 +33,6 @@ fn tape_name_place(alloc: Global, text: &[u8]) -> Option<usize> {
 
 fn part_place(alloc: Global, text: &[u8]) -> Option<usize> {
     place(Part::parse(alloc, text))
-}
-
-fn level_place(alloc: Global, text: &[u8]) -> Option<usize> {
-    place(LevelPath::parse(alloc, text))
-}
-
-/// Where a path of `/aaa` 64 times is refused, of which this place has this byte.
-fn long_level_place(alloc: Global, place: usize, byte: u8) -> Option<usize> {
-    let mut text = [b'a'; 256];
-    for at in 0..256 {
-        if at % 4 == 0 {
-            text[at] = b'/';
-        }
-    }
-    if place < 256 {
-        text[place] = byte;
-    }
-    level_place(alloc, &text)
-}
-
-#[test]
-fn levels_are_kept_or_refused(rt: HostRuntime) {
-    let alloc = rt.alloc();
-    assert_eq!(rt; level_place(alloc, b"/full/mon"), None);
-    assert_eq!(rt; level_place(alloc, b"/a/"), Some(3));
-    assert_eq!(rt; level_place(alloc, b"/a//b"), Some(3));
-    assert_eq!(rt; level_place(alloc, b"full"), Some(0));
-    assert_eq!(rt;
-        level_place(alloc, b"/aaaaaaaaaaaaaaaaaaaaaaaaaaaaa"),
-        Some(29)
-    );
-}
-
-#[test]
-fn levels_at_their_limits(rt: HostRuntime) {
-    let alloc = rt.alloc();
-    assert_eq!(rt; long_level_place(alloc, 255, b'a'), None);
-    assert_eq!(rt; long_level_place(alloc, 255, b'/'), Some(255));
-    assert_eq!(rt; long_level_place(alloc, 251, b'/'), Some(252));
 }
 
 #[test]
