@@ -1,6 +1,5 @@
 -- How an input is taken piece by piece.
-use Rattle.std.proofs.Common.{◌≡◌, ℕ, ◌+◌, ◌-◌, ◌<◌, ◌≤◌, min, List, [], ◌∷◌, ◌++◌, length, refl, sym, ◌∙◌, ap, subst, arith, length-append, append_assoc, Bool, true, false, Ok, Err}
-use Rattle.std.proofs.lemmas.List.{append-nil}
+use Rattle.std.proofs.Common.{◌≡◌, ℕ, ◌+◌, ◌<◌, ◌≤◌, List, ◌++◌, length, refl, sym, ◌∙◌, ap, arith, length-append, append_assoc, Err}
 use Rattle.backup_cli.specs.declared.intake.Intake.{Intake}
 use Rattle.backup_cli.specs.declared.intake.ReadStop.{ReadStop}
 use Rattle.backup_cli.specs.declared.intake.ReadStop.TheVariants.{Failed, TooLong, Memory}

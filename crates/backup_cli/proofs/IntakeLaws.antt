@@ -1,10 +1,10 @@
 -- How an input is judged as its pieces come.
-use Rattle.std.proofs.Common.{◌≡◌, ◌⊎◌, inl, inr, ⊎_elim, ℕ, ◌+◌, ◌-◌, ◌<◌, ◌≤◌, List, [], ◌∷◌, ◌++◌, length, take, drop, refl, sym, ◌∙◌, ap, subst, arith, length-append, append_assoc}
-use Rattle.std.proofs.lemmas.List.{take-append-drop, take-append-le, take_all, take-take, append-nil, length-take-le, length-drop, nil_from_length}
+use Rattle.std.proofs.Common.{◌≡◌, ◌⊎◌, inl, inr, ⊎_elim, ℕ, ◌+◌, ◌<◌, ◌≤◌, List, [], ◌++◌, length, take, drop, sym, ◌∙◌, ap, subst, arith, length-append, append_assoc}
+use Rattle.std.proofs.lemmas.List.{take-append-drop, take-append-le, take_all, take-take, append-nil, nil_from_length}
 use Rattle.std.proofs.lemmas.Bool.{cases_lt}
 use Rattle.vnode_model.specs.declared.increments.Increment.{Increment}
 use Rattle.dump_stream.specs.Stream.{Spells}
-use Rattle.dump_stream.specs.Reads.{Begins, IsCut, IsBad, Answers}
+use Rattle.dump_stream.specs.Reads.{Begins, IsBad}
 use Rattle.dump_stream.specs.Feeds.{HasFed, IsDone}
 use Rattle.dump_stream.specs.declared.feeding.Reader.{Reader}
 use Rattle.dump_stream.proofs.ReadLaws.{one_stream}

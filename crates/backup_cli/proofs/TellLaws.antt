@@ -1,11 +1,11 @@
 -- How a piece is told in parts.
-use Rattle.std.proofs.Common.{◌≡◌, ℕ, ◌+◌, ◌-◌, ◌<◌, ◌≤◌, get_or, Bool, Result, Err, List, [], ◌∷◌, ◌++◌, length, take, drop, refl, sym, ◌∙◌, ap, subst, arith, append_assoc}
+use Rattle.std.proofs.Common.{◌≡◌, ℕ, ◌+◌, ◌-◌, ◌<◌, ◌≤◌, get_or, Bool, List, [], ◌∷◌, ◌++◌, length, take, drop, refl, sym, ◌∙◌, ap, subst, arith, append_assoc}
 use Rattle.std.proofs.lemmas.List.{take-append-drop, take_rest, length-drop, drop_more, take_more, append-nil}
 use Rattle.std.proofs.lemmas.List.Concat.{flat_map-append}
 use Rattle.std.specs.List.{flat_map}
 use Rattle.std.proofs.Math.Seq.{take-add}
 use Rattle.media_core.specs.Media.{Image, ToldPart}
-use Rattle.backup_cli.specs.Tells.{Heads, ToldFront, OnlyTells, ToldLines}
+use Rattle.backup_cli.specs.Tells.{ToldFront, OnlyTells}
 
 -- what is behind a place, as the code slices it
 rest_is : (at : ℕ) (p : List ℕ) → take (length p - at) (drop at p) ≡ drop at p

@@ -4,7 +4,6 @@ use Rattle.std.specs.Fmt.{decimal}
 use Rattle.std.specs.List.{flat_map}
 use Rattle.vnode_model.specs.declared.vnodes.VnodeKind.{VnodeKind}
 use Rattle.vnode_model.specs.declared.vnodes.VnodeKind.TheVariants.{File, Directory, Symlink}
-use Rattle.vnode_model.specs.declared.vnodes.Vnode.{Vnode}
 use Rattle.vnode_model.specs.declared.increments.Entry.{Entry}
 use Rattle.vnode_model.specs.declared.increments.Entry.TheVariants.{Whole, Kept}
 use Rattle.vnode_model.specs.declared.increments.Increment.{Increment}

@@ -1,6 +1,5 @@
 -- What telling pieces to a media leaves of it.
-use Rattle.std.specs.Prelude.{◌≡◌, ℕ, ◌≤◌, Bool, List, [], ◌∷◌, ◌++◌, Result, OnOk, OnErr}
-use Rattle.crash_moments.specs.Moments.{Rose}
+use Rattle.std.specs.Prelude.{◌≡◌, ℕ, ◌≤◌, Bool, List, ◌++◌, Result, OnOk, OnErr}
 use Rattle.media_core.specs.Media.{Image}
 
 -- the first bytes of others

@@ -1,8 +1,8 @@
-use Rattle.std.proofs.Common.{ℕ, ◌≡◌, ◌≤◌, ◌+◌, length, take, Err, sym, ap, arith}
+use Rattle.std.proofs.Common.{◌≡◌, ◌≤◌, ◌+◌, length, take, Err, ap, arith}
 use Rattle.std.proofs.lemmas.List.{length-take-le}
 use Rattle.backup_cli.specs.declared.intake.ReadStop.{ReadStop}
 use Rattle.backup_cli.specs.Inputs.{most_input}
-use Rattle.backup_cli.proofs.InputLaws.{taking_more, stopped, too_long}
+use Rattle.backup_cli.proofs.InputLaws.{stopped, too_long}
 use Rattle.backup_cli.proofs.input.take_all.Goals as goal
 
 pub returns-in-Err-clause-taken : goal.returns-in-Err-clause-taken

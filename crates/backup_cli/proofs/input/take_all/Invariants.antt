@@ -1,4 +1,4 @@
-use Rattle.std.proofs.Common.{ℕ, ◌-◌, ◌+◌}
+use Rattle.std.proofs.Common.{◌-◌, ◌+◌}
 use Rattle.backup_cli.specs.Inputs.{most_input}
 use Rattle.backup_cli.proofs.InputLaws.{Taking}
 use Rattle.backup_cli.proofs.input.take_all.Given as goal

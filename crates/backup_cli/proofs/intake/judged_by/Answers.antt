@@ -1,6 +1,5 @@
-use Rattle.std.proofs.Common.{ℕ, ◌≡◌, ◌+◌, ◌<◌, List, ◌++◌, length, take, subst, sym, arith, length-append}
+use Rattle.std.proofs.Common.{ℕ, ◌≡◌, ◌+◌, ◌++◌, length, take, subst, sym, arith, length-append}
 use Rattle.dump_stream.specs.Stream.{Spells}
-use Rattle.dump_stream.specs.Feeds.{FeedAnswers, HasFed, Leaves}
 use Rattle.backup_cli.proofs.IntakeLaws.{ended_now}
 use Rattle.backup_cli.proofs.intake.judged_by.Goals as goal
 

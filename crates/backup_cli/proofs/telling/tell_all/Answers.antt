@@ -1,5 +1,5 @@
-use Rattle.std.proofs.Common.{ℕ, ◌≡◌, ◌++◌, ◌≤◌, ◌+◌, length, take, drop, refl, sym, ◌∙◌, arith}
-use Rattle.backup_cli.proofs.TellLaws.{TellingAt, more_told, part_told, rest_length}
+use Rattle.std.proofs.Common.{◌∙◌, arith}
+use Rattle.backup_cli.proofs.TellLaws.{more_told, part_told, rest_length}
 use Rattle.backup_cli.proofs.telling.tell_all.Goals as goal
 
 pub loop-at-preserved : goal.loop-at-preserved

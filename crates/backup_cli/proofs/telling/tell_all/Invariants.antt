@@ -1,4 +1,4 @@
-use Rattle.std.proofs.Common.{ℕ, ◌-◌, length}
+use Rattle.std.proofs.Common.{◌-◌, length}
 use Rattle.backup_cli.specs.Tells.{OnlyTells}
 use Rattle.backup_cli.proofs.TellLaws.{TellingAt}
 use Rattle.backup_cli.proofs.telling.tell_all.Given as goal

@@ -1,4 +1,3 @@
-use Rattle.std.proofs.Common.{◌≡◌, ◌++◌, refl, sym, ◌∙◌, arith}
 use Rattle.backup_cli.specs.Replies.{entry_line}
 use Rattle.backup_cli.proofs.TellLaws.{line_more, line_part, only_more}
 use Rattle.backup_cli.proofs.telling.tell_entries.Goals as goal

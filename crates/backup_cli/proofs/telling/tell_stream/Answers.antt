@@ -1,4 +1,4 @@
-use Rattle.std.proofs.Common.{◌≡◌, ◌++◌, refl, sym, ◌∙◌, ap, subst, List}
+use Rattle.std.proofs.Common.{◌≡◌, ◌++◌, ◌∙◌, ap, subst, List}
 use Rattle.std.specs.List.{flat_map}
 use Rattle.vnode_model.specs.declared.increments.IncrementFields.{IncrementFields}
 use Rattle.vnode_model.specs.declared.increments.Entry.{Entry}

@@ -1,4 +1,4 @@
-use Rattle.std.proofs.Common.{ℕ, ◌≡◌, List, inl, inr, subst, arith}
+use Rattle.std.proofs.Common.{inr, subst, arith}
 use Rattle.backup_cli.specs.Examines.{HoldsAt}
 use Rattle.backup_cli.proofs.IntakeLaws.{followed, whole}
 use Rattle.backup_cli.proofs.intake.Intake.into_examined.Goals as goal

@@ -1,6 +1,4 @@
-use Rattle.std.proofs.Common.{ℕ, ◌≡◌, ◌+◌, ◌<◌, List, ◌++◌, length, subst, sym, arith, ⊎_elim, length-append}
-use Rattle.backup_cli.specs.Examines.{HoldsAt}
-use Rattle.backup_cli.specs.Intakes.{Holds}
+use Rattle.std.proofs.Common.{arith, length-append}
 use Rattle.backup_cli.proofs.IntakeLaws.{judged_more}
 use Rattle.backup_cli.proofs.intake.Intake.take_piece.Goals as goal
 
