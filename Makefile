@@ -1,0 +1,26 @@
+# afsbackup: builds, runs and tests over the Rattle toolchain, whose command rt is on the PATH.
+PROGRAM := crates/backup_cli/out/backup_cli
+SAMPLE := examples/one-file.dump
+
+.PHONY: demo test try bench
+
+# Proves and builds the program, and examines a sample stream.
+demo: afsbackup
+	./afsbackup examine < $(SAMPLE)
+
+# Leaves the proved program as ./afsbackup.
+afsbackup: $(wildcard crates/*/src/*.rt crates/*/specs/*.antt) crates.txt
+	cd crates/backup_cli && rt run -- examine < ../../$(SAMPLE) > /dev/null
+	cp $(PROGRAM) afsbackup
+
+# The merge gate: every proof, every edit that must fail, every test and the program.
+test:
+	rt ci
+
+# Runs examine on the sample unproved, for whoever edits.
+try:
+	cd crates/backup_cli && rt try -- examine < ../../$(SAMPLE)
+
+# Times examine on a stream of 256 MiB beside cat.
+bench: afsbackup
+	bench/examine.sh ./afsbackup
