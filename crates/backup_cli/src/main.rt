@@ -17,7 +17,7 @@ use crate::top::run;
 use media_core::MemMedia;
 use std::alloc::AllocError;
 use std::env::{self, Env};
-use std::io::Print;
+use std::io::{ErrorKind, Print};
 use std::process::ExitCode;
 
 /// How many files the media in memory have: the journal and four tapes.
@@ -26,8 +26,10 @@ const FILES: u32 = 5;
 /// The words after the program's name; none where some word is not text.
 fn words_of<R: Env + AllocGlobal>(rt: &R) -> Result<Vec<String>, AllocError> {
     let mut words = Vec::new(rt.alloc());
-    let Ok(args) = env::args(rt) else {
-        return Ok(words);
+    let args = match env::args(rt) {
+        Ok(args) => args,
+        Err(error) if error.kind() == ErrorKind::OutOfMemory => return Err(AllocError),
+        Err(_) => return Ok(words),
     };
     for word in args.skip(1) {
         words.push(word)?;
