@@ -3,7 +3,8 @@
 use crate::status::Status;
 use crate::top::run;
 use bk_text::Bytes;
-use media_core::{Failed, MemMedia, Source, SourceMem};
+use crash_moments::raised;
+use media_core::{Failed, Media, MemMedia, Source, SourceMem};
 use std::alloc::{AllocError, Global};
 
 /// A volume with one directory, of which the server modify time alone is told.
@@ -174,4 +175,105 @@ fn an_input_has_a_bound(rt: HostRuntime) {
         status_of_zeros(rt.alloc(), 536_870_913),
         Ok(Status::ScriptTooLong)
     );
+}
+
+/// An output that takes seven bytes at a time, so many times, and then fails. It has no files but an empty journal.
+#[derive(Drop)]
+struct SlowOutput {
+    told: Bytes,
+    left: u32,
+    faults: u64,
+}
+
+impl Media for SlowOutput {
+    ghost use Rattle.std.specs.Prelude.{◌==◌};
+    ghost use Rattle.std.proofs.Common.{lit≤, refl, arith};
+    ghost use Rattle.std.proofs.lemmas.Bool.{eqb-true};
+    ghost use Rattle.crash_moments.specs.Moments.{silent};
+    ghost use Rattle.media_core.specs.Media.{nothing};
+
+    ghost tells = { ⊥ };
+
+    ghost seen = { λ s. nothing };
+
+    ghost time = { silent };
+
+    ghost count = { λ s. 1 };
+
+    ghost present = { λ s f. f == 0 };
+
+    ghost faults = { λ s. s.faults };
+
+    ghost tell_faults = { λ s. s.faults };
+
+    ghost some_files = { λ s. lit≤ tt };
+
+    ghost few_files = { λ s. lit≤ tt };
+
+    ghost journal_here = { λ s. refl };
+
+    ghost here_below = { λ s f here. Prim.omega (arith, eqb-true f 0 here) };
+
+    ghost seen_may_be_left = { λ s told. absurd told };
+
+    fn count(&self) -> u32 {
+        1
+    }
+
+    fn here(&self, f: u32) -> bool {
+        f == 0
+    }
+
+    fn len(&mut self, _f: u32) -> Result<u64, Failed> {
+        Ok(0)
+    }
+
+    fn read(&mut self, _f: u32, _at: u64, _into: &mut [u8]) -> Result<(), Failed> {
+        Ok(())
+    }
+
+    fn write(&mut self, _f: u32, _at: u64, _from: &[u8]) -> Result<(), Failed> {
+        Ok(())
+    }
+
+    fn sync(&mut self, _f: u32) -> Result<(), Failed> {
+        Ok(())
+    }
+
+    fn tell(&mut self, piece: &[u8]) -> Result<usize, Failed> {
+        let count = piece.len().min(7);
+        if self.left == 0 || self.told.extend_from_slice(&piece[..count]).is_err() {
+            self.faults = raised(self.faults);
+            return Err(Failed);
+        }
+        self.left -= 1;
+        Ok(count)
+    }
+}
+
+fn told_slowly(alloc: Global, left: u32) -> Result<(Status, Bytes), AllocError> {
+    let words = words_of(alloc, "examine")?;
+    let output = SlowOutput {
+        told: Bytes::new(alloc),
+        left,
+        faults: 0,
+    };
+    let mut source = SourceMem::new(alloc, &ONE_DIRECTORY)?;
+    let (status, output) = run(alloc, &words, output, &mut source);
+    let SlowOutput { told, .. } = output;
+    Ok((status, told))
+}
+
+fn is_told_slowly(alloc: Global, left: u32, status: Status, lines: &[u8]) -> bool {
+    match told_slowly(alloc, left) {
+        Ok((ended, told)) => ended == status && told.as_slice() == lines,
+        Err(_) => false,
+    }
+}
+
+#[test]
+fn an_output_may_take_little_and_fail(rt: HostRuntime) {
+    assert!(rt; is_told_slowly(rt.alloc(), 9, Status::Done, DIRECTORY_LINES));
+    assert!(rt; is_told_slowly(rt.alloc(), 3, Status::OutputFault, b"volume v1 536870915 f"));
+    assert!(rt; is_told_slowly(rt.alloc(), 7, Status::OutputFault, &DIRECTORY_LINES[..48]));
 }
