@@ -1,0 +1,11 @@
+//! Tests of the files, the source and the clock in memory: what each pick leaves, which calls fail, and what is read.
+#![tactic(auto)]
+
+#[cfg(test)]
+mod files;
+#[cfg(test)]
+mod inputs;
+#[cfg(test)]
+mod picks;
+#[cfg(test)]
+mod plans;
