@@ -1,0 +1,4 @@
+pub mod ElementLaws
+pub mod AboveLaws
+pub mod WithinLaws
+pub mod TreeLaws
