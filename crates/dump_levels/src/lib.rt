@@ -5,3 +5,6 @@ mod above;
 mod levels;
 
 pub use levels::{Level, LevelFault, Levels};
+
+#[cfg(test)]
+mod tests;
