@@ -1,2 +1,5 @@
 pub mod Elements
 pub mod Trees
+pub mod Words
+pub mod Calendar
+pub mod Dates

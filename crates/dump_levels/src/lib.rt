@@ -2,8 +2,13 @@
 #![tactic(auto)]
 
 mod above;
+mod calendar;
+mod dates;
 mod levels;
+mod numbers;
+mod words;
 
+pub use dates::{DateFault, parse_date};
 pub use levels::{Level, LevelFault, Levels};
 
 #[cfg(test)]
