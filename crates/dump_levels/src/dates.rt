@@ -45,7 +45,7 @@ fn day_with(month: Option<u32>, day: Option<u32>, year: Option<u32>) -> Option<D
 }
 
 /// The day that a word writes.
-fn day_in(word: &[u8]) -> Option<Day>
+pub fn day_in(word: &[u8]) -> Option<Day>
     ensures is { result ≡ day_of word.now }
     ensures real { IfSome result (λ found. IsTrue (is_day found)) }
 {
@@ -116,7 +116,7 @@ fn moment_at(more: u32, most: u32, day: Day, minutes: u32) -> Result<u32, DateFa
 }
 
 /// A day in words, from the word of this number on, and perhaps a time of day.
-fn date_in(text: &[u8], at: usize, more: u32, most: u32) -> Result<u32, DateFault>
+pub fn date_in(text: &[u8], at: usize, more: u32, most: u32) -> Result<u32, DateFault>
     requires at { at < 100 }
     requires more { more ≤ 60 }
     ensures { result ≡ date_says at more most (words_of text.now) }

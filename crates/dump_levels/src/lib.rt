@@ -4,11 +4,13 @@
 mod above;
 mod calendar;
 mod dates;
+mod expiries;
 mod levels;
 mod numbers;
 mod words;
 
 pub use dates::{DateFault, parse_date};
+pub use expiries::parse_expiry;
 pub use levels::{Level, LevelFault, Levels};
 
 #[cfg(test)]
