@@ -1,6 +1,6 @@
 -- Days year by year, and month by month.
-use Rattle.std.proofs.Common.{zero, suc, ℕ, ◌+◌, ◌*◌, ◌<◌, ◌≤◌, ◌≡◌, Bool, true, false, cond, sym, ◌∙◌, ap, arith}
-use Rattle.dump_levels.specs.Calendar.{is_leap, days_in_year, days_in_month, days_of_years, days_of_months}
+use Rattle.std.proofs.Common.{suc, ℕ, ◌+◌, ◌*◌, ◌≤◌, ◌≡◌, sym, ◌∙◌, ap, arith}
+use Rattle.dump_levels.specs.Calendar.{days_in_year, days_in_month, days_of_years, days_of_months}
 
 -- so far the days of so many years, none of them too long
 pub record YearsSoFar (n days : ℕ) : Type 0 where

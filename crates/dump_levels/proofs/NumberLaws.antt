@@ -1,6 +1,6 @@
 -- Numbers digit by digit.
 use Rattle.std.proofs.Common.{zero, suc, ℕ, ◌+◌, ◌-◌, ◌*◌, ◌<◌, ◌≤◌, ◌≡◌, List, [], ◌∷◌, ◌++◌, length, take, get_or, Bool, true, false, ◌&&◌, min, refl, sym, ◌∙◌, ap, subst, arith, cond, nat_le, leb}
-use Rattle.std.specs.Prelude.{Option, Some, None, MatchOption, IfSome}
+use Rattle.std.specs.Prelude.{Some, None}
 use Rattle.std.proofs.lemmas.Bool.{le-leb, and_parts, leb-true}
 use Rattle.std.proofs.lemmas.Str.{digit_value_digit}
 use Rattle.dump_levels.specs.Words.{number_of, digits_of}

@@ -14,4 +14,6 @@ pub use expiries::parse_expiry;
 pub use levels::{Level, LevelFault, Levels};
 
 #[cfg(test)]
+mod date_tests;
+#[cfg(test)]
 mod tests;
