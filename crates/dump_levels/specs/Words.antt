@@ -1,0 +1,21 @@
+-- The words of a text, and numbers.
+use Rattle.std.specs.Prelude.{ℕ, List, length, Bool, ◌&&◌, ◌||◌, ◌==◌, nat_lt, nat_le, if◌then◌else◌, Option, Some, None}
+use Rattle.std.specs.List.{filter, slice_split}
+use Rattle.std.specs.Str.{all_ascii_digits}
+use Rattle.std.specs.Str.Parse.{digits_value}
+
+-- a space or a tab
+abbrev pub is_blank : ℕ → Bool
+is_blank b = (b == 32) || (b == 9)
+
+-- the words of a text: the pieces between spaces and tabs that have a byte
+abbrev pub words_of : List ℕ → List (List ℕ)
+words_of text = filter (λ word. nat_lt 0 (length word)) (slice_split is_blank text)
+
+-- the number that a word of digits writes
+abbrev pub number_of : List ℕ → Option ℕ
+number_of word = if all_ascii_digits word then Some (digits_value 10 word) else None
+
+-- from so many to so many digits
+abbrev pub digits_of : ℕ → ℕ → List ℕ → Option ℕ
+digits_of least most word = if nat_le least (length word) && nat_le (length word) most then number_of word else None
