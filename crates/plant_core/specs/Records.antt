@@ -1,5 +1,5 @@
 -- The records of a tape, and how a call shows them.
-use Rattle.std.specs.Prelude.{◌≡◌, ℕ, List, [], ◌∷◌, Option, Some, None, slice_get, Contains}
+use Rattle.std.specs.Prelude.{◌≡◌, ◌≢◌, ℕ, List, [], ◌∷◌, Option, Some, None, slice_get}
 use Rattle.plant_core.specs.declared.record.Kind.{Kind}
 use Rattle.plant_core.specs.declared.record.Kind.TheVariants.{Block, Mark, Bad}
 
@@ -28,4 +28,4 @@ ShowsFirst (first ∷ rest) shown into = (kind : Kind) × ((shown ≡ Some kind)
 
 -- no record is a bad one
 abbrev pub NoBad : List Record → Type 0
-NoBad tape = Contains tape bad → ⊥
+NoBad tape = (i : ℕ) → slice_get tape i ≢ Some bad

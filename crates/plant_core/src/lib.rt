@@ -5,7 +5,9 @@
 mod fault;
 mod plant;
 mod record;
+mod whole;
 
 pub use fault::{Failed, PutFault};
 pub use plant::Plant;
 pub use record::{Block, Kind};
+pub use whole::is_whole;
