@@ -314,6 +314,9 @@ pub trait Plant {
     /// No slot past the last one is here.
     ghost here_below: { (s : Self) (k : ℕ) → sound s → IsTrue (present s k) → k < slots s };
 
+    /// The loaded tape is one that is here.
+    ghost loaded_here: { (s : Self) (k : ℕ) → sound s → loaded s ≡ Some k → IsTrue (present s k) };
+
     /// The numbers of records and of bytes are those of what reads give.
     ghost records_told: { (s : Self) (k : ℕ) → tells → sound s → loaded s ≡ Some k → records s ≡ length ((seen s).tape k) };
 
