@@ -1,0 +1,23 @@
+// How the calls of a plant fail.
+ghost use Rattle.std.specs.Prelude.{◌≡◌};
+
+/// A call was refused by the outside. Its cause is a count of faults that rose.
+#[derive(Clone, Copy, Debug, PartialEq, Eq, Drop)]
+pub struct Failed;
+
+/// Why nothing was put on the log.
+#[derive(Clone, Copy, Debug, PartialEq, Eq, Drop)]
+pub enum PutFault {
+    /// The log would have more than 268,435,456 bytes (this project's own limit). Nothing has changed.
+    LogFull,
+    /// The call was refused by the outside.
+    Failed,
+}
+
+impl From<Failed> for PutFault {
+    fn from(_: Failed) -> Self
+        ensures { result ≡ PutFault.Failed }
+    {
+        PutFault::Failed
+    }
+}

@@ -1,0 +1,13 @@
+//! A log, tapes that are lists of records, and an output: what every layer above the devices stands on. What a crash may
+//! leave of all three together is told at every moment, also inside a call.
+#![tactic(auto)]
+
+mod fault;
+mod plant;
+mod record;
+mod whole;
+
+pub use fault::{Failed, PutFault};
+pub use plant::Plant;
+pub use record::{Block, Kind};
+pub use whole::is_whole;
