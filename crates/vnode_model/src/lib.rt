@@ -15,6 +15,6 @@ pub use fitting::fault_in;
 pub use headers::{HeaderFields, VolHeader};
 pub use increments::{Entry, Increment, IncrementFields};
 pub use listed::{EntryState, VolEntry};
-pub use selecting::{EntryRef, Memory, SelectIter, select_iter};
+pub use selecting::{EntryRef, Memory, SelectIter, select, select_iter};
 pub use vnodes::{Vnode, VnodeKind, stands_before};
 pub use volumes::{Volume, VolumeFault, VolumeFields};

@@ -3,6 +3,7 @@
 ghost use Rattle.std.specs.Prelude.{◌≡◌, IfOk, IsTrue};
 ghost use Rattle.vnode_model.specs.Increments.{is_whole_from, entry_from, entries_from, selected};
 ghost use Rattle.vnode_model.specs.EntryRefs.{entry_of};
+ghost use Rattle.vnode_model.specs.Limits.{AreFit};
 
 use crate::increments::{Entry, Increment, IncrementFields};
 use crate::vnodes::Vnode;
@@ -61,6 +62,16 @@ fn entry_from(from: u32, vnode: &Vnode) -> EntryRef<'_>
     }
 }
 
+/// The entry that a reference refers to, copied.
+fn copied(entry: EntryRef<'_>) -> Result<Entry, Memory>
+    ensures { IfOk result (λ copy. copy ≡ entry_of entry.entry) }
+{
+    match entry {
+        EntryRef::Whole(vnode) => Ok(Entry::Whole(vnode.clone()?)),
+        EntryRef::Kept { number, uniq } => Ok(Entry::Kept { number, uniq }),
+    }
+}
+
 impl<'a> Iterator for SelectIter<'a> {
     type Item = EntryRef<'a>;
 
@@ -81,10 +92,41 @@ impl<'a> Iterator for SelectIter<'a> {
 /// The entries of a volume's increment from a time on, in seconds since 1970; from 0 every vnode is whole. They are
 /// those of `select`, by reference. It takes no memory.
 pub fn select_iter(volume: &Volume, from: u32) -> SelectIter<'_>
-    ensures { result ≡ entries_from volume.now from }
+    ensures value { result ≡ entries_from volume.now from }
+    ensures form { AreFit result }
 {
     SelectIter {
         vnodes: volume.vnodes(),
         from,
     }
+}
+
+/// Its entries, copied.
+fn entries_of(alloc: Global, volume: &Volume, from: u32) -> Result<List<Entry>, Memory>
+    ensures value { IfOk result (λ entries. entries ≡ entries_from volume.now from) }
+    ensures form { AreFit (entries_from volume.now from) }
+{
+    let mut entries = List::new(alloc);
+    let all = select_iter(volume, from);
+    for entry in all {
+        entries.push(copied(entry)?)?;
+    }
+    Ok(entries)
+}
+
+/// The increment of a volume from a time on, in seconds since 1970; from 0 every vnode is whole. `to` is the time of
+/// the volume's state.
+pub fn select(alloc: Global, volume: &Volume, from: u32, to: u32) -> Result<Increment, Memory>
+    ensures { IfOk result (λ increment. increment ≡ selected volume.now from to) }
+{
+    let entries = entries_of(alloc, volume, from)?;
+    let header = volume.header().clone()?;
+    Ok(Increment::new(IncrementFields {
+        dump_id: header.fields().id,
+        dump_name: header.fields().name.clone()?,
+        from,
+        to,
+        header,
+        entries,
+    }))
 }
