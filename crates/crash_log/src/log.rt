@@ -12,11 +12,14 @@ use crate::open::read_state;
 use crate::state::{LogState, Needs};
 use crate::turn::turn_over;
 use media_core::{Failed, Media};
+use thiserror::Error;
 
 /// A put or a replace was refused: the log would be longer than its limit, or a call of the media failed.
-#[derive(Clone, Copy, Debug, PartialEq, Eq, Drop)]
+#[derive(Clone, Copy, Debug, PartialEq, Eq, Drop, Error)]
 pub enum PutFault {
+    #[error("the log would pass its limit")]
     LogFull,
+    #[error("a call of the media failed")]
     Failed,
 }
 

@@ -9,6 +9,7 @@ use crate::headers::VolHeader;
 use crate::vnodes::Vnode;
 use bk_text::List;
 use std::marker::Model;
+use thiserror::Error;
 
 /// The fields of a volume.
 #[derive(Debug, Drop)]
@@ -24,9 +25,10 @@ pub struct Volume {
 }
 
 /// Why a header and vnodes are no volume.
-#[derive(Debug, Drop)]
+#[derive(Clone, Copy, Debug, PartialEq, Eq, Drop, Error)]
 pub enum VolumeFault {
     /// The vnode at this index is the first that breaks the order, the parity or a limit.
+    #[error("vnode {index} breaks the order, the parity or a limit")]
     Order { index: usize },
 }
 
