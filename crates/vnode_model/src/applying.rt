@@ -10,15 +10,19 @@ use crate::taking::{take_all, vnodes_in};
 use crate::vnodes::Vnode;
 use crate::volumes::{Volume, VolumeFields};
 use std::alloc::{AllocError, Global};
+use thiserror::Error;
 
 /// Why an increment can't be applied to a base.
-#[derive(Clone, Copy, Debug, PartialEq, Eq)]
+#[derive(Clone, Copy, Debug, PartialEq, Eq, Drop, Error)]
 pub enum ApplyFault {
     /// The first kept entry that the base lacks has this number and uniquifier.
+    #[error("the base lacks vnode {number} with uniquifier {uniq}")]
     BaseLacks { number: u32, uniq: u32 },
     /// The data would be more than 268,435,456 bytes.
+    #[error("the volume's data would pass 268,435,456 bytes")]
     TooLarge,
     /// Memory was refused.
+    #[error("memory was refused")]
     Memory,
 }
 
