@@ -35,7 +35,7 @@ impl From<AllocError> for ApplyFault {
 }
 
 /// Whether vnodes' data is at most 268,435,456 bytes.
-fn is_small(vnodes: &[Vnode]) -> bool
+pub fn is_small(vnodes: &[Vnode]) -> bool
     ensures { result ≡ nat_le (data_of vnodes.now) all_data }
 {
     let mut room = 268_435_456;

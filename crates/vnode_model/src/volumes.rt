@@ -8,6 +8,7 @@ use crate::fitting::fault_in_vnodes;
 use crate::headers::VolHeader;
 use crate::vnodes::Vnode;
 use bk_text::List;
+use std::alloc::AllocError;
 use std::marker::Model;
 use thiserror::Error;
 
@@ -41,6 +42,19 @@ impl Model for Volume {
     ghost view = { λ a. a.fields };
 
     ghost invariant = { λ a. AreVolume a.fields.vnodes };
+}
+
+impl Clone for Volume {
+    ghost is_clone = { λ a b. b ≡ a };
+
+    fn clone(&self) -> Result<Volume, AllocError> {
+        Ok(Volume {
+            fields: VolumeFields {
+                header: self.fields.header.clone()?,
+                vnodes: self.fields.vnodes.clone()?,
+            },
+        })
+    }
 }
 
 impl Volume {
