@@ -1,1 +1,2 @@
+pub mod TapeLists
 pub mod Wholes

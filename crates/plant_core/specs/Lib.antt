@@ -2,3 +2,4 @@ pub mod Counts
 pub mod Records
 pub mod Steps
 pub mod Stock
+pub mod Tapes

@@ -5,6 +5,7 @@
 mod fault;
 mod plant;
 mod record;
+mod stored;
 mod whole;
 
 pub use fault::{Failed, PutFault};
