@@ -1,4 +1,5 @@
 pub mod Counts
+pub mod Past
 pub mod Records
 pub mod Steps
 pub mod Stock

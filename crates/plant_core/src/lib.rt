@@ -2,6 +2,7 @@
 //! leave of all three together is told at every moment, also inside a call.
 #![tactic(auto)]
 
+mod event;
 mod fault;
 mod plant;
 mod record;

@@ -1,0 +1,7 @@
+use Rattle.std.proofs.Common.{◌≡◌, rules}
+use Rattle.plant_core.proofs.event.keep_log_put.Goals as goal
+
+pub returns-in-Ok-extend_from_slice-clause-past : goal.returns-in-Ok-extend_from_slice-clause-past
+returns-in-Ok-extend_from_slice-clause-past c =
+    let same : c.in_ok-bytes.bytes.items ≡ c.args.piece.now = search rules in
+    record { kept = c.in_ok-bytes.bytes; is = same; more = c.in-Ok.ensures.ok }
