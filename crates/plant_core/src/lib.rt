@@ -4,12 +4,15 @@
 
 mod event;
 mod fault;
+mod mem;
 mod plant;
 mod record;
+mod refusals;
 mod stored;
 mod whole;
 
-pub use fault::{Failed, PutFault};
+pub use fault::{Failed, Memory, PutFault};
+pub use mem::MemPlant;
 pub use plant::Plant;
 pub use record::{Block, Kind};
 pub use whole::is_whole;
