@@ -1,12 +1,11 @@
 -- The records of tapes that are kept in a list.
-use Rattle.std.proofs.Common.{◌≡◌, ◌≢◌, inl, inr, ℕ, zero, suc, ◌<◌, ◌≤◌, ◌==◌, if◌then◌else◌, List, [], ◌∷◌, ◌++◌, length, take, get_or, Vec, Option, Some, None, slice_get, option_copied, refl, sym, ◌∙◌, ap, subst, arith, slice_set}
+use Rattle.std.proofs.Common.{◌≡◌, ◌≢◌, inl, inr, ℕ, zero, suc, ◌<◌, ◌≤◌, ◌==◌, if◌then◌else◌, List, [], ◌∷◌, ◌++◌, length, take, get_or, Vec, Some, None, slice_get, refl, sym, ◌∙◌, ap, subst, arith, slice_set}
 use Rattle.std.specs.declared.alloc.Global.{Global}
 use Rattle.std.proofs.lemmas.Bool.{cases_eq}
 use Rattle.std.proofs.lemmas.Bool.Decides.{nat_tests}
 use Rattle.plant_core.specs.declared.record.Kind.{Kind}
 use Rattle.plant_core.specs.declared.stored.Stored.{Stored}
-use Rattle.plant_core.specs.declared.stored.Stored.TheVariants.{Block, Mark}
-use Rattle.plant_core.specs.Records.{Record, Shows, ShowsAt, ShowsFirst}
+use Rattle.plant_core.specs.Records.{Record, Shows, ShowsFirst}
 use Rattle.plant_core.specs.Tapes.{record_of, records_in, records_at}
 
 abbrev Tapes : Type 0

@@ -1,5 +1,5 @@
 -- What holds of a plant in memory whatever was asked of it.
-use Rattle.std.proofs.Common.{◌≡◌, inl, ℕ, ◌+◌, ◌≤◌, ◌<◌, nat_lt, ◌==◌, if◌then◌else◌, Bool, true, false, List, [], ◌∷◌, ◌++◌, length, take, IsTrue, Option, Some, refl, sym, ap, arith, length-append}
+use Rattle.std.proofs.Common.{◌≡◌, inl, ℕ, ◌≤◌, ◌<◌, nat_lt, ◌==◌, if◌then◌else◌, Bool, true, false, List, [], ◌∷◌, ◌++◌, length, take, IsTrue, Option, Some, refl, sym, ap, arith, length-append}
 use Rattle.std.proofs.lemmas.List.{take_all}
 use Rattle.std.proofs.lemmas.Bool.Decides.{nat_tests}
 use Rattle.plant_core.specs.declared.event.Event.{Event}
@@ -14,7 +14,7 @@ pub record IsWithin (s : State) : Type 0 where
   pub log : s.log_settled ≤ length s.log
   pub tapes : (k : ℕ) → s.settled k ≤ length (s.tape k)
 
-put_within : (here : Bool) (n : ℕ) (tape : List Record) (r : Record) → n ≤ length tape → n ≤ length (if here then tape ++ r ∷ [] else tape)
+pub put_within : (here : Bool) (n : ℕ) (tape : List Record) (r : Record) → n ≤ length tape → n ≤ length (if here then tape ++ r ∷ [] else tape)
 put_within true n tape r within = omega (arith, within, length-append tape (r ∷ []))
 put_within false n tape r within = within
 

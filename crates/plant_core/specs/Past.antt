@@ -1,5 +1,5 @@
 -- What was asked of a plant in memory, and what a crash may leave of it.
-use Rattle.std.specs.Prelude.{◌≡◌, ℕ, min, List, [], ◌∷◌, ◌++◌, length, take, if◌then◌else◌, ◌==◌, Vec}
+use Rattle.std.specs.Prelude.{◌≡◌, ℕ, List, [], ◌∷◌, ◌++◌, length, take, if◌then◌else◌, ◌==◌, Vec}
 use Rattle.std.specs.declared.alloc.Global.{Global}
 use Rattle.plant_core.specs.declared.event.Event.{Event}
 use Rattle.plant_core.specs.declared.event.Event.TheVariants.{Put, Settle, Cut, LogPut, LogCommit, LogReplace, Tell}

@@ -1,5 +1,5 @@
 -- What a plant in memory shows: its records and bytes, what was asked of it, and what was refused to it.
-use Rattle.std.specs.Prelude.{◌≡◌, ◌≢◌, ℕ, ◌≤◌, List, length, Option, None, nat_lt, Bool, Result, Ok, Err, OnOk, OnErr}
+use Rattle.std.specs.Prelude.{◌≡◌, ◌≢◌, ℕ, ◌≤◌, List, length, Option, None, nat_lt, Bool, Result, Err, OnOk, OnErr}
 use Rattle.crash_moments.specs.Moments.{Moments, history, Rose}
 use Rattle.plant_core.specs.declared.event.Event.{Event}
 use Rattle.plant_core.specs.declared.fault.PutFault.{PutFault}

@@ -1,4 +1,4 @@
-use Rattle.std.proofs.Common.{◌<◌, length, take, sym, ◌∙◌, ap, rules, arith}
+use Rattle.std.proofs.Common.{◌<◌, length, take, sym, ◌∙◌, ap, rules}
 use Rattle.plant_core.specs.Tapes.{records_in}
 use Rattle.plant_core.proofs.TapeLists.{records_at_at, records_at_set, records_in-take}
 use Rattle.plant_core.proofs.stored.cut_in.Goals as goal

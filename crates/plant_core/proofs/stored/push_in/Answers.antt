@@ -1,4 +1,4 @@
-use Rattle.std.proofs.Common.{◌<◌, [], ◌∷◌, ◌++◌, length, List, sym, ◌∙◌, ap, rules, arith}
+use Rattle.std.proofs.Common.{◌<◌, [], ◌∷◌, ◌++◌, length, List, sym, ◌∙◌, ap, rules}
 use Rattle.plant_core.specs.Records.{Record}
 use Rattle.plant_core.specs.Tapes.{record_of, records_in}
 use Rattle.plant_core.proofs.TapeLists.{records_at_at, records_at_set, records_at_set_back, records_in-push}

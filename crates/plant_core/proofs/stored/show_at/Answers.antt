@@ -1,4 +1,4 @@
-use Rattle.std.proofs.Common.{◌≡◌, ◌<◌, length, vec_len, List, sym, ◌∙◌, ap, subst, rules, arith}
+use Rattle.std.proofs.Common.{◌≡◌, ◌<◌, length, vec_len, List, sym, ap, subst, rules, arith}
 use Rattle.plant_core.specs.Records.{Record, ShowsAt}
 use Rattle.plant_core.proofs.TapeLists.{records_at_at, records_in-length}
 use Rattle.plant_core.proofs.stored.show_at.Goals as goal
