@@ -1,5 +1,5 @@
 -- What a plant in memory keeps of its tapes and its log while events are added.
-use Rattle.std.proofs.Common.{◌≡◌, ◌≢◌, inl, inr, ℕ, ◌<◌, ◌≤◌, ◌==◌, if◌then◌else◌, List, [], ◌∷◌, ◌++◌, length, take, Option, Some, None, IsSome, Vec, refl, sym, ◌∙◌, ap, subst, arith, length-append}
+use Rattle.std.proofs.Common.{◌≡◌, ◌≢◌, ◌⊎◌, inl, inr, ℕ, ◌<◌, ◌≤◌, ◌==◌, if◌then◌else◌, List, [], ◌∷◌, ◌++◌, length, take, Option, Some, None, IsSome, Vec, refl, sym, ◌∙◌, ap, subst, arith, length-append}
 use Rattle.std.specs.declared.alloc.Global.{Global}
 use Rattle.std.proofs.lemmas.Bool.{cases_eq}
 use Rattle.std.proofs.lemmas.List.{length-take}
@@ -10,7 +10,7 @@ use Rattle.plant_core.specs.declared.stored.Stored.TheVariants.{Mark}
 use Rattle.plant_core.specs.Records.{Record, mark}
 use Rattle.plant_core.specs.Counts.{SettledAt, SettledAway}
 use Rattle.plant_core.specs.Tapes.{records_at}
-use Rattle.plant_core.specs.Stock.{slot_of}
+use Rattle.plant_core.specs.Stock.{Stock, slot_of}
 use Rattle.plant_core.specs.Steps.{AtTape}
 use Rattle.plant_core.specs.Past.{State, blank, happens, after, seen_in, GainsPut}
 use Rattle.plant_core.proofs.Leading.{after-push, state_push, if_here, if_other, same_slot}
@@ -121,24 +121,45 @@ one_longer r ts k tape shown room = omega (arith, ap length shown, room, length-
 pub cut_short : (n : ℕ) (ts : Tapes) (k : ℕ) → length (records_at ts k) ≤ 524288 → length (take n (records_at ts k)) ≤ 524288
 cut_short n ts k short = omega (arith, short, length-take n (records_at ts k))
 
--- a load puts a tape away
-pub settle_away : (past past' : List Event) (loaded : Option ℕ) (k slot : ℕ) → loaded ≡ Some k → k ≢ slot → past' ≡ past ++ Settle k ∷ []
-    → SettledAway loaded slot (seen_in (after past blank)) (after past blank).settled (after past' blank).settled
-settle_away past past' loaded k slot is ne more =
-    let s = after past blank in
-    subst (λ (t : State). SettledAway loaded slot (seen_in s) s.settled t.settled) (sym (state_push past past' (Settle k) more)) (record {
-      away = λ j away. if_here j k (length (s.tape j)) (s.settled j) (same_slot loaded j k is away.0);
-      others = λ j not_away. if_other j k (length (s.tape j)) (s.settled j) (λ same. not_away (is ∙ ap (λ (i : ℕ). Some i) (sym same), λ slot_is. ne (sym same ∙ slot_is)));
-    })
+-- a tape is settled, or nothing was asked
+abbrev pub Settles : ℕ → List Event → List Event → Type 0
+Settles k past past' = (past' ≡ past) ⊎ (past' ≡ past ++ Settle k ∷ [])
 
--- of the tapes that aren't loaded all is settled, also of the one that was put away
-pub settle_others : (past past' : List Event) (loaded : Option ℕ) (k slot : ℕ) → loaded ≡ Some k → past' ≡ past ++ Settle k ∷ []
+pub settles_seen : (past past' : List Event) (k : ℕ) → Settles k past past' → seen_in (after past' blank) ≡ seen_in (after past blank)
+settles_seen past past' k (inl same) = ap (λ (es : List Event). seen_in (after es blank)) same
+settles_seen past past' k (inr more) = ap seen_in (state_push past past' (Settle k) more)
+
+pub settles_log : (past past' : List Event) (k : ℕ) → Settles k past past' → (after past' blank).log_settled ≡ (after past blank).log_settled
+settles_log past past' k (inl same) = ap (λ (es : List Event). (after es blank).log_settled) same
+settles_log past past' k (inr more) = ap (λ (s : State). s.log_settled) (state_push past past' (Settle k) more)
+
+settles_others : (past past' : List Event) (k : ℕ) → Settles k past past' → (j : ℕ) → j ≢ k → (after past' blank).settled j ≡ (after past blank).settled j
+settles_others past past' k (inl same) j other = ap (λ (es : List Event). (after es blank).settled j) same
+settles_others past past' k (inr more) j other = let s = after past blank in ap (λ (s : State). s.settled j) (state_push past past' (Settle k) more) ∙ if_other j k (length (s.tape j)) (s.settled j) other
+
+-- a load puts a tape away
+pub settled_away : (past past' : List Event) (loaded : Option ℕ) (k slot : ℕ) → loaded ≡ Some k → k ≢ slot → Settles k past past'
+    → ((j : ℕ) → (after past' blank).settled j ≡ length ((after past' blank).tape j)) → SettledAway loaded slot (seen_in (after past blank)) (after past blank).settled (after past' blank).settled
+settled_away past past' loaded k slot is ne settles all = record {
+  away = λ j away. all j ∙ ap (λ (s : Stock). length (s.tape j)) (settles_seen past past' k settles);
+  others = λ j not_away. settles_others past past' k settles j (λ same. not_away (is ∙ ap (λ (i : ℕ). Some i) (sym same), λ slot_is. ne (sym same ∙ slot_is)));
+}
+
+-- all is settled, once the loaded tape is
+pub all_settled : (k : ℕ) (f : List Record → List Record) (s t : State) → Becomes k f s t → (loaded : Option ℕ) → loaded ≡ Some k → ((j : ℕ) → loaded ≢ Some j → s.settled j ≡ length (s.tape j))
+    → t.settled k ≡ length (t.tape k) → (j : ℕ) → t.settled j ≡ length (t.tape j)
+all_settled k f s t b loaded is others here j = elim (cases_eq j k) [
+  | inl same ↦ subst (λ (i : ℕ). t.settled i ≡ length (t.tape i)) (sym same) here
+  | inr other ↦ others_follow k f s t b loaded is others j (λ was. other (same_slot loaded j k is was))
+]
+
+pub settle_all : (past past' : List Event) (loaded : Option ℕ) (k : ℕ) → loaded ≡ Some k → past' ≡ past ++ Settle k ∷ []
     → ((j : ℕ) → loaded ≢ Some j → (after past blank).settled j ≡ length ((after past blank).tape j))
-    → (j : ℕ) → Some slot ≢ Some j → (after past' blank).settled j ≡ length ((after past' blank).tape j)
-settle_others past past' loaded k slot is more others j not_loaded =
+    → (j : ℕ) → (after past' blank).settled j ≡ length ((after past' blank).tape j)
+settle_all past past' loaded k is more others j =
     let s = after past blank in
     let now : (if j == k then length (s.tape j) else s.settled j) ≡ length (s.tape j) = elim (cases_eq j k) [
       | inl same ↦ if_here j k (length (s.tape j)) (s.settled j) same
-      | inr other ↦ if_other j k (length (s.tape j)) (s.settled j) other ∙ others j (λ was. let e : Some j ≡ Some k = sym was ∙ is in other (cc))
+      | inr other ↦ if_other j k (length (s.tape j)) (s.settled j) other ∙ others j (λ was. other (same_slot loaded j k is was))
     ] in
     subst (λ (t : State). t.settled j ≡ length (t.tape j)) (sym (state_push past past' (Settle k) more)) now

@@ -5,6 +5,7 @@ use Rattle.std.proofs.lemmas.Bool.Decides.{nat_tests}
 use Rattle.std.proofs.lemmas.List.{take_all, take-append-le, append-nil}
 use Rattle.std.proofs.Math.Seq.{take-append-add}
 use Rattle.crash_moments.specs.Moments.{Stepped, Leads, AtSome, history}
+use Rattle.crash_moments.specs.Telling.{IsFront}
 use Rattle.crash_moments.proofs.Histories.{same_events, one_event}
 use Rattle.plant_core.specs.declared.event.Event.{Event}
 use Rattle.plant_core.specs.declared.event.Event.TheVariants.{Put, Settle, Cut, LogPut, LogCommit, LogReplace, Tell}
@@ -12,7 +13,7 @@ use Rattle.plant_core.specs.declared.mem.MemPlant.{MemPlant}
 use Rattle.plant_core.specs.declared.stored.Stored.TheVariants.{Mark}
 use Rattle.plant_core.specs.Records.{Record, mark, bad}
 use Rattle.plant_core.specs.Stock.{Stock}
-use Rattle.plant_core.specs.Steps.{Same, AtLog, OldOr, AtTape, IsTorn, MayGain, MayKeep, MaySettle, IsFront, TellsTo}
+use Rattle.plant_core.specs.Steps.{Same, AtLog, OldOr, AtTape, IsTorn, MayGain, MayKeep, MaySettle, TellsTo}
 use Rattle.plant_core.specs.Past.{State, blank, happens, after, LeftIn, IsLeft, GainsPut, GainsBytes}
 use Rattle.plant_core.specs.Kept.{IsWithin, always_within, put_within}
 use Rattle.plant_core.specs.Shown.{events_of, state_of, seen_of, settled_of}
@@ -200,7 +201,7 @@ cut_stays old new k n same = same_leads old new (MayKeep n (settled_of old) k (s
 pub same_slot : (loaded : Option ℕ) (j k : ℕ) → loaded ≡ Some k → loaded ≡ Some j → j ≡ k
 same_slot loaded j k is is' = let e : Some j ≡ Some k = sym is' ∙ is in cc
 
-pub settle_leads : (old new : MemPlant) (loaded : Option ℕ) (k slot : ℕ) → loaded ≡ Some k → k ≢ slot → events_of new ≡ events_of old ++ Settle k ∷ []
+settle_leads : (old new : MemPlant) (loaded : Option ℕ) (k slot : ℕ) → loaded ≡ Some k → k ≢ slot → events_of new ≡ events_of old ++ Settle k ∷ []
     → Leads (history events_of IsLeft) old new (MaySettle loaded slot (settled_of old) (seen_of old))
 settle_leads old new loaded k slot is ne more = one_event events_of IsLeft old new (Settle k) (MaySettle loaded slot (settled_of old) (seen_of old)) more (λ c left.
     let s = state_of old in
@@ -218,8 +219,13 @@ settle_leads old new loaded k slot is ne more = one_event events_of IsLeft old n
       };
     })
 
-pub settle_stays : (old new : MemPlant) (loaded : Option ℕ) (slot : ℕ) → events_of new ≡ events_of old → Leads (history events_of IsLeft) old new (MaySettle loaded slot (settled_of old) (seen_of old))
+settle_stays : (old new : MemPlant) (loaded : Option ℕ) (slot : ℕ) → events_of new ≡ events_of old → Leads (history events_of IsLeft) old new (MaySettle loaded slot (settled_of old) (seen_of old))
 settle_stays old new loaded slot same = same_leads old new (MaySettle loaded slot (settled_of old) (seen_of old)) same (λ c left. record { away = λ j away. left.tapes j; others = λ j not_away. refl; log = refl; told = refl })
+
+pub settles_leads : (old new : MemPlant) (loaded : Option ℕ) (k slot : ℕ) → loaded ≡ Some k → k ≢ slot → (events_of new ≡ events_of old) ⊎ (events_of new ≡ events_of old ++ Settle k ∷ [])
+    → Leads (history events_of IsLeft) old new (MaySettle loaded slot (settled_of old) (seen_of old))
+settles_leads old new loaded k slot is ne (inl same) = settle_stays old new loaded slot same
+settles_leads old new loaded k slot is ne (inr more) = settle_leads old new loaded k slot is ne more
 
 -- bytes are put on the log
 pub log_put_leads : (old new : MemPlant) (bytes : List ℕ) → GainsBytes LogPut (events_of old) (events_of new) bytes → Leads (history events_of IsLeft) old new Same

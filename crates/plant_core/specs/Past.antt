@@ -1,12 +1,13 @@
 -- What was asked of a plant in memory, and what a crash may leave of it.
 use Rattle.std.specs.Prelude.{◌≡◌, ℕ, List, [], ◌∷◌, ◌++◌, length, take, if◌then◌else◌, ◌==◌, Vec}
 use Rattle.std.specs.declared.alloc.Global.{Global}
+use Rattle.crash_moments.specs.Telling.{IsFront}
 use Rattle.plant_core.specs.declared.event.Event.{Event}
 use Rattle.plant_core.specs.declared.event.Event.TheVariants.{Put, Settle, Cut, LogPut, LogCommit, LogReplace, Tell}
 use Rattle.plant_core.specs.declared.stored.Stored.{Stored}
 use Rattle.plant_core.specs.Records.{Record}
 use Rattle.plant_core.specs.Tapes.{record_of}
-use Rattle.plant_core.specs.Steps.{IsTorn, IsFront}
+use Rattle.plant_core.specs.Steps.{IsTorn}
 use Rattle.plant_core.specs.Stock.{Stock}
 
 -- the bytes of the log, the records of each tape and the told bytes, as reads give them; and how many of the bytes and of

@@ -1,11 +1,12 @@
 // A log, tapes and an output in memory.
-ghost use Rattle.std.specs.Prelude.{◌≡◌, ◌≢◌, ◌↔◌, ◌+◌, ◌-◌, ◌^◌, ◌<◌, ◌≤◌, ◌++◌, [], List, ℕ, length, take, drop, min, Option, Some, None, Err, IfOk, OnOk, OnErr, IsOk, IsSome, IsTrue, vec_len};
+ghost use Rattle.std.specs.Prelude.{◌≡◌, ◌≢◌, ◌⊎◌, ◌↔◌, ◌+◌, ◌-◌, ◌^◌, ◌<◌, ◌≤◌, ◌++◌, [], ◌∷◌, List, ℕ, length, take, drop, min, Option, Some, None, Err, IfOk, OnOk, OnErr, IsOk, IsSome, IsTrue, vec_len, vec_capacity};
 ghost use Rattle.crash_moments.specs.Moments.{Leads, HasCause, Rose};
 ghost use Rattle.plant_core.specs.Counts.{loads_after, SettledAt, SettledAway};
 ghost use Rattle.plant_core.specs.Records.{NoBad, ShowsAt, ShowsFirst, block_with, mark};
-ghost use Rattle.plant_core.specs.Steps.{Same, AtLog, OldOr, AtTape, Gains, MayGain, Keeps, MayKeep, MaySettle, TellsTo, ToldPart, in_progress};
+ghost use Rattle.plant_core.specs.Steps.{Same, AtLog, OldOr, AtTape, Gains, MayGain, Keeps, MayKeep, MaySettle, TellsTo};
+ghost use Rattle.crash_moments.specs.Telling.{ToldPart, in_progress};
 ghost use Rattle.plant_core.specs.Stock.{Stock, slot_of, nothing, IsNothing};
-ghost use Rattle.plant_core.specs.Tapes.{records_at};
+ghost use Rattle.plant_core.specs.Tapes.{records_at, total_of};
 ghost use Rattle.plant_core.specs.Past.{blank, after, MayLeave};
 
 use crate::event::{Event, keep, keep_block, keep_cut, keep_log_put, keep_log_replace, keep_mark, keep_tell};
@@ -21,7 +22,8 @@ use std::alloc::Global;
 const LOG_LIMIT: u64 = 268_435_456;
 
 /// A log, tapes and an output in memory. All slots are here. What was asked of it is kept, so that each image that a crash may
-/// leave is told. One of its calls answers `Failed` exactly where a growth was refused to it.
+/// leave is told. One of its calls answers `Failed` exactly where a growth was refused to it. Loads, cuts and commits take no
+/// memory: room for what is kept of them is made when records and bytes are put.
 #[derive(Drop)]
 pub struct MemPlant {
     alloc: Global,
@@ -29,6 +31,9 @@ pub struct MemPlant {
     loaded: Option<u32>,
     log: Vec<u8>,
     past: Vec<Event>,
+    cuts: usize,
+    settles: usize,
+    commits: usize,
     loads: u64,
     refusals: Refusals,
     ghost tapes_kept: { (k : ℕ) → records_at tapes.items k ≡ (after past.items blank).tape k },
@@ -37,6 +42,10 @@ pub struct MemPlant {
     ghost short: { (k : ℕ) → length (records_at tapes.items k) ≤ 524288 },
     ghost loaded_here: { (k : ℕ) → loaded ≡ Some k → k < length tapes.items },
     ghost others_settled: { (k : ℕ) → loaded ≢ Some k → (after past.items blank).settled k ≡ length ((after past.items blank).tape k) },
+    ghost tapes_settled: { settles ≡ 0 → (k : ℕ) → (after past.items blank).settled k ≡ length ((after past.items blank).tape k) },
+    ghost log_settled: { commits ≡ 0 → (after past.items blank).log_settled ≡ length (after past.items blank).log },
+    ghost reserved: { length past.items + (cuts + settles + commits) ≤ vec_capacity past },
+    ghost covered: { total_of tapes.items ≤ cuts },
 }
 
 impl Plant for MemPlant {
@@ -143,6 +152,7 @@ impl Plant for MemPlant {
         ensures cause { HasCause (faults_of self.old) (faults_of self.new) result }
         ensures tell_faults { tell_faults_of self.old ≤ tell_faults_of self.new }
         ensures wanted { IsCounted self.old self.new result }
+        ensures ok { IsOk result }
     {
         match self.loaded {
             None => {
@@ -151,17 +161,12 @@ impl Plant for MemPlant {
                 Ok(())
             }
             Some(other) if other == slot => Ok(()),
-            Some(other) => match keep(&mut self.past, Event::Settle(other)) {
-                Ok(()) => {
-                    self.loaded = Some(slot);
-                    self.loads = raised(self.loads);
-                    Ok(())
-                }
-                Err(_) => {
-                    self.refusals.refuse();
-                    Err(Failed)
-                }
-            },
+            Some(other) => {
+                self.settle(other);
+                self.loaded = Some(slot);
+                self.loads = raised(self.loads);
+                Ok(())
+            }
         }
     }
 
@@ -219,8 +224,13 @@ impl Plant for MemPlant {
         ensures wanted { IsCounted self.old self.new result }
     {
         let slot = self.slot();
-        match keep_block(self.alloc, &mut self.tapes, &mut self.past, slot, block) {
-            Ok(()) => Ok(()),
+        let waiting = self.waiting();
+        match keep_block(self.alloc, &mut self.tapes, &mut self.past, slot, block, waiting) {
+            Ok(()) => {
+                self.cuts += 1;
+                self.settles = 1;
+                Ok(())
+            }
             Err(_) => {
                 self.refusals.refuse();
                 Err(Failed)
@@ -249,8 +259,13 @@ impl Plant for MemPlant {
         ensures wanted { IsCounted self.old self.new result }
     {
         let slot = self.slot();
-        match keep_mark(&mut self.tapes, &mut self.past, slot) {
-            Ok(()) => Ok(()),
+        let waiting = self.waiting();
+        match keep_mark(&mut self.tapes, &mut self.past, slot, waiting) {
+            Ok(()) => {
+                self.cuts += 1;
+                self.settles = 0;
+                Ok(())
+            }
             Err(_) => {
                 self.refusals.refuse();
                 Err(Failed)
@@ -277,15 +292,17 @@ impl Plant for MemPlant {
         ensures tell_faults { tell_faults_of self.old ≤ tell_faults_of self.new }
         ensures loads { loads_of self.new ≡ loads_of self.old }
         ensures wanted { IsCounted self.old self.new result }
+        ensures ok { IsOk result }
     {
         let slot = self.slot();
-        match keep_cut(&mut self.tapes, &mut self.past, slot, n) {
-            Ok(()) => Ok(()),
-            Err(_) => {
-                self.refusals.refuse();
-                Err(Failed)
-            }
+        let more = count_in(&self.tapes, slot as usize) - n as usize;
+        if more + self.settles == 0 {
+            return Ok(());
         }
+        keep_cut(&mut self.tapes, &mut self.past, slot, n);
+        self.cuts -= more;
+        self.settles = 0;
+        Ok(())
     }
 
     fn log_len(&self) -> u64 {
@@ -341,8 +358,12 @@ impl Plant for MemPlant {
         {
             return Err(PutFault::LogFull);
         }
-        match keep_log_put(self.alloc, &mut self.log, &mut self.past, piece) {
-            Ok(()) => Ok(()),
+        let waiting = self.waiting();
+        match keep_log_put(self.alloc, &mut self.log, &mut self.past, piece, waiting) {
+            Ok(()) => {
+                self.commits = 1;
+                Ok(())
+            }
             Err(_) => {
                 self.refusals.refuse();
                 Err(PutFault::Failed)
@@ -366,14 +387,14 @@ impl Plant for MemPlant {
         ensures tell_faults { tell_faults_of self.old ≤ tell_faults_of self.new }
         ensures loads { loads_of self.new ≡ loads_of self.old }
         ensures wanted { IsCounted self.old self.new result }
+        ensures ok { IsOk result }
     {
-        match keep(&mut self.past, Event::LogCommit) {
-            Ok(()) => Ok(()),
-            Err(_) => {
-                self.refusals.refuse();
-                Err(Failed)
-            }
+        if self.commits == 0 {
+            return Ok(());
         }
+        keep(&mut self.past, Event::LogCommit);
+        self.commits = 0;
+        Ok(())
     }
 
     fn log_replace(&mut self, bytes: &[u8]) -> Result<(), PutFault>
@@ -399,8 +420,12 @@ impl Plant for MemPlant {
         if bytes.len() as u64 > LOG_LIMIT {
             return Err(PutFault::LogFull);
         }
-        match keep_log_replace(self.alloc, &mut self.log, &mut self.past, bytes) {
-            Ok(()) => Ok(()),
+        let waiting = self.waiting();
+        match keep_log_replace(self.alloc, &mut self.log, &mut self.past, bytes, waiting) {
+            Ok(()) => {
+                self.commits = 0;
+                Ok(())
+            }
             Err(_) => {
                 self.refusals.refuse();
                 Err(PutFault::Failed)
@@ -430,7 +455,8 @@ impl Plant for MemPlant {
         ensures loads { loads_of self.new ≡ loads_of self.old }
         ensures wanted { IsCounted self.old self.new result }
     {
-        match keep_tell(self.alloc, &mut self.past, piece) {
+        let waiting = self.waiting();
+        match keep_tell(self.alloc, &mut self.past, piece, waiting) {
             Ok(()) => Ok(piece.len()),
             Err(_) => {
                 self.refusals.refuse_tell();
@@ -441,7 +467,7 @@ impl Plant for MemPlant {
 }
 
 impl MemPlant {
-    ghost use Rattle.plant_core.specs.Shown.{IsSound, IsNew, seen_of, moments_of, slots_of, present_of, settled_of, log_settled_of, loads_of, faults_of, tell_faults_of, wants_of};
+    ghost use Rattle.plant_core.specs.Shown.{IsSound, IsNew, events_of, seen_of, moments_of, slots_of, present_of, settled_of, log_settled_of, loads_of, faults_of, tell_faults_of, wants_of};
 
     /// So many blank tapes, all of them here, an empty log, and nothing told. The number of slots is at most 65,535.
     pub fn new(alloc: Global, slots: u32) -> Result<MemPlant, Memory>
@@ -460,6 +486,9 @@ impl MemPlant {
             loaded: None,
             log: Vec::new(alloc),
             past: Vec::new(alloc),
+            cuts: 0,
+            settles: 0,
+            commits: 0,
             loads: 0,
             refusals: Refusals::new(),
         })
@@ -488,6 +517,34 @@ impl MemPlant {
             Some(slot) => slot,
             None => 0,
         }
+    }
+
+    /// For how many events room is kept: a cut for each record on a tape, a settling where records of the loaded tape wait for
+    /// it, and a commit where bytes of the log do.
+    fn waiting(&self) -> usize
+        ensures sum { result ≡ self.now.cuts + self.now.settles + self.now.commits }
+        ensures room { result ≤ vec_capacity self.now.past }
+    {
+        self.cuts + self.settles + self.commits
+    }
+
+    /// Settles the loaded tape, where records of it wait for it.
+    fn settle(&mut self, slot: u32)
+        requires { self.old.loaded ≡ Some slot }
+        ensures past { (events_of self.new ≡ events_of self.old) ⊎ (events_of self.new ≡ events_of self.old ++ Event.Settle slot ∷ []) }
+        ensures settled { (k : ℕ) → settled_of self.new k ≡ length ((seen_of self.new).tape k) }
+        ensures settles { self.new.settles ≡ 0 }
+        ensures tapes { self.new.tapes ≡ self.old.tapes }
+        ensures loaded { self.new.loaded ≡ self.old.loaded }
+        ensures log { self.new.log ≡ self.old.log }
+        ensures loads { self.new.loads ≡ self.old.loads }
+        ensures refusals { self.new.refusals ≡ self.old.refusals }
+    {
+        if self.settles == 0 {
+            return;
+        }
+        keep(&mut self.past, Event::Settle(slot));
+        self.settles = 0;
     }
 
     /// A law: a crash may leave just what the crash model allows, no less and no more. The log is what is settled of it, each

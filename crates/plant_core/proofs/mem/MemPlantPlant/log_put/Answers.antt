@@ -1,4 +1,4 @@
-use Rattle.std.proofs.Common.{◌≡◌, ◌++◌, length, List, ℕ, sym, ap, subst, ◌∙◌, length-append}
+use Rattle.std.proofs.Common.{arith, ◌≡◌, ◌++◌, length, List, ℕ, sym, ap, subst, ◌∙◌, length-append}
 use Rattle.plant_core.specs.declared.event.Event.TheVariants.{LogPut}
 use Rattle.plant_core.specs.Past.{State, blank, after}
 use Rattle.plant_core.proofs.Leading.{state_push, log_put_leads, same_stays}
@@ -14,6 +14,10 @@ invariant_of-self c =
       short = m.short;
       loaded_here = m.loaded_here;
       others_settled = λ j not_loaded. subst (λ (s : State). s.settled j ≡ length (s.tape j)) (sym (state_push c.args.self.now.past.items c.keep_log_put.new.past.items (LogPut c.in-Ok.ensures.past.kept) c.in-Ok.ensures.past.more)) (m.others_settled j not_loaded);
+      tapes_settled = λ none j. subst (λ (s : State). s.settled j ≡ length (s.tape j)) (sym (state_push c.args.self.now.past.items c.keep_log_put.new.past.items (LogPut c.in-Ok.ensures.past.kept) c.in-Ok.ensures.past.more)) (m.tapes_settled none j);
+      log_settled = λ none. absurd (omega (arith, none));
+      reserved = omega (arith, m.reserved, c.waiting-waiting.ensures.sum, c.in-Ok.ensures.room);
+      covered = m.covered;
     }
 
 pub returns-in-Ok-clause-put : goal.returns-in-Ok-clause-put

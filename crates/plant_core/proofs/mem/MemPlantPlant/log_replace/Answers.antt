@@ -1,4 +1,4 @@
-use Rattle.std.proofs.Common.{◌≡◌, length, sym, ap, subst, ◌∙◌}
+use Rattle.std.proofs.Common.{arith, ◌≡◌, length, sym, ap, subst, ◌∙◌}
 use Rattle.plant_core.specs.declared.event.Event.TheVariants.{LogReplace}
 use Rattle.plant_core.specs.Past.{State}
 use Rattle.plant_core.proofs.Leading.{state_push, replace_leads, log_stays}
@@ -14,6 +14,10 @@ invariant_of-self c =
       short = m.short;
       loaded_here = m.loaded_here;
       others_settled = λ j not_loaded. subst (λ (s : State). s.settled j ≡ length (s.tape j)) (sym (state_push c.args.self.now.past.items c.keep_log_replace.new.past.items (LogReplace c.in-Ok.ensures.past.kept) c.in-Ok.ensures.past.more)) (m.others_settled j not_loaded);
+      tapes_settled = λ none j. subst (λ (s : State). s.settled j ≡ length (s.tape j)) (sym (state_push c.args.self.now.past.items c.keep_log_replace.new.past.items (LogReplace c.in-Ok.ensures.past.kept) c.in-Ok.ensures.past.more)) (m.tapes_settled none j);
+      log_settled = λ none. ap (λ (s : State). s.log_settled) (state_push c.args.self.now.past.items c.keep_log_replace.new.past.items (LogReplace c.in-Ok.ensures.past.kept) c.in-Ok.ensures.past.more) ∙ sym (ap (λ (s : State). length s.log) (state_push c.args.self.now.past.items c.keep_log_replace.new.past.items (LogReplace c.in-Ok.ensures.past.kept) c.in-Ok.ensures.past.more));
+      reserved = omega (arith, m.reserved, c.waiting-waiting.ensures.sum, c.in-Ok.ensures.room);
+      covered = m.covered;
     }
 
 pub returns-in-Ok-clause-replaced : goal.returns-in-Ok-clause-replaced

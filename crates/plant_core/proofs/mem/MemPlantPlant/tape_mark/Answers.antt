@@ -6,7 +6,7 @@ use Rattle.plant_core.specs.Past.{blank, after}
 use Rattle.plant_core.specs.Records.{Record, mark}
 use Rattle.plant_core.specs.Stock.{slot_of}
 use Rattle.plant_core.specs.Tapes.{records_at}
-use Rattle.plant_core.proofs.Keeping.{some_slot, mark_becomes, mark_settled, now_is, tapes_follow, others_follow, short_follow, one_longer}
+use Rattle.plant_core.proofs.Keeping.{all_settled, some_slot, mark_becomes, mark_settled, now_is, tapes_follow, others_follow, short_follow, one_longer}
 use Rattle.plant_core.proofs.Leading.{mark_leads, put_stays}
 use Rattle.plant_core.proofs.mem.MemPlantPlant.tape_mark.Goals as goal
 
@@ -29,6 +29,10 @@ invariant_of-self c =
       short = short_follow k more m.tapes.items c.keep_mark.new.tapes.items m.short changed (one_longer mark m.tapes.items k _ (m.tapes_kept k) c.requires.room);
       loaded_here = λ j here. omega (arith, c.in-Ok.ensures.count, m.loaded_here j here);
       others_settled = others_follow k more _ _ b m.loaded (some_slot m.loaded c.requires.loaded) m.others_settled;
+      tapes_settled = λ none. all_settled k more _ _ b m.loaded (some_slot m.loaded c.requires.loaded) m.others_settled (mark_settled m.past.items c.keep_mark.new.past.items k (marked c.args.self.now.past.items c.keep_mark.new.past.items _ _ c.slot-slot.ensures c.in-Ok.ensures.past)).here;
+      log_settled = λ none. b.log_settled ∙ m.log_settled none ∙ ap length (sym b.log);
+      reserved = omega (arith, m.reserved, c.waiting-waiting.ensures.sum, c.in-Ok.ensures.room);
+      covered = omega (arith, m.covered, c.in-Ok.ensures.total);
     }
 
 pub returns-in-Ok-clause-put : goal.returns-in-Ok-clause-put

@@ -28,6 +28,10 @@ invariant_of-self c =
       short = short_follow k f m.tapes.items c.keep_block.new.tapes.items m.short changed (one_longer (block_with c.args.block.now) m.tapes.items k _ (m.tapes_kept k) c.requires.room);
       loaded_here = λ j here. omega (arith, c.in-Ok.ensures.count, m.loaded_here j here);
       others_settled = others_follow k f _ _ b m.loaded (some_slot m.loaded c.requires.loaded) m.others_settled;
+      tapes_settled = λ none. absurd (omega (arith, none));
+      log_settled = λ none. b.log_settled ∙ m.log_settled none ∙ ap length (sym b.log);
+      reserved = omega (arith, m.reserved, c.waiting-waiting.ensures.sum, c.in-Ok.ensures.room);
+      covered = omega (arith, m.covered, c.in-Ok.ensures.total);
     }
 
 pub returns-in-Ok-clause-put : goal.returns-in-Ok-clause-put

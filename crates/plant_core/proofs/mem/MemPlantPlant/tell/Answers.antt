@@ -15,6 +15,10 @@ invariant_of-self c =
       short = m.short;
       loaded_here = m.loaded_here;
       others_settled = λ j not_loaded. subst (λ (s : State). s.settled j ≡ length (s.tape j)) (sym (state_push c.args.self.now.past.items c.keep_tell.new.past.items (Tell c.in-Ok.ensures.past.kept) c.in-Ok.ensures.past.more)) (m.others_settled j not_loaded);
+      tapes_settled = λ none j. subst (λ (s : State). s.settled j ≡ length (s.tape j)) (sym (state_push c.args.self.now.past.items c.keep_tell.new.past.items (Tell c.in-Ok.ensures.past.kept) c.in-Ok.ensures.past.more)) (m.tapes_settled none j);
+      log_settled = λ none. subst (λ (s : State). s.log_settled ≡ length s.log) (sym (state_push c.args.self.now.past.items c.keep_tell.new.past.items (Tell c.in-Ok.ensures.past.kept) c.in-Ok.ensures.past.more)) (m.log_settled none);
+      reserved = omega (arith, m.reserved, c.waiting-waiting.ensures.sum, c.in-Ok.ensures.room);
+      covered = m.covered;
     }
 
 pub returns-in-Ok-clause-told : goal.returns-in-Ok-clause-told
