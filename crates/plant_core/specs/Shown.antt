@@ -72,16 +72,22 @@ pub record IsNew (m : MemPlant) : Type 0 where
   pub tell_faults : tell_faults_of m ≡ 0
   pub wants : wants_of m ≡ 0
 
--- A call failed exactly where a growth was refused to it, and then nothing was asked.
+-- nothing but counts changes
+pub record OnlyCounts (old new : MemPlant) : Type 0 where
+  pub events : events_of new ≡ events_of old
+  pub loaded : loaded_of new ≡ loaded_of old
+  pub slots : slots_of new ≡ slots_of old
+
+-- A call failed exactly where a growth was refused to it, and then nothing but counts has changed.
 pub record IsCounted {T E : Type 0} (old new : MemPlant) (result : Result T E) : Type 0 where
   pub ok : OnOk result (wants_of new ≡ wants_of old)
   pub err : OnErr result (Rose (wants_of old) (wants_of new))
-  pub same : OnErr result (events_of new ≡ events_of old)
+  pub same : OnErr result (OnlyCounts old new)
   pub later : wants_of old ≤ wants_of new
 
 -- the same of a put, where a full log is no failure
 pub record IsPutCounted {T : Type 0} (old new : MemPlant) (result : Result T PutFault) : Type 0 where
   pub failed : result ≡ Err Put.Failed → Rose (wants_of old) (wants_of new)
-  pub same : result ≡ Err Put.Failed → events_of new ≡ events_of old
+  pub same : result ≡ Err Put.Failed → OnlyCounts old new
   pub done : result ≢ Err Put.Failed → wants_of new ≡ wants_of old
   pub later : wants_of old ≤ wants_of new

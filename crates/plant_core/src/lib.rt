@@ -9,6 +9,8 @@ mod plant;
 mod record;
 mod refusals;
 mod stored;
+#[cfg(test)]
+mod tests;
 mod whole;
 
 pub use fault::{Failed, Memory, PutFault};
