@@ -6,3 +6,5 @@ pub mod StepLaws
 pub mod ReadLaws
 pub mod FeedLaws
 pub mod SoundLaws
+pub mod WrittenLaws
+pub mod SaidLaws

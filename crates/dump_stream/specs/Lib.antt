@@ -6,3 +6,5 @@ pub mod Steps
 pub mod Sound
 pub mod Reads
 pub mod Feeds
+pub mod Written
+pub mod Allowed

@@ -5,12 +5,14 @@ mod feeding;
 mod fields;
 mod form;
 mod judge;
+
 mod machine;
 mod pieces;
 mod prefixes;
 mod reader;
 mod reading;
 mod records;
+mod said;
 mod sofar;
 mod tables;
 
