@@ -8,3 +8,4 @@ pub mod FeedLaws
 pub mod SoundLaws
 pub mod WrittenLaws
 pub mod SaidLaws
+pub mod PartLaws

@@ -8,3 +8,4 @@ pub mod Reads
 pub mod Feeds
 pub mod Written
 pub mod Allowed
+pub mod Parts
