@@ -1,5 +1,6 @@
 -- Pieces that are put one behind another.
 use Rattle.std.proofs.Common.{◌≡◌, ℕ, ◌+◌, ◌<◌, List, [], ◌∷◌, ◌++◌, length, map, take, drop, get_or, refl, sym, ap, subst, ◌∙◌, append_assoc}
+use Rattle.std.specs.Prelude.{Result, Ok, Err, OnErr}
 use Rattle.std.specs.List.{flat_map}
 use Rattle.std.specs.Int.{w32, to_be_bytes}
 use Rattle.std.proofs.lemmas.List.{append-nil, take_more, map-append, take-append-drop}
@@ -77,3 +78,7 @@ pub sections_parts : (es : List Entry) (i : ℕ) (d : Entry) → i < length es �
 sections_parts es i d lt =
     ap sections_of (sym (take-append-drop (i + 1) es)) ∙ ap (flat_map section) (map-append section_of (take (i + 1) es) (drop (i + 1) es)) ∙ flat_map-append section (map section_of (take (i + 1) es)) (map section_of (drop (i + 1) es))
     ∙ ap (λ (x : List ℕ). x ++ sections_of (drop (i + 1) es)) (sections_more es i d lt)
+
+pub on_err : {A E : Type 0} (r : Result A E) (P : Type 0) → P → OnErr r P
+on_err (Ok a) P h = tt
+on_err (Err e) P h = h
