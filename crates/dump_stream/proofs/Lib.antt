@@ -9,3 +9,4 @@ pub mod SoundLaws
 pub mod WrittenLaws
 pub mod SaidLaws
 pub mod PartLaws
+pub mod LeftLaws

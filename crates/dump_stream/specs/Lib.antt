@@ -9,3 +9,4 @@ pub mod Feeds
 pub mod Written
 pub mod Allowed
 pub mod Parts
+pub mod Left

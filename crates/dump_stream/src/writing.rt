@@ -10,13 +10,12 @@ ghost use Rattle.dump_stream.specs.Parts.{kept_head, whole_head, HoldsFront};
 use crate::part::Part;
 use crate::sections::{put_headers, put_kept, put_whole};
 use bk_text::Out;
-use std::alloc::AllocError;
-use vnode_model::{Entry, Increment, Vnode};
+use vnode_model::{Entry, Increment, Memory, Vnode};
 
 /// The last byte of a stream that tells what follows, and the number behind it.
 pub const CLOSING: [u8; 5] = [4, 0x3a, 0x21, 0x4b, 0x6e];
 
-fn write_whole(part: &mut Part, vnode: &Vnode, out: &mut Out) -> Result<(), AllocError>
+fn write_whole(part: &mut Part, vnode: &Vnode, out: &mut Out) -> Result<(), Memory>
     requires { length vnode.now.body < 2 ^ 32 }
     ensures ok { OnOk result (out.new ≡ out.old ++ (whole_head vnode.now ++ vnode.now.body)) }
     ensures err { OnErr result (HoldsFront out.old (whole_head vnode.now ++ vnode.now.body) out.new) }
@@ -27,7 +26,7 @@ fn write_whole(part: &mut Part, vnode: &Vnode, out: &mut Out) -> Result<(), Allo
     Ok(())
 }
 
-fn write_kept(part: &mut Part, number: u32, uniq: u32, out: &mut Out) -> Result<(), AllocError>
+fn write_kept(part: &mut Part, number: u32, uniq: u32, out: &mut Out) -> Result<(), Memory>
     ensures ok { OnOk result (out.new ≡ out.old ++ kept_head number uniq) }
     ensures err { OnErr result (out.new ≡ out.old) }
 {
@@ -36,7 +35,7 @@ fn write_kept(part: &mut Part, number: u32, uniq: u32, out: &mut Out) -> Result<
     Ok(())
 }
 
-fn write_entry(part: &mut Part, entry: &Entry, out: &mut Out) -> Result<(), AllocError>
+fn write_entry(part: &mut Part, entry: &Entry, out: &mut Out) -> Result<(), Memory>
     requires { IsFit entry.now }
     ensures ok { OnOk result (out.new ≡ out.old ++ section (section_of entry.now)) }
     ensures err { OnErr result (HoldsFront out.old (section (section_of entry.now)) out.new) }
@@ -53,7 +52,7 @@ fn write_entry(part: &mut Part, entry: &Entry, out: &mut Out) -> Result<(), Allo
     }
 }
 
-fn write_entries(part: &mut Part, entries: &[Entry], out: &mut Out) -> Result<(), AllocError>
+fn write_entries(part: &mut Part, entries: &[Entry], out: &mut Out) -> Result<(), Memory>
     requires { All IsFit entries.now }
     ensures ok { OnOk result (out.new ≡ out.old ++ flat_map section (map section_of entries.now)) }
     ensures err { OnErr result (HoldsFront out.old (flat_map section (map section_of entries.now)) out.new) }
@@ -70,8 +69,8 @@ fn write_entries(part: &mut Part, entries: &[Entry], out: &mut Out) -> Result<()
 ///
 /// # Errors
 ///
-/// `AllocError` where memory is refused; `out` then holds a front of the stream more than before.
-pub fn write(increment: &Increment, out: &mut Out) -> Result<(), AllocError>
+/// `Memory` where memory is refused; `out` then holds a front of the stream more than before.
+pub fn write(increment: &Increment, out: &mut Out) -> Result<(), Memory>
     ensures ok { OnOk result (out.new ≡ out.old ++ written increment.now) }
     ensures err { OnErr result (HoldsFront out.old (written increment.now) out.new) }
 {
