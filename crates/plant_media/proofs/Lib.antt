@@ -1,0 +1,4 @@
+mod Cutting
+mod Shown
+mod Showing
+mod Taping

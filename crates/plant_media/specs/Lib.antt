@@ -1,0 +1,4 @@
+pub mod Loaded
+pub mod Records
+pub mod State
+pub mod Stock
