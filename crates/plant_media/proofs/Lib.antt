@@ -1,4 +1,2 @@
-mod Cutting
-mod Shown
+mod Lifting
 mod Showing
-mod Taping

@@ -11,9 +11,9 @@ use Rattle.plant_core.specs.declared.record.Kind.TheVariants.{Block, Mark, Bad}
 use Rattle.plant_media.specs.Records.{record_of, records_of}
 use Rattle.plant_media.specs.Loaded.{tape_in, TapeFits}
 use Rattle.plant_media.specs.declared.tape.Tape.{Tape}
-use Rattle.plant_media.proofs.Cutting.{records_at, records_count, record_short, record_block, record_mark, record_other}
-use Rattle.plant_media.proofs.Shown.{loaded_damaged}
-use Rattle.plant_media.proofs.Taping.{read_whole, bytes_size}
+use Rattle.plant_media.specs.Cutting.{records_at, records_count, record_short, record_block, record_mark, record_other}
+use Rattle.plant_media.specs.Shown.{loaded_damaged}
+use Rattle.plant_media.specs.Taping.{read_whole, bytes_size}
 
 -- the first record, where there is one
 pub shows_first : (tape : List Record) (kind : Kind) (into : List ℕ) → ShowsAt tape 0 kind into → ShowsFirst tape (Some kind) into

@@ -1,54 +1,52 @@
 -- What a plant over a media shows, and in which states calls may be made.
-use Rattle.std.specs.Prelude.{◌≡◌, ◌≢◌, ℕ, ◌+◌, ◌-◌, ◌==◌, if◌then◌else◌, Bool, false, List, length, Option, Some, None, IfSome, IsTrue, Result, Ok, Err}
-use Rattle.crash_moments.specs.Moments.{Moments}
+use Rattle.std.specs.Prelude.{◌≡◌, ◌≢◌, ℕ, ◌+◌, ◌-◌, Bool, false, List, Option, Some, IfSome, IsTrue}
+use Rattle.crash_moments.specs.Moments.{Moments, mapped}
 use Rattle.media_core.specs.Media.{Image, IsFront}
-use Rattle.crash_log.specs.CrashLog.{file_of, limit_of, length_of, settled_of, damaged_of, log_bytes, FitsIts}
+use Rattle.crash_log.specs.CrashLog.{file_of, limit_of, length_of, settled_of, damaged_of, FitsIts}
 use Rattle.crash_log.specs.Fit.{IsStill}
 use Rattle.crash_log.specs.declared.log.CrashLog.{CrashLog}
-use Rattle.plant_core.specs.Records.{Record}
 use Rattle.plant_core.specs.Stock.{Stock}
-use Rattle.plant_media.specs.Stock.{tape_of}
-use Rattle.plant_media.specs.Loaded.{tape_in, TapeFits}
-use Rattle.plant_media.specs.declared.tape.Tape.{Tape}
+use Rattle.plant_media.specs.Stock.{stock_of}
+use Rattle.plant_media.specs.Loaded.{TapeFits}
+use Rattle.plant_media.specs.Slots.{slot_in, records_in, shown, settled_in, slots_here}
 use Rattle.plant_media.specs.declared.plant.MediaPlant.{MediaPlant}
 
-abbrev pub media_of : {D : Type 0} → MediaPlant D → D
-media_of plant = plant.media
+module _ {D : Type 0} where
+  abbrev pub media_of : MediaPlant D → D
+  media_of plant = plant.media
 
--- the slot that is loaded
-abbrev pub slot_in : Option Tape → Option ℕ
-slot_in None = None
-slot_in (Some tape) = Some tape.slot
+  -- what reads give, and what was told
+  abbrev pub seen_of : (D → Image) → MediaPlant D → Stock
+  seen_of seen plant = shown plant.journal plant.tape (seen plant.media)
 
--- how many records the loaded tape has; none is 0
-abbrev pub records_in : Option Tape → ℕ
-records_in None = 0
-records_in (Some tape) = tape.records
+  -- The moments are the media's. What a crash leaves is the stock of the files and the output that it leaves.
+  abbrev pub moments_of : Moments D Image → Moments (MediaPlant D) Stock
+  moments_of moments = mapped moments media_of stock_of
 
--- the tape in a slot: the loaded one as it is read, with what was put; any other one as its file stands
-abbrev pub tape_at : Option Tape → Image → ℕ → List Record
-tape_at None image k = tape_of (image.file (k + 1))
-tape_at (Some tape) image k = if k == tape.slot then tape_in tape image else tape_of (image.file (k + 1))
+  -- file 0 is no slot's
+  abbrev pub slots_of : (D → ℕ) → MediaPlant D → ℕ
+  slots_of count plant = count plant.media - 1
 
--- what reads give
-unfoldable pub shown : CrashLog → Option Tape → Image → Stock
-shown journal tape image = record {
-  log = log_bytes journal (image.file 0);
-  tape = tape_at tape image;
-  told = image.told;
-}
+  abbrev pub present_of : (D → ℕ → Bool) → MediaPlant D → ℕ → Bool
+  present_of present plant = slots_here (present plant.media)
 
--- how many records of each tape are settled: all of one that isn't loaded
-abbrev pub settled_at : Option Tape → Image → ℕ → ℕ
-settled_at None image k = length (tape_of (image.file (k + 1)))
-settled_at (Some tape) image k = if k == tape.slot then tape.settled else length (tape_of (image.file (k + 1)))
+  abbrev pub loaded_of : MediaPlant D → Option ℕ
+  loaded_of plant = slot_in plant.tape
 
-unfoldable pub settled_in : Option Tape → Image → ℕ → ℕ
-settled_in tape image = settled_at tape image
+  abbrev pub records_of_loaded : MediaPlant D → ℕ
+  records_of_loaded plant = records_in plant.tape
 
--- slot k is here where file k + 1 is
-unfoldable pub slots_here : (ℕ → Bool) → ℕ → Bool
-slots_here here k = here (k + 1)
+  abbrev pub tapes_settled_of : (D → Image) → MediaPlant D → ℕ → ℕ
+  tapes_settled_of seen plant = settled_in plant.tape (seen plant.media)
+
+  abbrev pub log_size_of : MediaPlant D → ℕ
+  log_size_of plant = length_of plant.journal
+
+  abbrev pub log_settled_of : MediaPlant D → ℕ
+  log_settled_of plant = settled_of plant.journal
+
+  abbrev pub loads_of : MediaPlant D → ℕ
+  loads_of plant = plant.loads
 
 -- The journal is the log of file 0. It isn't damaged.
 pub record JournalFits {D : Type 0} (tells : Type 0) (moments : Moments D Image) (seen : D → Image) (present : D → ℕ → Bool) (log : CrashLog) (media : D) : Type 0 where

@@ -2,7 +2,10 @@
 //! this the journal's state and the loaded tape's are kept, and no call takes memory.
 #![tactic(auto)]
 
+mod look;
+mod open;
 mod plant;
 mod tape;
 
+pub use open::{OpenFault, Unopened};
 pub use plant::MediaPlant;

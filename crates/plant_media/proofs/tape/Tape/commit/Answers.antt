@@ -3,8 +3,8 @@ use Rattle.crash_log.specs.CrashLog.{file_of, damaged_of, log_bytes}
 use Rattle.crash_log.specs.Fit.{IsStill}
 use Rattle.plant_media.specs.Loaded.{tape_in}
 use Rattle.plant_media.specs.declared.tape.Tape.{Tape}
-use Rattle.plant_media.proofs.Shown.{loaded_whole}
-use Rattle.plant_media.proofs.Taping.{at_file, or_turn, read_whole}
+use Rattle.plant_media.specs.Shown.{loaded_whole}
+use Rattle.plant_media.specs.Taping.{at_file, or_turn, read_whole}
 use Rattle.plant_media.specs.Stock.{TapeOr}
 use Rattle.plant_media.proofs.tape.Tape.commit.Goals as goal
 

@@ -5,8 +5,8 @@ use Rattle.crash_log.specs.Fit.{IsStill}
 use Rattle.plant_media.specs.Stock.{TapeOr}
 use Rattle.plant_media.specs.Loaded.{tape_in}
 use Rattle.plant_media.specs.declared.tape.Tape.{Tape}
-use Rattle.plant_media.proofs.Shown.{loaded_whole}
-use Rattle.plant_media.proofs.Taping.{at_file, or_turn, cut_tape, cut_none}
+use Rattle.plant_media.specs.Shown.{loaded_whole}
+use Rattle.plant_media.specs.Taping.{at_file, or_turn, cut_tape, cut_none}
 use Rattle.plant_media.proofs.tape.Tape.cut.Goals as goal
 
 pub returns-in_err-cut-clause-crash : goal.returns-in_err-cut-clause-crash

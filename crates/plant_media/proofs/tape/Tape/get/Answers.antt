@@ -2,7 +2,7 @@ use Rattle.std.proofs.Common.{◌≡◌, ◌≢◌, ℕ, ◌+◌, ◌*◌, ◌<�
 use Rattle.media_core.specs.Media.{Image}
 use Rattle.crash_log.specs.CrashLog.{file_of, length_of, damaged_of, log_bytes}
 use Rattle.plant_media.proofs.Showing.{shows_damaged, shows_short, shows_block, shows_mark, shows_other}
-use Rattle.plant_media.proofs.Shown.{either}
+use Rattle.plant_media.specs.Shown.{either}
 use Rattle.plant_media.proofs.tape.Tape.get.Goals as goal
 use Rattle.plant_media.proofs.tape.Tape.get.Goals.{then-damaged-via-then-damaged, then-damaged-via-else-damaged+then-len-at}
 

@@ -2,9 +2,9 @@ use Rattle.std.proofs.Common.{◌≡◌, ℕ, ◌+◌, Bool, true, false, IsTrue
 use Rattle.crash_log.proofs.Fitting.{bytes_long, damaged_empty}
 use Rattle.crash_log.specs.CrashLog.{damaged_of, log_bytes}
 use Rattle.plant_media.specs.Records.{count_of}
-use Rattle.plant_media.proofs.Cutting.{records_count, count_low}
-use Rattle.plant_media.proofs.Shown.{loaded_damaged, loaded_whole, loaded_is}
-use Rattle.plant_media.proofs.Taping.{still_same}
+use Rattle.plant_media.specs.Cutting.{records_count, count_low}
+use Rattle.plant_media.specs.Shown.{loaded_damaged, loaded_whole, loaded_is}
+use Rattle.plant_media.specs.Taping.{still_same}
 use Rattle.plant_media.specs.declared.tape.Tape.{Tape}
 use Rattle.plant_media.proofs.tape.Tape.open.Goals as goal
 

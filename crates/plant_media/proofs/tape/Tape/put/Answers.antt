@@ -1,7 +1,7 @@
 use Rattle.std.proofs.Common.{◌≡◌, ◌++◌, [], ◌∷◌, length, List, ◌∙◌, ap, refl, arith}
 use Rattle.plant_core.specs.Records.{Record}
 use Rattle.plant_media.specs.Loaded.{tape_in}
-use Rattle.plant_media.proofs.Cutting.{record_block}
+use Rattle.plant_media.specs.Cutting.{record_block}
 use Rattle.plant_media.proofs.tape.Tape.put.Goals as goal
 
 pub returns-clause-tape : goal.returns-clause-tape

@@ -5,9 +5,9 @@ use Rattle.plant_media.specs.Records.{records_of, record_of}
 use Rattle.plant_media.specs.Stock.{SameTape}
 use Rattle.plant_media.specs.Loaded.{tape_in}
 use Rattle.plant_media.specs.declared.tape.Tape.{Tape}
-use Rattle.plant_media.proofs.Cutting.{records_more}
-use Rattle.plant_media.proofs.Shown.{loaded_whole}
-use Rattle.plant_media.proofs.Taping.{at_file, same_put, tape_twice, not_damaged, whole_bytes, put_tape}
+use Rattle.plant_media.specs.Cutting.{records_more}
+use Rattle.plant_media.specs.Shown.{loaded_whole}
+use Rattle.plant_media.specs.Taping.{at_file, same_put, tape_twice, not_damaged, whole_bytes, put_tape}
 use Rattle.plant_media.proofs.tape.Tape.put_record.Goals as goal
 
 pub returns-in_err-append-clause-crash : goal.returns-in_err-append-clause-crash

@@ -1,4 +1,4 @@
-use Rattle.plant_media.proofs.Taping.{put_whole}
+use Rattle.plant_media.specs.Taping.{put_whole}
 use Rattle.plant_media.proofs.tape.Tape.settle.Goals as goal
 
 pub commit-requires-clause-whole : goal.commit-requires-clause-whole

@@ -15,8 +15,8 @@ use Rattle.plant_media.specs.Records.{record_of, records_of}
 use Rattle.plant_media.specs.Stock.{tape_of, SameTape, TapeOr}
 use Rattle.plant_media.specs.Loaded.{tape_in, TapeFits}
 use Rattle.plant_media.specs.declared.tape.Tape.{Tape}
-use Rattle.plant_media.proofs.Cutting.{records_take, records_none, records_more, whole_length}
-use Rattle.plant_media.proofs.Shown.{either, tape_damaged, tape_whole, loaded_damaged, loaded_whole, bad_is_bad}
+use Rattle.plant_media.specs.Cutting.{records_take, records_none, records_more, whole_length}
+use Rattle.plant_media.specs.Shown.{either, tape_damaged, tape_whole, loaded_damaged, loaded_whole, bad_is_bad}
 
 -- the same of a file by another name of it
 pub at_file : {D : Type 0} (moments : Moments D Image) (f g : ℕ) (R : List ℕ → List ℕ → Type 0) (old new : D) → f ≡ g → Leads moments old new (AtFile f R) → Leads moments old new (AtFile g R)
