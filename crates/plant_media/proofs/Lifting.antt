@@ -65,7 +65,7 @@ fronts_kept moments old new taken piece told is fronts leads c left =
     (λ more. subst (λ (l : List ℕ). IsFront l (taken ++ piece)) (sym more.1.1) (front_behind taken (take more.1.0 piece) piece (more.1.0, refl)))
     step.step.told)
 
-not_zero : (k : ℕ) → k + 1 ≢ 0
+pub not_zero : (k : ℕ) → k + 1 ≢ 0
 not_zero k is = absurd (omega (arith, is))
 
 module _ {D : Type 0} (moments : Moments D Image) (old new : MediaPlant D) where
