@@ -52,6 +52,10 @@ settled_front log file = span_front log.state.start (log.state.size + log.state.
 pub settled_within : (log : CrashLog) → settled_of log ≤ length_of log
 settled_within log = omega arith
 
+-- a damaged log is empty
+pub damaged_empty : (log : CrashLog) → damaged_of log ≡ true → length_of log ≡ 0
+damaged_empty log damaged = log.bounded.none damaged
+
 module _ {D : Type 0} (moments : Moments D Image) (seen : D → Image) (log : CrashLog) (media : D) (fits : FitsIts moments seen log media) where
   -- each image has the settled log
   pub log_left : (c : Image) → moments.may_leave media c → log_of (c.file (file_of log)) ≡ settled_log log ((seen media).file (file_of log))

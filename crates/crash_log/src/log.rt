@@ -71,7 +71,8 @@ impl CrashLog {
 
     /// Whether the file had 8,192 bytes or more and no good slot, and wasn't formatted since. The log is then empty.
     pub fn damaged(&self) -> bool
-        ensures { result ≡ damaged_of self.now }
+        ensures damaged { result ≡ damaged_of self.now }
+        ensures empty { IsTrue result → length_of self.now ≡ 0 }
     {
         match self.state.needs {
             Needs::Damaged(_, _) => true,
