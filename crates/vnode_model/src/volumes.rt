@@ -72,8 +72,8 @@ impl Volume {
         }
     }
 
-    /// The volume of these fields.
-    pub(crate) fn from_fields(fields: VolumeFields) -> Self
+    /// The volume of these fields. `new` tests them.
+    pub fn from_fields(fields: VolumeFields) -> Self
         requires { AreVolume fields.vnodes }
         ensures { result ≡ fields }
     {
