@@ -4,7 +4,8 @@ use Rattle.std.proofs.lemmas.List.{take-append-drop, take_rest, length-drop, dro
 use Rattle.std.proofs.lemmas.List.Concat.{flat_map-append}
 use Rattle.std.specs.List.{flat_map}
 use Rattle.std.proofs.Math.Seq.{take-add}
-use Rattle.media_core.specs.Media.{Image, ToldPart}
+use Rattle.crash_moments.specs.Telling.{ToldPart}
+use Rattle.media_core.specs.Media.{Image}
 use Rattle.backup_cli.specs.Tells.{ToldFront, OnlyTells}
 
 -- what is behind a place, as the code slices it

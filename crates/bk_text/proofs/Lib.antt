@@ -1,3 +1,5 @@
+mod BlankLaws
+pub mod DigitLaws
 pub mod Fails
 pub mod LevelLaws
 pub mod LevelParts

@@ -1,6 +1,8 @@
 pub mod Places
 pub mod Alphabets
 pub mod Bases
+pub mod Blanks
+pub mod Digits
 pub mod LevelPaths
 pub mod Fields
 pub mod Parses

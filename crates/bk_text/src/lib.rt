@@ -1,8 +1,10 @@
-//! Texts and number fields of the backup service: names with their forms, a reader and a writer of big-endian fields,
-//! and a list that contracts see as a list.
+//! Texts and number fields of the backup service: names with their forms, words and numbers in texts, a reader and a
+//! writer of big-endian fields, and a list that contracts see as a list.
 #![tactic(auto)]
 
+mod blanks;
 mod cursor;
+mod digits;
 mod expiry;
 mod host;
 mod level_path;
@@ -15,7 +17,9 @@ mod tape_name;
 mod texts;
 mod words;
 
+pub use blanks::{place_of, split_word};
 pub use cursor::{Cursor, Short};
+pub use digits::{capped_number, digits_in};
 pub use expiry::Expiry;
 pub use host::Host;
 pub use level_path::LevelPath;

@@ -2,6 +2,7 @@
 
 use crate::{
     Bytes, Cursor, Expiry, Host, List, Name, Out, Part, SetName, Short, TapeName, TextFault,
+    capped_number, digits_in, place_of, split_word,
 };
 use std::alloc::{AllocError, Global};
 use std::test::Fail;
@@ -166,4 +167,20 @@ fn fields_are_big_endian(rt: HostRuntime) -> Result<(), Fail> {
     assert_eq!(rt; numbers(bytes.as_slice()), Ok(want));
     assert_eq!(rt; numbers(b"abc"), Err(Short { at: 3 }));
     Ok(())
+}
+
+fn second_word(text: &[u8]) -> Option<&[u8]> {
+    let (_, rest) = split_word(text)?;
+    let (word, _) = split_word(rest)?;
+    Some(word)
+}
+
+#[test]
+fn words_and_numbers_of_a_text(rt: HostRuntime) {
+    assert_eq!(rt; second_word(b" at\t 12/31 x"), Some(b"12/31".as_slice()));
+    assert_eq!(rt; second_word(b"at \t"), None);
+    assert_eq!(rt; place_of(b'/', b"12/31"), 2);
+    assert_eq!(rt; digits_in(b"0012", 1, 4), Some(12));
+    assert_eq!(rt; digits_in(b"12345", 1, 4), None);
+    assert_eq!(rt; capped_number(b"99999999999"), Some(10_000_000_000));
 }

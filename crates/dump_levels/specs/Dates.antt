@@ -4,7 +4,8 @@ use Rattle.std.specs.List.{before_first, after_first}
 use Rattle.dump_levels.specs.declared.calendar.Day.{Day}
 use Rattle.dump_levels.specs.declared.dates.DateFault.{DateFault}
 use Rattle.dump_levels.specs.declared.dates.DateFault.TheVariants.{BadDate, DateOutOfRange}
-use Rattle.dump_levels.specs.Words.{words_of, digits_of}
+use Rattle.bk_text.specs.Blanks.{words_of}
+use Rattle.bk_text.specs.Digits.{digits_of}
 use Rattle.dump_levels.specs.Calendar.{is_day, second_of}
 
 abbrev pub is_slash : ℕ → Bool

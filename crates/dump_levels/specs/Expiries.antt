@@ -1,17 +1,13 @@
 -- Expirations as they are written in words.
-use Rattle.std.specs.Prelude.{ℕ, ◌+◌, ◌-◌, List, [], ◌∷◌, length, take, map, slice_index, Bool, ◌&&◌, ◌||◌, ◌==◌, nat_eq, nat_lt, is_some, if◌then◌else◌, Option, Some, None, Result, Ok, Err}
-use Rattle.std.specs.Cmp.Lexicographic.{pointwise}
+use Rattle.std.specs.Prelude.{ℕ, ◌+◌, ◌-◌, List, [], ◌∷◌, length, take, slice_index, Bool, ◌&&◌, ◌||◌, ◌==◌, nat_lt, is_some, if◌then◌else◌, Option, Some, None, Result, Ok, Err}
 use Rattle.std.specs.Char.{to_ascii_lowercase}
 use Rattle.bk_text.specs.declared.expiry.Expiry.{Expiry}
 use Rattle.bk_text.specs.declared.expiry.Expiry.TheVariants.{Never, At, In}
 use Rattle.dump_levels.specs.declared.dates.DateFault.{DateFault}
 use Rattle.dump_levels.specs.declared.dates.DateFault.TheVariants.{BadDate}
-use Rattle.dump_levels.specs.Words.{words_of, digits_of}
+use Rattle.bk_text.specs.Blanks.{words_of, is_same_word}
+use Rattle.bk_text.specs.Digits.{digits_of}
 use Rattle.dump_levels.specs.Dates.{day_of, date_says}
-
--- a word in either case
-abbrev pub is_same_word : List ℕ → List ℕ → Bool
-is_same_word word known = pointwise nat_eq (map to_ascii_lowercase word) known
 
 -- "at", "in" and "never"
 abbrev pub at_word : List ℕ

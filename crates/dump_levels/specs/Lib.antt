@@ -1,6 +1,5 @@
 pub mod Elements
 pub mod Trees
-pub mod Words
 pub mod Calendar
 pub mod Dates
 pub mod Expiries

@@ -2,13 +2,13 @@
 
 ghost use Rattle.std.specs.Prelude.{◌≡◌, ◌<◌, ◌≤◌, ◌==◌, ℕ, Ok, IfSome, IfOk, IsTrue};
 ghost use Rattle.std.specs.List.{before_first, after_first};
-ghost use Rattle.dump_levels.specs.Words.{words_of, digits_of};
+ghost use Rattle.bk_text.specs.Blanks.{words_of};
+ghost use Rattle.bk_text.specs.Digits.{digits_of};
 ghost use Rattle.dump_levels.specs.Calendar.{is_day};
 ghost use Rattle.dump_levels.specs.Dates.{is_slash, is_colon, real_day, day_of, real_minutes, minutes_of, time_says, moment_of, date_says, date_of};
 
 use crate::calendar::{Day, exists, second_at};
-use crate::numbers::digits_in;
-use crate::words::{place_of, split_word};
+use bk_text::{digits_in, place_of, split_word};
 
 /// Why a date or an expiration was refused.
 #[derive(Clone, Copy, Debug, PartialEq, Eq)]

@@ -1,13 +1,11 @@
 //! Expirations as they are written in words.
 
 ghost use Rattle.std.specs.Prelude.{◌≡◌, ◌<◌};
-ghost use Rattle.dump_levels.specs.Words.{words_of};
-ghost use Rattle.dump_levels.specs.Expiries.{is_same_word, at_word, in_word, never_word, amount_of, days_say, months_say, span_says, never_says, moment_says, begins_moment, expiry_of};
+ghost use Rattle.bk_text.specs.Blanks.{words_of, is_same_word};
+ghost use Rattle.dump_levels.specs.Expiries.{at_word, in_word, never_word, amount_of, days_say, months_say, span_says, never_says, moment_says, begins_moment, expiry_of};
 
 use crate::dates::{DateFault, date_in, day_in};
-use crate::numbers::digits_in;
-use crate::words::split_word;
-use bk_text::Expiry;
+use bk_text::{Expiry, digits_in, split_word};
 
 fn is_at(word: &[u8]) -> bool
     ensures { result ≡ is_same_word word.now at_word }

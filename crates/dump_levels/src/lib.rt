@@ -6,8 +6,6 @@ mod calendar;
 mod dates;
 mod expiries;
 mod levels;
-mod numbers;
-mod words;
 
 pub use dates::{DateFault, parse_date};
 pub use expiries::parse_expiry;

@@ -1,7 +1,8 @@
 // Numbered files and one output.
 ghost use Rattle.std.specs.Prelude.{◌≡◌, ◌+◌, ◌^◌, ◌<◌, ◌≤◌, ◌++◌, List, ℕ, length, take, drop, IfOk, OnOk, OnErr, IsTrue, Bool};
 ghost use Rattle.crash_moments.specs.Moments.{Moments, Leads, HasCause};
-ghost use Rattle.media_core.specs.Media.{Image, Holds, Torn, AtFile, Same, Tells, ToldPart, in_progress};
+ghost use Rattle.crash_moments.specs.Telling.{ToldPart, in_progress};
+ghost use Rattle.media_core.specs.Media.{Image, Holds, Torn, AtFile, Same, Tells};
 
 use std::alloc::AllocError;
 

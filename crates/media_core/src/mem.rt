@@ -1,7 +1,8 @@
 // Files and an output in memory.
 ghost use Rattle.std.specs.Prelude.{◌≡◌, ◌+◌, ◌<◌, ◌≤◌, ◌^◌, [], ◌∷◌, ℕ, List, length, take, drop, IfOk, OnOk, OnErr, IsTrue, ◌++◌, vec_len, true, false, not, ◌↔◌, min, ◌-◌, ◌≢◌};
 ghost use Rattle.crash_moments.specs.Moments.{Leads, HasCause};
-ghost use Rattle.media_core.specs.Media.{Image, Holds, Torn, AtFile, Same, Tells, ToldPart, in_progress, taken_by, nothing};
+ghost use Rattle.crash_moments.specs.Telling.{ToldPart, in_progress};
+ghost use Rattle.media_core.specs.Media.{Image, Holds, Torn, AtFile, Same, Tells, taken_by, nothing};
 ghost use Rattle.media_core.specs.Events.{file_bytes, is_here, seen_after, IsLeft, LeftAfter, PickedAfter, Gains, TellsMore};
 ghost use Rattle.media_core.specs.Emptied.{NoJournal};
 ghost use Rattle.media_core.specs.Plan.{GainsCall, SamePlan, IsUnplanned, stopped_at};

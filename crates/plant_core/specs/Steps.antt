@@ -1,6 +1,7 @@
 -- What the calls of a plant do to a stock, and what a crash on the way may leave of it. Each step has its frame: the parts
 -- that it doesn't touch are as before.
-use Rattle.std.specs.Prelude.{◌≡◌, ◌≢◌, ◌⊎◌, ℕ, ◌<◌, ◌≤◌, List, [], ◌∷◌, ◌++◌, length, take, Option, Some, Result, Ok, Err}
+use Rattle.std.specs.Prelude.{◌≡◌, ◌≢◌, ◌⊎◌, ℕ, ◌<◌, ◌≤◌, List, [], ◌∷◌, ◌++◌, length, take, Option, Some}
+use Rattle.crash_moments.specs.Telling.{IsFront, Extends}
 use Rattle.plant_core.specs.Records.{Record, bad}
 use Rattle.plant_core.specs.Stock.{Stock}
 
@@ -59,26 +60,9 @@ pub record MaySettle (loaded : Option ℕ) (slot : ℕ) (settled : ℕ → ℕ) 
   pub log : new.log ≡ old.log
   pub told : new.told ≡ old.told
 
--- a front of a list
-abbrev pub IsFront : List ℕ → List ℕ → Type 0
-IsFront front whole = (n : ℕ) × (front ≡ take n whole)
-
--- a list with more behind it
-abbrev pub Extends : List ℕ → List ℕ → Type 0
-Extends old new = (more : List ℕ) × (new ≡ old ++ more)
-
 -- the output grows to a front of this, and nothing else changes
 pub record TellsTo (whole : List ℕ) (old new : Stock) : Type 0 where
   pub front : IsFront new.told whole
   pub grows : Extends old.told new.told
   pub tapes : (k : ℕ) → new.tape k ≡ old.tape k
   pub log : new.log ≡ old.log
-
--- a front of a piece more was told
-abbrev pub ToldPart : List ℕ → List ℕ → List ℕ → Type 0
-ToldPart piece old new = (n : ℕ) × (new ≡ old ++ take n piece)
-
--- what of a piece was in progress: what was taken of it, or all of it where the call failed
-abbrev pub in_progress : {E : Type 0} → Result ℕ E → List ℕ → List ℕ
-in_progress (Ok n) piece = take n piece
-in_progress (Err e) piece = piece

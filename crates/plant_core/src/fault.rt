@@ -1,6 +1,11 @@
 // How the calls of a plant fail.
 ghost use Rattle.std.specs.Prelude.{◌≡◌};
 
+use std::alloc::AllocError;
+
+/// Want of memory, where it is the only error.
+pub type Memory = AllocError;
+
 /// A call was refused by the outside. Its cause is a count of faults that rose.
 #[derive(Clone, Copy, Debug, PartialEq, Eq, Drop)]
 pub struct Failed;

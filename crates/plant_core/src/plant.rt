@@ -1,9 +1,10 @@
 // A log, tapes and an output.
 ghost use Rattle.std.specs.Prelude.{◌≡◌, ◌≢◌, ◌↔◌, ◌+◌, ◌^◌, ◌<◌, ◌≤◌, ◌++◌, List, ℕ, length, take, drop, Option, Some, Err, IfOk, OnOk, OnErr, IsSome, IsTrue, Bool};
 ghost use Rattle.crash_moments.specs.Moments.{Moments, Leads, HasCause, Rose};
+ghost use Rattle.crash_moments.specs.Telling.{IsFront, ToldPart, in_progress};
 ghost use Rattle.plant_core.specs.Counts.{loads_after, SettledAt, SettledAway};
 ghost use Rattle.plant_core.specs.Records.{NoBad, ShowsAt, ShowsFirst, block_with, mark};
-ghost use Rattle.plant_core.specs.Steps.{Same, AtLog, OldOr, AtTape, Gains, MayGain, Keeps, MayKeep, MaySettle, IsTorn, IsFront, TellsTo, ToldPart, in_progress};
+ghost use Rattle.plant_core.specs.Steps.{Same, AtLog, OldOr, AtTape, Gains, MayGain, Keeps, MayKeep, MaySettle, IsTorn, TellsTo};
 ghost use Rattle.plant_core.specs.Stock.{Stock, slot_of, settled_part};
 
 use crate::fault::{Failed, PutFault};

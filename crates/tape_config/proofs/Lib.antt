@@ -1,4 +1,2 @@
-pub mod WordLaws
-pub mod NumberLaws
 pub mod ConfigLaws
 pub mod PortLaws

@@ -12,8 +12,10 @@ use Rattle.tape_config.specs.declared.port.Port.{Port}
 use Rattle.tape_config.specs.declared.config.ConfigFault.{ConfigFault}
 use Rattle.tape_config.specs.declared.config.ConfigFault.TheVariants.{BadLine, PortTwice, SlotTwice}
 use Rattle.std.specs.Str.Lines.{lines}
-use Rattle.tape_config.specs.Numbers.{number_of, count_of, up_to, has_plain_front, plain_of, unit_of, reduced, sized, size_of, capacity_of}
-use Rattle.tape_config.specs.Words.{words_of, in_order, slots_of, slots_word, switch_of, is_same_word, name_check_word, is_dash}
+use Rattle.bk_text.specs.Digits.{number_of}
+use Rattle.bk_text.specs.Blanks.{words_of, is_same_word}
+use Rattle.tape_config.specs.Numbers.{count_of, up_to, has_plain_front, plain_of, unit_of, reduced, sized, size_of, capacity_of}
+use Rattle.tape_config.specs.Words.{in_order, slots_of, slots_word, switch_of, name_check_word, is_dash}
 use Rattle.tape_config.specs.Lines.{offset_of, device_line, check_line, words_say, line_says}
 use Rattle.tape_config.specs.Configs.{has_port, has_slot, next_device, next_line, next_number, lines_say, device_if, device_at, or_else, port_with}
 use Rattle.tape_config.specs.Ports.{IsConfig, IsWithinLimits, AreApart}

@@ -3,7 +3,8 @@ use Rattle.std.specs.Prelude.{ℕ, List, [], ◌∷◌, Bool, ◌==◌, slice_in
 use Rattle.tape_config.specs.declared.line.Line.{Line}
 use Rattle.tape_config.specs.declared.line.Line.TheVariants.{Skipped, Device, NameCheck}
 use Rattle.tape_config.specs.Numbers.{plain_of, size_of, capacity_of}
-use Rattle.tape_config.specs.Words.{words_of, slots_of, switch_of, is_same_word, name_check_word}
+use Rattle.bk_text.specs.Blanks.{words_of, is_same_word}
+use Rattle.tape_config.specs.Words.{slots_of, switch_of, name_check_word}
 
 -- a port offset: 0 to 58510
 abbrev pub offset_of : List ℕ → Option ℕ

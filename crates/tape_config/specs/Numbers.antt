@@ -1,15 +1,10 @@
 -- The numbers of a configuration.
 use Rattle.std.specs.Prelude.{ℕ, ◌-◌, ◌*◌, List, length, take, slice_index, Bool, not, ◌&&◌, ◌||◌, ◌==◌, nat_lt, nat_le, min, if◌then◌else◌, Option, Some, None}
-use Rattle.std.specs.Str.{all_ascii_digits}
-use Rattle.std.specs.Str.Parse.{digits_value}
-
--- the number that a word of digits writes
-abbrev pub number_of : List ℕ → Option ℕ
-number_of word = if all_ascii_digits word then Some (digits_value 10 word) else None
+use Rattle.bk_text.specs.Digits.{number_of, digits_of}
 
 -- one to nine digits
 abbrev pub count_of : List ℕ → Option ℕ
-count_of word = if nat_lt 0 (length word) && nat_lt (length word) 10 then number_of word else None
+count_of word = digits_of 1 9 word
 
 -- a number up to a limit
 abbrev pub up_to : ℕ → Option ℕ → Option ℕ

@@ -1,21 +1,8 @@
 -- The words of a configuration line.
-use Rattle.std.specs.Prelude.{ℕ, List, [], ◌∷◌, length, drop, map, Bool, ◌||◌, ◌==◌, nat_eq, nat_lt, nat_le, if◌then◌else◌, Option, Some, None, true, false}
-use Rattle.std.specs.List.{filter, slice_split, starts_with, before_first, after_first}
-use Rattle.std.specs.Cmp.Lexicographic.{pointwise}
-use Rattle.std.specs.Char.{to_ascii_lowercase}
+use Rattle.std.specs.Prelude.{ℕ, List, [], ◌∷◌, drop, Bool, ◌==◌, nat_eq, nat_le, if◌then◌else◌, Option, Some, None, true, false}
+use Rattle.std.specs.List.{starts_with, before_first, after_first}
+use Rattle.bk_text.specs.Blanks.{is_same_word}
 use Rattle.tape_config.specs.Numbers.{plain_of}
-
--- a space or a tab
-abbrev pub is_blank : ℕ → Bool
-is_blank b = (b == 32) || (b == 9)
-
--- the words of a line: the pieces between spaces and tabs that have a byte
-abbrev pub words_of : List ℕ → List (List ℕ)
-words_of line = filter (λ word. nat_lt 0 (length word)) (slice_split is_blank line)
-
--- a word in either case
-abbrev pub is_same_word : List ℕ → List ℕ → Bool
-is_same_word word known = pointwise nat_eq (map to_ascii_lowercase word) known
 
 -- "name_check", "yes" and "no"
 abbrev pub name_check_word : List ℕ

@@ -2,10 +2,12 @@
 
 ghost use Rattle.std.specs.Prelude.{◌≡◌, if◌then◌else◌};
 ghost use Rattle.tape_config.specs.Lines.{offset_of, device_line, check_line, line_says, words_say};
-ghost use Rattle.tape_config.specs.Words.{words_of, slots_of, switch_of, is_same_word, name_check_word};
+ghost use Rattle.bk_text.specs.Blanks.{words_of, is_same_word};
+ghost use Rattle.tape_config.specs.Words.{slots_of, switch_of, name_check_word};
 
 use crate::numbers::{plain_in, size_in};
-use crate::words::{is_name_check, slots_in, split_word, switch_in};
+use crate::words::{is_name_check, slots_in, switch_in};
+use bk_text::split_word;
 
 /// A device line: the slots of a port, and what its tapes hold. The form of the device, `slots:a-b`, is this project's
 /// own; the rest is of the OpenAFS Administration Reference, at `tapeconfig`.

@@ -1,42 +1,20 @@
 //! The numbers of a configuration.
 
-ghost use Rattle.std.specs.Prelude.{◌≡◌, ◌<◌, ◌≤◌, IfSome, MatchOption, length, min, true, false};
-ghost use Rattle.std.specs.Str.{all_ascii_digits};
-ghost use Rattle.std.specs.Str.Parse.{digits_value};
+ghost use Rattle.std.specs.Prelude.{◌≡◌, ◌<◌, ◌≤◌, IfSome};
 ghost use Rattle.tape_config.specs.Numbers.{count_of, plain_of, unit_of, size_of};
 
-/// More than any number that is asked for.
-const CAP: u64 = 1_000_000_000;
+use bk_text::{capped_number, digits_in};
 
 /// What either size of a tape is reduced to.
 const MOST: u64 = 4_000_000_000;
-
-/// The number that digits write, or the cap where it is more.
-fn capped_number(word: &[u8]) -> Option<u64>
-    ensures { MatchOption
-        result
-        (all_ascii_digits word.now ≡ false)
-        (λ n. (all_ascii_digits word.now ≡ true) × (n ≡ min (digits_value 10 word.now) 1000000000)) }
-{
-    let mut number = 0;
-    for byte in word {
-        if !byte.is_ascii_digit() {
-            return None;
-        }
-        number = CAP.min(number * 10 + (*byte - b'0') as u64);
-    }
-    Some(number)
-}
 
 /// A number of one to nine digits.
 fn count_in(word: &[u8]) -> Option<u64>
     ensures is { result ≡ count_of word.now }
     ensures within { IfSome result (λ n. n < 1000000000) }
 {
-    if word.is_empty() || word.len() > 9 {
-        return None;
-    }
-    capped_number(word)
+    let number = digits_in(word, 1, 9)?;
+    Some(number as u64)
 }
 
 /// A number up to a limit, without leading zeros.

@@ -1,6 +1,6 @@
 use Rattle.std.proofs.Common.{◌∙◌, ap}
 use Rattle.std.specs.List.{before_first, after_first}
-use Rattle.dump_levels.specs.Words.{digits_of}
+use Rattle.bk_text.specs.Digits.{digits_of}
 use Rattle.dump_levels.specs.Dates.{is_slash}
 use Rattle.dump_levels.proofs.DateLaws.{same_parts}
 use Rattle.dump_levels.proofs.dates.day_in.Goals as goal

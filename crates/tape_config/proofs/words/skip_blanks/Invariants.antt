@@ -1,6 +1,0 @@
-use Rattle.std.proofs.Common.{◌≡◌, drop}
-use Rattle.tape_config.specs.Words.{words_of}
-use Rattle.tape_config.proofs.words.skip_blanks.Given as goal
-
-abbrev pub invariant-loop-at : goal.invariant-loop-at
-invariant-loop-at l = words_of (drop l.at l.line) ≡ words_of l.line
