@@ -4,7 +4,8 @@ use Rattle.std.proofs.lemmas.Bool.{cases_eq}
 use Rattle.crash_moments.specs.Moments.{Moments, Leads}
 use Rattle.crash_moments.proofs.Joining.{joined}
 use Rattle.media_core.specs.Media as media
-use Rattle.media_core.specs.Media.{Image, AtFile, Tells, IsFront}
+use Rattle.media_core.specs.Media.{Image, AtFile, Tells}
+use Rattle.crash_moments.specs.Telling.{IsFront}
 use Rattle.crash_log.specs.Log.{Any, HasLog, HasOneOf}
 use Rattle.crash_log.specs.CrashLog.{file_of, log_bytes, settled_log, FitsIts, IsNow}
 use Rattle.crash_log.specs.declared.log.CrashLog.{CrashLog}

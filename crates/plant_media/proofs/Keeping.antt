@@ -1,7 +1,8 @@
 -- Calls on the media keep a plant sound.
 use Rattle.std.proofs.Common.{◌≡◌, ◌≢◌, inl, inr, ℕ, ◌+◌, Bool, List, length, Option, Some, None, IfSome, IsTrue, sym, ◌∙◌, ap, subst, arith}
 use Rattle.crash_moments.specs.Moments.{Moments, Leads}
-use Rattle.media_core.specs.Media.{Image, AtFile, IsFront}
+use Rattle.media_core.specs.Media.{Image, AtFile}
+use Rattle.crash_moments.specs.Telling.{IsFront}
 use Rattle.crash_log.specs.Log.{Any}
 use Rattle.crash_log.specs.Fit.{IsStill}
 use Rattle.crash_log.specs.CrashLog.{damaged_of, log_bytes}

@@ -7,7 +7,8 @@ use Rattle.std.proofs.Math.Seq.{take-append-add}
 use Rattle.crash_moments.specs.Moments.{Moments, Leads}
 use Rattle.crash_moments.proofs.Joining.{mapped_leads, weakened}
 use Rattle.media_core.specs.Media as media
-use Rattle.media_core.specs.Media.{Image, AtFile, Tells, IsFront}
+use Rattle.media_core.specs.Media.{Image, AtFile, Tells}
+use Rattle.crash_moments.specs.Telling.{IsFront}
 use Rattle.crash_log.specs.Log.{HasLog, HasOneOf}
 use Rattle.crash_log.specs.CrashLog.{file_of, damaged_of, settled_log, FitsIts}
 use Rattle.crash_log.specs.declared.log.CrashLog.{CrashLog}

@@ -1,7 +1,8 @@
 -- The laws of a plant, of one over a media.
 use Rattle.std.proofs.Common.{◌≡◌, ◌≢◌, inl, inr, ℕ, ◌+◌, ◌-◌, ◌<◌, ◌≤◌, Bool, List, length, take, Some, IsTrue, sym, ◌∙◌, ap, subst, arith}
 use Rattle.crash_moments.specs.Moments.{Moments}
-use Rattle.media_core.specs.Media.{Image, IsFront}
+use Rattle.media_core.specs.Media.{Image}
+use Rattle.crash_moments.specs.Telling.{IsFront}
 use Rattle.crash_log.specs.CrashLog.{file_of, log_bytes, settled_of}
 use Rattle.crash_log.proofs.Fitting.{settled_front, settled_within, log_left, whole_left, bytes_long}
 use Rattle.plant_core.specs.Steps.{IsTorn}
