@@ -1,22 +1,21 @@
 -- What the calls of a plant do, by those of the journal, of the loaded tape and of the media.
-use Rattle.std.proofs.Common.{◌≡◌, ◌≢◌, ◌⊎◌, inl, inr, ⊎_elim, ℕ, ◌+◌, ◌<◌, ◌≤◌, Bool, true, false, List, [], ◌∷◌, ◌++◌, length, take, drop, Option, Some, None, IfSome, IsTrue, refl, sym, ◌∙◌, ap, subst, arith}
+use Rattle.std.proofs.Common.{◌≡◌, ◌≢◌, inl, inr, ℕ, ◌+◌, Bool, true, false, List, ◌++◌, length, Option, Some, IfSome, IsTrue, refl, sym, ◌∙◌, ap, subst}
 use Rattle.std.proofs.lemmas.Bool.{cases_eq}
 use Rattle.crash_moments.specs.Moments.{Moments, Leads}
 use Rattle.crash_moments.proofs.Joining.{joined}
 use Rattle.media_core.specs.Media as media
-use Rattle.media_core.specs.Media.{Image, AtFile, Tells, IsFront}
+use Rattle.media_core.specs.Media.{Image, AtFile, Tells}
+use Rattle.crash_moments.specs.Telling.{IsFront}
 use Rattle.crash_log.specs.Log.{Any, HasLog, HasOneOf}
-use Rattle.crash_log.specs.Fit.{IsStill}
-use Rattle.crash_log.specs.CrashLog.{file_of, damaged_of, log_bytes, settled_log, FitsIts, IsNow}
+use Rattle.crash_log.specs.CrashLog.{file_of, log_bytes, settled_log, FitsIts, IsNow}
 use Rattle.crash_log.specs.declared.log.CrashLog.{CrashLog}
-use Rattle.plant_core.specs.Records.{Record, NoBad}
-use Rattle.plant_core.specs.Steps.{Same, AtLog, OldOr, AtTape, MaySettle, TellsTo}
+use Rattle.plant_core.specs.Steps.{Same, AtLog, OldOr, MaySettle}
 use Rattle.plant_core.specs.Stock.{Stock, slot_of}
 use Rattle.plant_media.specs.Stock.{tape_of, SameJournal, JournalOr}
 use Rattle.plant_media.specs.Loaded.{tape_in, TapeFits}
 use Rattle.plant_media.specs.Slots.{slot_in, tape_at, shown, settled_in, slots_here}
-use Rattle.plant_media.specs.State.{seen_of, moments_of, loaded_of, tapes_settled_of, JournalFits, IsSound}
-use Rattle.plant_media.specs.Slotting.{shown_tape, shown_log, at_loaded, at_other, settled_loaded, settled_other, which, some_is, of_loaded, one_stock}
+use Rattle.plant_media.specs.State.{seen_of, moments_of, loaded_of, tapes_settled_of, IsSound}
+use Rattle.plant_media.specs.Slotting.{shown_tape, shown_log, at_loaded, at_other, settled_loaded, settled_other, which, some_is, of_loaded}
 use Rattle.plant_media.specs.Taping.{at_file, tape_settled}
 use Rattle.plant_media.specs.declared.tape.Tape.{Tape}
 use Rattle.plant_media.specs.declared.plant.MediaPlant.{MediaPlant}

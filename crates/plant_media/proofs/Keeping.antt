@@ -1,22 +1,22 @@
 -- Calls on the media keep a plant sound.
-use Rattle.std.proofs.Common.{◌≡◌, ◌≢◌, ◌⊎◌, inl, inr, ℕ, ◌+◌, ◌<◌, ◌≤◌, Bool, true, false, List, [], ◌∷◌, ◌++◌, length, take, Option, Some, None, IfSome, IsTrue, refl, sym, ◌∙◌, ap, subst, arith, length-append}
+use Rattle.std.proofs.Common.{◌≡◌, ◌≢◌, inl, inr, ℕ, ◌+◌, Bool, List, length, Option, Some, None, IfSome, IsTrue, sym, ◌∙◌, ap, subst, arith}
 use Rattle.crash_moments.specs.Moments.{Moments, Leads}
-use Rattle.media_core.specs.Media as media
-use Rattle.media_core.specs.Media.{Image, AtFile, IsFront}
+use Rattle.media_core.specs.Media.{Image, AtFile}
+use Rattle.crash_moments.specs.Telling.{IsFront}
 use Rattle.crash_log.specs.Log.{Any}
 use Rattle.crash_log.specs.Fit.{IsStill}
-use Rattle.crash_log.specs.CrashLog.{file_of, damaged_of, log_bytes}
+use Rattle.crash_log.specs.CrashLog.{damaged_of, log_bytes}
 use Rattle.crash_log.specs.declared.log.CrashLog.{CrashLog}
 use Rattle.crash_log.proofs.Fitting.{fits_alone}
 use Rattle.plant_core.specs.Records.{Record}
 use Rattle.plant_core.specs.Counts.{SettledAt, SettledAway}
-use Rattle.plant_core.specs.Steps.{AtLog, AtTape, IsPutAway}
+use Rattle.plant_core.specs.Steps.{AtLog, AtTape}
 use Rattle.plant_core.specs.Stock.{Stock, slot_of}
 use Rattle.plant_media.specs.Stock.{tape_of, tape_shown}
 use Rattle.plant_media.specs.Loaded.{tape_in, TapeFits}
 use Rattle.plant_media.specs.Slots.{slot_in, tape_at, shown, settled_in}
-use Rattle.plant_media.specs.State.{JournalFits, IsSound}
-use Rattle.plant_media.specs.Slotting.{shown_tape, shown_log, shown_told, at_loaded, at_other, settled_loaded, settled_other, which, some_is, of_loaded}
+use Rattle.plant_media.specs.State.{JournalFits}
+use Rattle.plant_media.specs.Slotting.{at_loaded, at_other, settled_loaded, settled_other, which, some_is}
 use Rattle.plant_media.specs.declared.tape.Tape.{Tape}
 
 -- the loaded tape is read the same where its file is

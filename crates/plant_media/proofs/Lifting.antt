@@ -1,26 +1,27 @@
 -- What calls on the media make of the plant's images.
-use Rattle.std.proofs.Common.{◌≡◌, ◌≢◌, ◌⊎◌, inl, inr, ⊎_elim, ℕ, ◌+◌, ◌<◌, ◌≤◌, min, Bool, true, false, List, [], ◌∷◌, ◌++◌, length, take, Option, Some, None, IfSome, refl, sym, ◌∙◌, ap, subst, arith, length-append}
+use Rattle.std.proofs.Common.{◌≡◌, ◌≢◌, ◌⊎◌, inl, inr, ⊎_elim, ℕ, ◌+◌, ◌≤◌, min, Bool, false, List, [], ◌∷◌, ◌++◌, length, take, Option, Some, refl, sym, ◌∙◌, ap, subst, arith, length-append}
 use Rattle.std.proofs.lemmas.Bool.{cases_lt}
 use Rattle.std.proofs.lemmas.List.{append-nil, take_min, take_all, take-take, take-append-le, length-take}
 use Rattle.std.proofs.Math.Nat.{le_refl}
 use Rattle.std.proofs.Math.Seq.{take-append-add}
-use Rattle.crash_moments.specs.Moments.{Moments, Leads, mapped}
-use Rattle.crash_moments.proofs.Joining.{mapped_leads, weakened, joined}
+use Rattle.crash_moments.specs.Moments.{Moments, Leads}
+use Rattle.crash_moments.proofs.Joining.{mapped_leads, weakened}
 use Rattle.media_core.specs.Media as media
-use Rattle.media_core.specs.Media.{Image, AtFile, Tells, IsFront}
-use Rattle.crash_log.specs.Log.{log_of, is_damaged, HasLog, HasOneOf}
+use Rattle.media_core.specs.Media.{Image, AtFile, Tells}
+use Rattle.crash_moments.specs.Telling.{IsFront}
+use Rattle.crash_log.specs.Log.{HasLog, HasOneOf}
 use Rattle.crash_log.specs.CrashLog.{file_of, damaged_of, settled_log, FitsIts}
 use Rattle.crash_log.specs.declared.log.CrashLog.{CrashLog}
 use Rattle.crash_log.proofs.Fitting.{log_left, whole_left}
-use Rattle.plant_core.specs.Records.{Record, bad}
-use Rattle.plant_core.specs.Steps.{Same, AtLog, OldOr, AtTape, IsTorn, MayGain, MayKeep, MaySettle, TellsTo, IsPutAway}
+use Rattle.plant_core.specs.Records.{Record}
+use Rattle.plant_core.specs.Steps.{Same, AtLog, OldOr, AtTape, IsTorn, MayGain, MayKeep, MaySettle, TellsTo}
 use Rattle.plant_core.specs.Stock.{Stock, slot_of}
 use Rattle.plant_media.specs.Stock.{tape_of, journal_of, stock_of, SameTape, TapeOr, SameJournal, JournalOr}
 use Rattle.plant_media.specs.Loaded.{tape_in, TapeFits}
-use Rattle.plant_media.specs.Slots.{slot_in, tape_at, shown, settled_in}
+use Rattle.plant_media.specs.Slots.{slot_in, tape_at, settled_in}
 use Rattle.plant_media.specs.State.{media_of, moments_of, seen_of, tapes_settled_of, loaded_of}
 use Rattle.plant_media.specs.Shown.{journal_whole}
-use Rattle.plant_media.specs.Slotting.{shown_tape, at_loaded, settled_loaded, which, some_is}
+use Rattle.plant_media.specs.Slotting.{shown_tape, at_loaded, settled_loaded, some_is}
 use Rattle.plant_media.specs.Taping.{tape_left}
 use Rattle.plant_media.specs.declared.tape.Tape.{Tape}
 use Rattle.plant_media.specs.declared.plant.MediaPlant.{MediaPlant}
@@ -173,9 +174,9 @@ module _ {D : Type 0} (tells : Type 0) (moments : Moments D Image) (seen : D →
   pub lift_mark : (more : Record) (tape : List Record) → tape ≡ tape_in t image ++ more ∷ [] → Leads moments old.media new.media (AtFile (t.slot + 1) (TapeOr tape)) → Leads (moments_of moments) old new (MayGain more (tapes_settled_of seen old) slot (seen_of seen old))
   lift_mark more tape all leads = lift_tape moments old new slot (TapeOr tape) (IsTorn (tapes_settled_of seen old slot) (whole ++ more ∷ [])) (at_slot (TapeOr tape) leads) (λ a b was either. ⊎_elim
       (λ same. torn_by whole (whole ++ more ∷ []) (tape_of (b.file (slot + 1))) (tapes_settled_of seen old slot) t.settled settled_same (omega (arith, few, length-append whole (more ∷ [])))
-          (same ∙ was_front a was) (take-append-le t.settled whole (more ∷ []) few))
+      (same ∙ was_front a was) (take-append-le t.settled whole (more ∷ []) few))
       (λ now. torn_all (whole ++ more ∷ []) (tape_of (b.file (slot + 1))) (tapes_settled_of seen old slot) (omega (arith, settled_same, few, length-append whole (more ∷ [])))
-          (now ∙ all ∙ ap (λ (l : List Record). l ++ more ∷ []) (sym whole_same))) either)
+      (now ∙ all ∙ ap (λ (l : List Record). l ++ more ∷ []) (sym whole_same))) either)
 
   -- a cut leaves what is settled, or what is kept
   pub lift_cut : (n : ℕ) → Leads moments old.media new.media (AtFile (t.slot + 1) (TapeOr (take n (tape_in t image)))) → Leads (moments_of moments) old new (MayKeep n (tapes_settled_of seen old) slot (seen_of seen old))
@@ -200,5 +201,5 @@ module _ {D : Type 0} (tells : Type 0) (moments : Moments D Image) (seen : D →
           let within : t.settled ≤ length ((seen_of seen old).tape k) = omega (arith, held.within, held.counted told, ap length all) in
           ⊎_elim
           (λ stays. torn_by ((seen_of seen old).tape k) ((seen_of seen old).tape k) (tape_of (b.file (k + 1))) (tapes_settled_of seen old k) t.settled size within
-              (now ∙ stays ∙ tape_left tells moments seen present t old.media held told a was ∙ ap (λ (l : List Record). take t.settled l) (sym all)) refl)
+          (now ∙ stays ∙ tape_left tells moments seen present t old.media held told a was ∙ ap (λ (l : List Record). take t.settled l) (sym all)) refl)
           (λ turned. torn_all ((seen_of seen old).tape k) (tape_of (b.file (k + 1))) (tapes_settled_of seen old k) (omega (arith, size, within)) (now ∙ turned ∙ sym all)) step.here

@@ -8,7 +8,7 @@ use Rattle.crash_log.specs.CrashLog.{file_of, length_of, damaged_of, log_bytes}
 use Rattle.plant_core.specs.Records.{Record, block_with, mark, bad, Shows, ShowsAt, ShowsFirst}
 use Rattle.plant_core.specs.declared.record.Kind.{Kind}
 use Rattle.plant_core.specs.declared.record.Kind.TheVariants.{Block, Mark, Bad}
-use Rattle.plant_media.specs.Records.{record_of, records_of}
+use Rattle.plant_media.specs.Records.{record_of}
 use Rattle.plant_media.specs.Loaded.{tape_in, TapeFits}
 use Rattle.plant_media.specs.declared.tape.Tape.{Tape}
 use Rattle.plant_media.specs.Cutting.{records_at, records_count, record_short, record_block, record_mark, record_other}
@@ -67,7 +67,7 @@ module _ {D : Type 0} (tells : Type 0) (moments : Moments D Image) (seen : D →
       pub shows_block : slice_index head 0 ≡ 0 → (n : ℕ) → n ≡ 16384 → into ≡ take n (drop (at + 1) bytes) → Shown Block
       shows_block is n all rest =
           let tail : drop 1 piece ≡ into = drop-take 1 16384 (drop (16385 * i) bytes) ∙ ap (λ (l : List ℕ). take 16384 l) (drop-drop 1 (16385 * i) bytes)
-              ∙ sym (rest ∙ (λ j. take (all j) (drop (place j + 1) bytes))) in
+          ∙ sym (rest ∙ (λ j. take (all j) (drop (place j + 1) bytes))) in
           by_piece Block (block_with (drop 1 piece)) (record_block piece size (first ∙ is)) (refl, sym tail)
 
       pub shows_mark : slice_index head 0 ≡ 1 → Shown Mark

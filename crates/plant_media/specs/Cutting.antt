@@ -1,6 +1,5 @@
 -- How the bytes of a log are cut into records.
-use Rattle.std.proofs.Common.{◌≡◌, ◌≢◌, ◌⊎◌, inl, inr, ℕ, suc, ◌+◌, ◌-◌, ◌*◌, ◌/◌, ◌<◌, ◌≤◌, min, ◌==◌, if◌then◌else◌, Bool, true, List, [], ◌∷◌, ◌++◌, length, take, drop, map, get_or, slice_index, slice_get, Option, Some, refl, sym, ◌∙◌, ap, subst, arith, length-append, length-drop}
-use Rattle.std.specs.List.{range_with_len}
+use Rattle.std.proofs.Common.{◌≡◌, ◌≢◌, ◌⊎◌, inl, inr, ℕ, ◌+◌, ◌-◌, ◌*◌, ◌<◌, ◌≤◌, min, List, [], ◌∷◌, ◌++◌, length, take, drop, get_or, slice_index, slice_get, Some, refl, sym, ◌∙◌, ap, arith, length-append, length-drop}
 use Rattle.std.proofs.lemmas.Bool.{cases_eq, cases_lt}
 use Rattle.std.proofs.lemmas.Bool.Decides.{nat_tests}
 use Rattle.std.proofs.lemmas.List.{length-take, take-take, drop-take, take_at, drop_at, take_all, get_or-take, get_or_append_left, get_or-append_right}
@@ -118,7 +117,7 @@ whole_length bytes whole = elim (cases_eq (length bytes) (16385 * count_of (leng
       let last : ℕ = count_of (length bytes) - 1 in
       let some : last < count_of (length bytes) = omega (arith, count_low (length bytes)) in
       absurd (whole last (records_at bytes last some ∙ ap (λ (r : Record). Some r) (record_short (span (16385 * last) 16385 bytes)
-          (omega (arith, length-take 16385 (drop (16385 * last) bytes), length-drop (16385 * last) bytes, count_low (length bytes), ne)))))
+      (omega (arith, length-take 16385 (drop (16385 * last) bytes), length-drop (16385 * last) bytes, count_low (length bytes), ne)))))
 ]
 
 pub records_none : records_of [] ≡ []

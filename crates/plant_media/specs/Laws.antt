@@ -1,17 +1,17 @@
 -- The laws of a plant, of one over a media.
-use Rattle.std.proofs.Common.{◌≡◌, ◌≢◌, inl, inr, ℕ, ◌+◌, ◌-◌, ◌<◌, ◌≤◌, Bool, List, length, take, Option, Some, None, IsTrue, refl, sym, ◌∙◌, ap, subst, arith}
+use Rattle.std.proofs.Common.{◌≡◌, ◌≢◌, inl, inr, ℕ, ◌+◌, ◌-◌, ◌<◌, ◌≤◌, Bool, List, length, take, Some, IsTrue, sym, ◌∙◌, ap, subst, arith}
 use Rattle.crash_moments.specs.Moments.{Moments}
-use Rattle.media_core.specs.Media.{Image, IsFront}
-use Rattle.crash_log.specs.CrashLog.{file_of, log_bytes, settled_log, settled_of, length_of}
+use Rattle.media_core.specs.Media.{Image}
+use Rattle.crash_moments.specs.Telling.{IsFront}
+use Rattle.crash_log.specs.CrashLog.{file_of, log_bytes, settled_of}
 use Rattle.crash_log.proofs.Fitting.{settled_front, settled_within, log_left, whole_left, bytes_long}
 use Rattle.plant_core.specs.Steps.{IsTorn}
 use Rattle.plant_core.specs.Stock.{Stock, settled_part}
 use Rattle.plant_media.specs.Stock.{tape_of, journal_of, stock_of}
 use Rattle.plant_media.specs.Loaded.{TapeFits}
-use Rattle.plant_media.specs.Slots.{slot_in, records_in, tape_at, shown, settled_in, slots_here}
-use Rattle.plant_media.specs.State.{seen_of, moments_of, slots_of, present_of, loaded_of, records_of_loaded, tapes_settled_of, log_size_of, log_settled_of, IsSound}
+use Rattle.plant_media.specs.Slots.{slots_here}
+use Rattle.plant_media.specs.State.{seen_of, moments_of, present_of, loaded_of, records_of_loaded, tapes_settled_of, log_size_of, log_settled_of, IsSound}
 use Rattle.plant_media.specs.declared.plant.MediaPlant.{MediaPlant}
-use Rattle.plant_media.specs.declared.tape.Tape.{Tape}
 use Rattle.plant_media.specs.Shown.{journal_whole}
 use Rattle.plant_media.specs.Slotting.{shown_tape, shown_log, shown_told, one_stock, which, of_loaded, at_other, settled_other, loaded_counted, torn_left, settled_read}
 

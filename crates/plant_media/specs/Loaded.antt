@@ -1,5 +1,5 @@
 -- The loaded tape, and that what is kept of it fits its file.
-use Rattle.std.specs.Prelude.{◌≡◌, ℕ, ◌+◌, ◌*◌, ◌^◌, ◌≤◌, min, Bool, true, false, List, length, IsTrue}
+use Rattle.std.specs.Prelude.{◌≡◌, ℕ, ◌+◌, ◌*◌, ◌^◌, ◌≤◌, min, Bool, true, List, length, IsTrue}
 use Rattle.crash_moments.specs.Moments.{Moments}
 use Rattle.media_core.specs.Media.{Image}
 use Rattle.crash_log.specs.CrashLog.{file_of, limit_of, length_of, settled_of, damaged_of, log_bytes, FitsIts}

@@ -1,11 +1,11 @@
 -- What a file and a loaded tape show, by whether they are damaged.
-use Rattle.std.proofs.Common.{◌≡◌, ◌⊎◌, inl, inr, ℕ, ◌+◌, Bool, true, false, List, [], ◌∷◌, length, slice_get, refl, sym, ◌∙◌, ap}
+use Rattle.std.proofs.Common.{◌≡◌, ◌⊎◌, inl, inr, ℕ, ◌+◌, Bool, true, false, List, [], ◌∷◌, slice_get, refl, sym, ◌∙◌, ap}
 use Rattle.media_core.specs.Media.{Image}
 use Rattle.crash_log.specs.Log.{log_of, is_damaged}
 use Rattle.crash_log.specs.CrashLog.{damaged_of, log_bytes}
 use Rattle.plant_core.specs.Records.{Record, bad, NoBad}
 use Rattle.plant_media.specs.Records.{records_of}
-use Rattle.plant_media.specs.Stock.{tape_shown, tape_of, log_shown, journal_of, no_log}
+use Rattle.plant_media.specs.Stock.{tape_shown, tape_of, log_shown, journal_of}
 use Rattle.plant_media.specs.Loaded.{tape_in}
 use Rattle.plant_media.specs.declared.tape.Tape.{Tape}
 

@@ -1,5 +1,5 @@
 -- The tapes in the slots, and what reads and images give of them.
-use Rattle.std.proofs.Common.{◌≡◌, ◌≢◌, ◌⊎◌, inl, inr, ℕ, ◌+◌, ◌≤◌, ◌<◌, ◌==◌, if◌then◌else◌, Bool, true, false, List, [], ◌∷◌, ◌++◌, length, take, Option, Some, None, IfSome, IsTrue, refl, sym, ◌∙◌, ap, subst, arith}
+use Rattle.std.proofs.Common.{◌≡◌, ◌≢◌, ◌⊎◌, inl, inr, ℕ, ◌+◌, ◌≤◌, ◌==◌, if◌then◌else◌, Bool, true, false, List, length, take, Option, Some, None, IfSome, refl, sym, ◌∙◌, ap, subst, arith}
 use Rattle.std.proofs.lemmas.Bool.{cases_eq}
 use Rattle.std.proofs.lemmas.Bool.Decides.{nat_tests}
 use Rattle.std.proofs.lemmas.List.{take_all}
@@ -12,11 +12,11 @@ use Rattle.crash_log.specs.declared.log.CrashLog.{CrashLog}
 use Rattle.plant_core.specs.Records.{Record}
 use Rattle.plant_core.specs.Steps.{IsTorn}
 use Rattle.plant_core.specs.Stock.{Stock}
-use Rattle.plant_media.specs.Stock.{tape_of, stock_of}
+use Rattle.plant_media.specs.Stock.{tape_of}
 use Rattle.plant_media.specs.Loaded.{tape_in, TapeFits}
-use Rattle.plant_media.specs.Slots.{slot_in, records_in, tape_at, shown, settled_at, settled_in}
+use Rattle.plant_media.specs.Slots.{slot_in, records_in, tape_at, shown, settled_in}
 use Rattle.plant_media.specs.declared.tape.Tape.{Tape}
-use Rattle.plant_media.specs.Taping.{tape_left, tape_settled}
+use Rattle.plant_media.specs.Taping.{tape_left}
 
 pub if_same : {X : Type 0} (k s : ℕ) (x y : X) → k ≡ s → (if k == s then x else y) ≡ x
 if_same k s x y same = ap (λ (b : Bool). if b then x else y) (test k s same)
@@ -105,10 +105,10 @@ module _ {D : Type 0} (tells : Type 0) (moments : Moments D Image) (seen : D →
           let h = held_by t is in
           let whole : tape_at tape (seen media) k ≡ tape_in t (seen media) = ap (λ (o : Option Tape). tape_at o (seen media) k) is ∙ at_loaded t (seen media) k (sym slot) in
           subst (λ (l : List Record). IsTorn (settled_in tape (seen media) k) l (tape_of (c.file (k + 1)))) (sym whole)
-              (torn_front (tape_in t (seen media)) (tape_of (c.file (k + 1))) t.settled (settled_in tape (seen media) k)
-              (ap (λ (o : Option Tape). settled_in o (seen media) k) is ∙ settled_loaded t (seen media) k (sym slot))
-              (omega (arith, h.within, h.counted told))
-              (ap (λ (n : ℕ). tape_of (c.file (n + 1))) (sym slot) ∙ tape_left tells moments seen present t media h told c left))
+          (torn_front (tape_in t (seen media)) (tape_of (c.file (k + 1))) t.settled (settled_in tape (seen media) k)
+          (ap (λ (o : Option Tape). settled_in o (seen media) k) is ∙ settled_loaded t (seen media) k (sym slot))
+          (omega (arith, h.within, h.counted told))
+          (ap (λ (n : ℕ). tape_of (c.file (n + 1))) (sym slot) ∙ tape_left tells moments seen present t media h told c left))
       | inr other ↦
           let same : tape_of (c.file (k + 1)) ≡ tape_at tape (seen media) k = ap tape_of (still k other c left) ∙ sym (at_other tape (seen media) k other) in
           torn_whole (tape_at tape (seen media) k) (tape_of (c.file (k + 1))) (settled_in tape (seen media) k) same (settled_other tape (seen media) k other ∙ ap length (sym (at_other tape (seen media) k other)))

@@ -1,7 +1,8 @@
 -- What a plant over a media shows, and in which states calls may be made.
-use Rattle.std.specs.Prelude.{◌≡◌, ◌≢◌, ℕ, ◌+◌, ◌-◌, Bool, false, List, Option, Some, IfSome, IsTrue}
+use Rattle.std.specs.Prelude.{◌≡◌, ◌≢◌, ℕ, ◌+◌, ◌-◌, Bool, false, Option, Some, IfSome, IsTrue}
 use Rattle.crash_moments.specs.Moments.{Moments, mapped}
-use Rattle.media_core.specs.Media.{Image, IsFront}
+use Rattle.media_core.specs.Media.{Image}
+use Rattle.crash_moments.specs.Telling.{IsFront}
 use Rattle.crash_log.specs.CrashLog.{file_of, limit_of, length_of, settled_of, damaged_of, FitsIts}
 use Rattle.crash_log.specs.Fit.{IsStill}
 use Rattle.crash_log.specs.declared.log.CrashLog.{CrashLog}

@@ -1,11 +1,11 @@
 -- The loaded tape and its images.
-use Rattle.std.proofs.Common.{◌≡◌, ◌≢◌, ◌⊎◌, inl, inr, ⊎_elim, ℕ, zero, suc, ◌+◌, ◌*◌, ◌<◌, ◌≤◌, min, Bool, true, false, List, [], ◌∷◌, ◌++◌, length, take, refl, sym, ◌∙◌, ap, subst, arith, append_assoc}
+use Rattle.std.proofs.Common.{◌≡◌, ◌⊎◌, inl, inr, ⊎_elim, ℕ, ◌+◌, ◌*◌, ◌<◌, min, Bool, true, false, List, [], ◌∷◌, ◌++◌, length, take, refl, sym, ◌∙◌, ap, subst, arith, append_assoc}
 use Rattle.std.proofs.lemmas.Bool.{cases_lt}
 use Rattle.std.proofs.lemmas.List.{take_min, take_all, length-take}
 use Rattle.crash_moments.specs.Moments.{Moments, Leads}
 use Rattle.crash_moments.proofs.Joining.{weakened, joined}
 use Rattle.media_core.specs.Media.{Image, AtFile, Same}
-use Rattle.crash_log.specs.Log.{log_of, is_damaged, HasLog, HasOneOf}
+use Rattle.crash_log.specs.Log.{is_damaged, HasLog, HasOneOf}
 use Rattle.crash_log.specs.CrashLog.{file_of, length_of, settled_of, damaged_of, log_bytes, settled_log, FitsIts}
 use Rattle.crash_log.specs.Fit.{IsStill}
 use Rattle.crash_log.specs.declared.log.CrashLog.{CrashLog}

@@ -46,4 +46,3 @@ pub fn look<M: Media>(
         Err(_) => Err(Failed),
     }
 }
-

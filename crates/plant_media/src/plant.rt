@@ -1,7 +1,8 @@
 // A plant over a media.
 ghost use Rattle.std.specs.Prelude.{◌≡◌, ◌≢◌, ◌↔◌, ◌+◌, ◌-◌, ◌^◌, min, ◌<◌, ◌≤◌, ◌++◌, [], ◌∷◌, List, ℕ, length, take, Option, Some, None, IfOk, IfErr, OnOk, IfSome, IsSome, IsTrue, Bool, true, false};
 ghost use Rattle.crash_moments.specs.Moments.{Leads, HasCause, mapped};
-ghost use Rattle.media_core.specs.Media.{Image, IsFront, Same};
+ghost use Rattle.media_core.specs.Media.{Image, Same};
+ghost use Rattle.crash_moments.specs.Telling.{IsFront};
 ghost use Rattle.crash_log.specs.Log.{is_damaged};
 ghost use Rattle.crash_log.specs.CrashLog.{length_of, settled_of, damaged_of};
 ghost use Rattle.crash_log.specs.Fit.{IsStill};

@@ -74,8 +74,17 @@ impl Tape {
         ensures tell_faults { M.tell_faults media.old ≤ M.tell_faults media.new }
     {
         let log = CrashLog::open(media, slot + 1, 1 << 34)?;
-        let records = if log.damaged() { 1 } else { record_count(log.len()) };
-        Ok(Tape { slot, log, records, settled: records })
+        let records = if log.damaged() {
+            1
+        } else {
+            record_count(log.len())
+        };
+        Ok(Tape {
+            slot,
+            log,
+            records,
+            settled: records,
+        })
     }
 
     /// Shows a record: its kind, and its bytes in `into` where it is a block.

@@ -1,4 +1,4 @@
-use Rattle.std.proofs.Common.{◌≡◌, false, Option, None, sym, ◌∙◌, ap, refl}
+use Rattle.std.proofs.Common.{◌≡◌, false, Option, None, sym, ◌∙◌, ap}
 use Rattle.media_core.specs.Media.{Image}
 use Rattle.crash_log.specs.Log.{is_damaged}
 use Rattle.plant_media.specs.Stock.{stock_of}

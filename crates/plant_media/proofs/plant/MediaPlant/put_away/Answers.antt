@@ -1,4 +1,4 @@
-use Rattle.std.proofs.Common.{◌≡◌, ℕ, Some, ◌∙◌, ap}
+use Rattle.std.proofs.Common.{ℕ, Some, ◌∙◌, ap}
 use Rattle.plant_media.specs.Slots.{slot_in}
 use Rattle.plant_media.proofs.Lifting.{lift_settle}
 use Rattle.plant_media.proofs.Keeping.{tape_stays}

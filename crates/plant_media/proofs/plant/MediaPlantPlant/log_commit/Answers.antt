@@ -1,4 +1,3 @@
-use Rattle.std.proofs.Common.{◌≡◌, List, ℕ, ◌++◌}
 use Rattle.crash_log.specs.Log.{HasOneOf}
 use Rattle.crash_log.specs.CrashLog.{file_of, settled_log, log_bytes}
 use Rattle.plant_media.specs.State.{seen_of}

@@ -1,4 +1,4 @@
-use Rattle.std.proofs.Common.{◌≡◌, List, ℕ, ◌++◌}
+use Rattle.std.proofs.Common.{◌≡◌, ◌++◌}
 use Rattle.crash_log.specs.Log.{HasLog}
 use Rattle.crash_log.specs.CrashLog.{file_of, settled_log}
 use Rattle.plant_media.proofs.Calling.{put_crash, journal_sound, journal_settled, journal_changed}

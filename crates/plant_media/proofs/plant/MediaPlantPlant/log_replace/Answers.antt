@@ -1,4 +1,4 @@
-use Rattle.std.proofs.Common.{◌≡◌, List, ℕ, refl}
+use Rattle.std.proofs.Common.{◌≡◌, refl}
 use Rattle.crash_log.specs.Log.{HasOneOf}
 use Rattle.crash_log.specs.CrashLog.{file_of, settled_log}
 use Rattle.plant_media.proofs.Calling.{turn_crash, journal_sound, journal_settled, journal_changed}

@@ -1,6 +1,5 @@
-use Rattle.std.proofs.Common.{◌≡◌, ℕ, ◌++◌, [], ◌∷◌, List, take, subst}
-use Rattle.plant_core.specs.Records.{Record, NoBad, block_with, mark}
-use Rattle.plant_media.specs.Loaded.{tape_in}
+use Rattle.std.proofs.Common.{◌≡◌, take, subst}
+use Rattle.plant_core.specs.Records.{NoBad}
 use Rattle.plant_media.proofs.Lifting.{lift_cut}
 use Rattle.plant_media.proofs.Keeping.{tape_changed, settled_now}
 use Rattle.plant_media.proofs.Calling.{held_tape, loaded_tape}

@@ -1,5 +1,5 @@
-use Rattle.std.proofs.Common.{◌≡◌, ℕ, ◌++◌, [], ◌∷◌, List, take, refl, subst}
-use Rattle.plant_core.specs.Records.{Record, NoBad, block_with, mark}
+use Rattle.std.proofs.Common.{◌≡◌, ◌++◌, [], ◌∷◌, refl, subst}
+use Rattle.plant_core.specs.Records.{NoBad, mark}
 use Rattle.plant_media.specs.Loaded.{tape_in}
 use Rattle.plant_media.proofs.Lifting.{lift_mark}
 use Rattle.plant_media.proofs.Keeping.{tape_changed, settled_now}

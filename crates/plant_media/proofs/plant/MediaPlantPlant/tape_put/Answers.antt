@@ -1,6 +1,5 @@
-use Rattle.std.proofs.Common.{◌≡◌, ℕ, ◌++◌, [], ◌∷◌, List, take, subst}
-use Rattle.plant_core.specs.Records.{Record, NoBad, block_with, mark}
-use Rattle.plant_media.specs.Loaded.{tape_in}
+use Rattle.std.proofs.Common.{◌≡◌, ◌++◌, [], ◌∷◌, subst}
+use Rattle.plant_core.specs.Records.{NoBad, block_with}
 use Rattle.plant_media.proofs.Lifting.{lift_put}
 use Rattle.plant_media.proofs.Keeping.{tape_changed, settled_stays}
 use Rattle.plant_media.proofs.Calling.{held_tape, loaded_tape}

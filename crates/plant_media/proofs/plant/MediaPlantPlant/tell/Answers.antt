@@ -1,10 +1,9 @@
-use Rattle.std.proofs.Common.{◌≡◌, ℕ, ◌+◌, List, ◌++◌, length, take, refl, sym, ◌∙◌, ap, subst}
+use Rattle.std.proofs.Common.{ℕ, ◌+◌, List, ◌++◌, length, take, sym, ◌∙◌, ap, subst}
 use Rattle.std.proofs.lemmas.List.{take_all}
 use Rattle.std.proofs.Math.Nat.{le_refl}
 use Rattle.crash_moments.specs.Moments.{Leads}
 use Rattle.plant_core.specs.Steps.{TellsTo}
-use Rattle.plant_core.specs.Stock.{Stock}
-use Rattle.plant_media.specs.State.{seen_of, moments_of}
+use Rattle.plant_media.specs.State.{moments_of}
 use Rattle.plant_media.specs.Slotting.{shown_told, shown_log, shown_tape}
 use Rattle.plant_media.proofs.Lifting.{lift_tell}
 use Rattle.plant_media.proofs.Keeping.{settled_same, tapes_same}
@@ -29,9 +28,9 @@ returns-in-Ok-clause-tapes g c = λ told.
     let p = c.args.self.now in
     let seen = g.M.Media.seen in
     let same = λ (k : ℕ).
-        shown_tape p.journal p.tape (seen c.tell.new.self) k
-        ∙ tapes_same p.journal p.tape (seen p.media) (seen c.tell.new.self) (λ k. ap (λ (h : ℕ → List ℕ). h (k + 1)) (c.in-Ok.ensures.files told)) k
-        ∙ sym (shown_tape p.journal p.tape (seen p.media) k) in
+    shown_tape p.journal p.tape (seen c.tell.new.self) k
+    ∙ tapes_same p.journal p.tape (seen p.media) (seen c.tell.new.self) (λ k. ap (λ (h : ℕ → List ℕ). h (k + 1)) (c.in-Ok.ensures.files told)) k
+    ∙ sym (shown_tape p.journal p.tape (seen p.media) k) in
     λ i k. same k i
 
 pub returns-in-Ok-clause-sound : goal.returns-in-Ok-clause-sound

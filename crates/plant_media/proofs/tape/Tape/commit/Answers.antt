@@ -1,5 +1,5 @@
-use Rattle.std.proofs.Common.{◌≡◌, ℕ, ◌+◌, Bool, true, false, IsTrue, List, length, sym, ◌∙◌, ap, subst, arith, refl}
-use Rattle.crash_log.specs.CrashLog.{file_of, damaged_of, log_bytes}
+use Rattle.std.proofs.Common.{◌≡◌, ℕ, ◌+◌, Bool, true, false, IsTrue, length, sym, ◌∙◌, ap, subst, arith}
+use Rattle.crash_log.specs.CrashLog.{file_of, log_bytes}
 use Rattle.crash_log.specs.Fit.{IsStill}
 use Rattle.plant_media.specs.Loaded.{tape_in}
 use Rattle.plant_media.specs.declared.tape.Tape.{Tape}
@@ -55,8 +55,8 @@ returns-clause-fits g c =
       fits = e.fits;
       counted = λ told.
           let same : tape_in new (m.seen c.commit.new.media) ≡ tape_in tape (m.seen c.args.media.now) =
-              loaded_whole new (m.seen c.commit.new.media) (file_of tape.log) (log_bytes tape.log ((m.seen c.args.media.now).file (file_of tape.log))) r.file e.log.sound (e.bytes told)
-              ∙ sym (read_whole m.tells m.time m.seen m.present tape c.args.media.now r told (c.requires.whole told)) in
+          loaded_whole new (m.seen c.commit.new.media) (file_of tape.log) (log_bytes tape.log ((m.seen c.args.media.now).file (file_of tape.log))) r.file e.log.sound (e.bytes told)
+          ∙ sym (read_whole m.tells m.time m.seen m.present tape c.args.media.now r told (c.requires.whole told)) in
           r.counted told ∙ sym (ap length same);
       settled = λ told. omega (arith, e.log.settled, e.log.size, r.room);
       damaged = λ told is. let never : true ≡ false = sym is ∙ e.log.sound in absurd (cc);

@@ -1,6 +1,6 @@
-use Rattle.std.proofs.Common.{◌≡◌, ℕ, ◌+◌, ◌*◌, min, Bool, true, false, IsTrue, List, length, take, sym, ◌∙◌, ap, subst, arith}
+use Rattle.std.proofs.Common.{◌≡◌, ℕ, ◌+◌, ◌*◌, min, Bool, true, false, IsTrue, length, take, sym, ◌∙◌, ap, subst, arith}
 use Rattle.std.proofs.lemmas.List.{length-take}
-use Rattle.crash_log.specs.CrashLog.{file_of, length_of, damaged_of, log_bytes}
+use Rattle.crash_log.specs.CrashLog.{file_of, length_of, log_bytes}
 use Rattle.crash_log.specs.Fit.{IsStill}
 use Rattle.plant_media.specs.Stock.{TapeOr}
 use Rattle.plant_media.specs.Loaded.{tape_in}
@@ -60,8 +60,8 @@ returns-clause-fits g c =
       fits = e.fits;
       counted = λ told.
           let same : tape_in new (m.seen c.cut.new.media) ≡ take c.args.n (tape_in tape (m.seen c.args.media.now)) =
-              loaded_whole new (m.seen c.cut.new.media) (file_of tape.log) (take c.min-size.result (log_bytes tape.log ((m.seen c.args.media.now).file (file_of tape.log)))) r.file e.log.sound (e.bytes told)
-              ∙ cut_tape m.tells m.time m.seen m.present tape c.args.media.now r told c.args.n c.min-size.result size (c.requires.whole told) in
+          loaded_whole new (m.seen c.cut.new.media) (file_of tape.log) (take c.min-size.result (log_bytes tape.log ((m.seen c.args.media.now).file (file_of tape.log)))) r.file e.log.sound (e.bytes told)
+          ∙ cut_tape m.tells m.time m.seen m.present tape c.args.media.now r told c.args.n c.min-size.result size (c.requires.whole told) in
           omega (arith, ap length same, length-take c.args.n (tape_in tape (m.seen c.args.media.now)), r.counted told, c.requires.within);
       settled = λ told. omega (arith, e.log.settled, e.log.size, size);
       damaged = λ told is. let never : true ≡ false = sym is ∙ e.log.sound in absurd (cc);

@@ -1,5 +1,4 @@
-use Rattle.std.proofs.Common.{arith, length, ◌≡◌, sym, ◌∙◌}
-use Rattle.plant_media.proofs.Showing.{shows_first, shows_none}
+use Rattle.plant_media.proofs.Showing.{shows_first}
 use Rattle.plant_media.proofs.tape.Tape.first.Goals as goal
 
 pub returns-in-Ok-clause-first : goal.returns-in-Ok-clause-first

@@ -1,8 +1,7 @@
-use Rattle.std.proofs.Common.{◌≡◌, ◌≢◌, ℕ, ◌+◌, ◌*◌, ◌<◌, ◌≤◌, false, List, length, take, drop, slice_index, sym, ◌∙◌, ap, arith, refl}
+use Rattle.std.proofs.Common.{◌≡◌, ◌+◌, ◌*◌, ◌<◌, ◌≤◌, length, take, drop, sym, ◌∙◌, ap, arith}
 use Rattle.media_core.specs.Media.{Image}
-use Rattle.crash_log.specs.CrashLog.{file_of, length_of, damaged_of, log_bytes}
+use Rattle.crash_log.specs.CrashLog.{file_of, length_of, log_bytes}
 use Rattle.plant_media.proofs.Showing.{shows_damaged, shows_short, shows_block, shows_mark, shows_other}
-use Rattle.plant_media.specs.Shown.{either}
 use Rattle.plant_media.proofs.tape.Tape.get.Goals as goal
 use Rattle.plant_media.proofs.tape.Tape.get.Goals.{then-damaged-via-then-damaged, then-damaged-via-else-damaged+then-len-at}
 
@@ -11,10 +10,10 @@ returns-then-damaged-clause-found g c = λ told.
     let m = g.M.Media in
     let tape = c.args.self.now in
     elim c.then-damaged.branch [
-    | then-damaged-via-then-damaged w ↦ shows_damaged m.tells m.time m.seen m.present tape c.args.media.now c.requires.fits told c.args.i c.requires.within c.args.into.now (sym c.damaged.ensures.damaged ∙ w.if-damaged.true)
-    | then-damaged-via-else-damaged+then-len-at w ↦
-        let short : length_of tape.log < 16385 * c.args.i + 16385 = omega (arith, w.if-len-at.true, w.len.ensures.length, c.from-at.ensures) in
-        shows_short m.tells m.time m.seen m.present tape c.args.media.now c.requires.fits told c.args.i c.requires.within c.args.into.now (sym c.damaged.ensures.damaged ∙ w.if-damaged.false) short
+      | then-damaged-via-then-damaged w ↦ shows_damaged m.tells m.time m.seen m.present tape c.args.media.now c.requires.fits told c.args.i c.requires.within c.args.into.now (sym c.damaged.ensures.damaged ∙ w.if-damaged.true)
+      | then-damaged-via-else-damaged+then-len-at w ↦
+          let short : length_of tape.log < 16385 * c.args.i + 16385 = omega (arith, w.if-len-at.true, w.len.ensures.length, c.from-at.ensures) in
+          shows_short m.tells m.time m.seen m.present tape c.args.media.now c.requires.fits told c.args.i c.requires.within c.args.into.now (sym c.damaged.ensures.damaged ∙ w.if-damaged.false) short
     ]
 
 pub returns-in_ok-read-in-0-clause-found : goal.returns-in_ok-read-in-0-clause-found

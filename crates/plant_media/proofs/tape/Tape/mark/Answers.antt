@@ -1,9 +1,9 @@
-use Rattle.std.proofs.Common.{◌≡◌, ℕ, ◌+◌, List, [], ◌∷◌, ◌++◌, length, sym, ◌∙◌, ap, arith, refl}
+use Rattle.std.proofs.Common.{◌≡◌, ℕ, ◌+◌, List, [], ◌∷◌, ◌++◌, length, ◌∙◌, ap, arith, refl}
 use Rattle.plant_core.specs.Records.{Record, mark}
 use Rattle.plant_media.specs.Records.{record_of}
 use Rattle.plant_media.specs.Loaded.{tape_in}
 use Rattle.plant_media.specs.Cutting.{record_mark}
-use Rattle.plant_media.specs.Taping.{tape_then, turn_at, same_or}
+use Rattle.plant_media.specs.Taping.{tape_then, turn_at}
 use Rattle.plant_media.proofs.tape.Tape.mark.Goals as goal
 
 -- a mark with zeros behind it is a mark

@@ -1,4 +1,4 @@
-use Rattle.std.proofs.Common.{◌≡◌, ◌++◌, [], ◌∷◌, length, List, ◌∙◌, ap, refl, arith}
+use Rattle.std.proofs.Common.{◌++◌, [], ◌∷◌, ◌∙◌, ap, refl, arith}
 use Rattle.plant_core.specs.Records.{Record}
 use Rattle.plant_media.specs.Loaded.{tape_in}
 use Rattle.plant_media.specs.Cutting.{record_block}

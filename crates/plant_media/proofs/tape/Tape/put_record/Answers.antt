@@ -1,12 +1,9 @@
-use Rattle.std.proofs.Common.{◌≡◌, ℕ, ◌+◌, ◌*◌, Bool, true, false, IsTrue, List, [], ◌∷◌, ◌++◌, length, sym, ◌∙◌, ap, subst, arith, append_assoc, length-append}
-use Rattle.crash_log.specs.CrashLog.{file_of, damaged_of, log_bytes}
-use Rattle.plant_core.specs.Records.{Record}
-use Rattle.plant_media.specs.Records.{records_of, record_of}
+use Rattle.std.proofs.Common.{◌≡◌, ℕ, ◌+◌, Bool, true, false, IsTrue, [], ◌∷◌, ◌++◌, length, sym, ◌∙◌, ap, subst, arith, length-append}
+use Rattle.crash_log.specs.CrashLog.{file_of, log_bytes}
+use Rattle.plant_media.specs.Records.{record_of}
 use Rattle.plant_media.specs.Stock.{SameTape}
 use Rattle.plant_media.specs.Loaded.{tape_in}
 use Rattle.plant_media.specs.declared.tape.Tape.{Tape}
-use Rattle.plant_media.specs.Cutting.{records_more}
-use Rattle.plant_media.specs.Shown.{loaded_whole}
 use Rattle.plant_media.specs.Taping.{at_file, same_put, tape_twice, not_damaged, whole_bytes, put_tape}
 use Rattle.plant_media.proofs.tape.Tape.put_record.Goals as goal
 
@@ -70,8 +67,8 @@ returns-clause-fits g c =
       fits = f.fits;
       counted = λ told.
           let same : tape_in new (m.seen c.append-2.new.media) ≡ tape_in tape (m.seen c.args.media.now) ++ record_of (c.args.first ∷ c.args.rest.now) ∷ [] =
-              put_tape m.tells m.time m.seen m.present tape c.args.media.now r told (c.requires.whole told) new (m.seen c.append-2.new.media) c.append.new.log ((m.seen c.append.new.media).file (file_of c.append.new.log)) c.args.first c.args.rest.now all
-              (e.log.file ∙ r.file) f.log.sound (f.bytes told) (ap (λ (n : ℕ). log_bytes c.append.new.log ((m.seen c.append.new.media).file n)) e.log.file ∙ e.bytes told) in
+          put_tape m.tells m.time m.seen m.present tape c.args.media.now r told (c.requires.whole told) new (m.seen c.append-2.new.media) c.append.new.log ((m.seen c.append.new.media).file (file_of c.append.new.log)) c.args.first c.args.rest.now all
+          (e.log.file ∙ r.file) f.log.sound (f.bytes told) (ap (λ (n : ℕ). log_bytes c.append.new.log ((m.seen c.append.new.media).file n)) e.log.file ∙ e.bytes told) in
           omega (arith, r.counted told, ap length same, length-append (tape_in tape (m.seen c.args.media.now)) (record_of (c.args.first ∷ c.args.rest.now) ∷ []));
       settled = λ told. omega (arith, f.log.settled, f.log.size, e.log.settled, e.log.size, r.settled told, r.within, whole_bytes m.tells m.time m.seen m.present tape c.args.media.now r told (c.requires.whole told));
       damaged = λ told is. let never : true ≡ false = sym is ∙ f.log.sound in absurd (cc);
