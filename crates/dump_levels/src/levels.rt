@@ -9,6 +9,7 @@ use crate::above::{above, all_above, is_at_or_below};
 use bk_text::{Expiry, LevelPath, List};
 use std::alloc::{AllocError, Global};
 use std::marker::Model;
+use thiserror::Error;
 
 /// A level of dumps: its path, and when its dumps expire.
 #[derive(Debug, Drop)]
@@ -21,15 +22,19 @@ pub struct Level {
 }
 
 /// Why a call on the levels was refused.
-#[derive(Clone, Copy, Debug, PartialEq, Eq)]
+#[derive(Clone, Copy, Debug, PartialEq, Eq, Drop, Error)]
 pub enum LevelFault {
     /// There is a level of this path.
+    #[error("the level exists")]
     LevelExists,
     /// There is no level above this one, which has more than one element.
+    #[error("there is no level above it")]
     NoParentLevel,
     /// There is no level of this path.
+    #[error("there is no such level")]
     NoSuchLevel,
     /// Memory was refused.
+    #[error("memory was refused")]
     Memory,
 }
 

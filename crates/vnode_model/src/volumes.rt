@@ -8,7 +8,9 @@ use crate::fitting::fault_in_vnodes;
 use crate::headers::VolHeader;
 use crate::vnodes::Vnode;
 use bk_text::List;
+use std::alloc::AllocError;
 use std::marker::Model;
+use thiserror::Error;
 
 /// The fields of a volume.
 #[derive(Debug, Drop)]
@@ -24,9 +26,10 @@ pub struct Volume {
 }
 
 /// Why a header and vnodes are no volume.
-#[derive(Debug, Drop)]
+#[derive(Clone, Copy, Debug, PartialEq, Eq, Drop, Error)]
 pub enum VolumeFault {
     /// The vnode at this index is the first that breaks the order, the parity or a limit.
+    #[error("vnode {index} breaks the order, the parity or a limit")]
     Order { index: usize },
 }
 
@@ -39,6 +42,19 @@ impl Model for Volume {
     ghost view = { λ a. a.fields };
 
     ghost invariant = { λ a. AreVolume a.fields.vnodes };
+}
+
+impl Clone for Volume {
+    ghost is_clone = { λ a b. b ≡ a };
+
+    fn clone(&self) -> Result<Volume, AllocError> {
+        Ok(Volume {
+            fields: VolumeFields {
+                header: self.fields.header.clone()?,
+                vnodes: self.fields.vnodes.clone()?,
+            },
+        })
+    }
 }
 
 impl Volume {
@@ -54,6 +70,14 @@ impl Volume {
                 fields: VolumeFields { header, vnodes },
             }),
         }
+    }
+
+    /// The volume of these fields.
+    pub(crate) fn from_fields(fields: VolumeFields) -> Self
+        requires { AreVolume fields.vnodes }
+        ensures { result ≡ fields }
+    {
+        Volume { fields }
     }
 
     /// Its header.
