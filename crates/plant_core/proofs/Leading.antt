@@ -163,7 +163,7 @@ module _ {D E I : Type 0} (events : D → List E) (is_left : List E → I → Ty
         | inl late ↦ elim (cases_lt (length (events old) + 1) some.at) [
           | inl both ↦ inr (second c (subst (λ (es : List E). is_left es c) (take_all some.at (events old ++ e ∷ [] ++ f ∷ []) (omega (arith, both, sizes))) some.left))
           | inr one ↦ inr (first c (subst (λ (es : List E). is_left es c)
-          (take-append-le some.at (events old ++ e ∷ []) (f ∷ []) (omega (arith, one, size)) ∙ take_all some.at (events old ++ e ∷ []) (omega (arith, late, size))) some.left))
+              (take-append-le some.at (events old ++ e ∷ []) (f ∷ []) (omega (arith, one, size)) ∙ take_all some.at (events old ++ e ∷ []) (omega (arith, late, size))) some.left))
         ]
       ]
 

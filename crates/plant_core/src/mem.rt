@@ -9,7 +9,9 @@ ghost use Rattle.plant_core.specs.Stock.{Stock, slot_of, nothing, IsNothing};
 ghost use Rattle.plant_core.specs.Tapes.{records_at, total_of};
 ghost use Rattle.plant_core.specs.Past.{blank, after, MayLeave};
 
-use crate::event::{Event, keep, keep_block, keep_cut, keep_log_put, keep_log_replace, keep_mark, keep_tell};
+use crate::event::{
+    Event, keep, keep_block, keep_cut, keep_log_put, keep_log_replace, keep_mark, keep_tell,
+};
 use crate::fault::{Failed, Memory, PutFault};
 use crate::plant::Plant;
 use crate::record::{Block, Kind};
@@ -31,6 +33,7 @@ pub struct MemPlant {
     loaded: Option<u32>,
     log: Vec<u8>,
     past: Vec<Event>,
+    // For how many events of each kind room is kept: see `waiting`.
     cuts: usize,
     settles: usize,
     commits: usize,
@@ -225,7 +228,14 @@ impl Plant for MemPlant {
     {
         let slot = self.slot();
         let waiting = self.waiting();
-        match keep_block(self.alloc, &mut self.tapes, &mut self.past, slot, block, waiting) {
+        match keep_block(
+            self.alloc,
+            &mut self.tapes,
+            &mut self.past,
+            slot,
+            block,
+            waiting,
+        ) {
             Ok(()) => {
                 self.cuts += 1;
                 self.settles = 1;

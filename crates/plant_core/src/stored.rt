@@ -84,11 +84,7 @@ fn push_on(tape: &mut Vec<Stored>, stored: Stored) -> Result<(), AllocError>
 }
 
 /// Puts a record on a tape. On an error all tapes stay.
-pub fn push_in(
-    tapes: &mut Vec<Vec<Stored>>,
-    slot: usize,
-    stored: Stored,
-) -> Result<(), AllocError>
+pub fn push_in(tapes: &mut Vec<Vec<Stored>>, slot: usize, stored: Stored) -> Result<(), AllocError>
     requires { slot < vec_len tapes.old }
     ensures count { vec_len tapes.new ≡ vec_len tapes.old }
     ensures ok { OnOk result ((k : ℕ) → records_at tapes.new.items k ≡ (if k == slot then records_at tapes.old.items k ++ record_of stored ∷ [] else records_at tapes.old.items k)) }
