@@ -1,13 +1,13 @@
 -- Entries with one more behind them.
-use Rattle.std.proofs.Common.{◌≡◌, ℕ, ◌+◌, ◌-◌, ◌≤◌, List, [], ◌∷◌, ◌++◌, length, map, get_or, refl, sym, ap, subst, ◌∙◌, inl, inr, arith, length-append}
+use Rattle.std.proofs.Common.{◌≡◌, ℕ, ◌+◌, ◌-◌, ◌<◌, ◌≤◌, List, [], ◌∷◌, ◌++◌, length, map, take, drop, get_or, refl, sym, ap, subst, ◌∙◌, inl, inr, arith, length-append, length-take}
 use Rattle.std.specs.Prelude.{All, AllPairs, sum_by}
-use Rattle.std.proofs.lemmas.List.{get_or_append_left}
+use Rattle.std.proofs.lemmas.List.{get_or_append_left, take_more, take-append-drop}
 use Rattle.std.proofs.lemmas.List.Elements.{All-nil, All-push, All-head, All-drop, All-weaker, All-from_get_or}
 use Rattle.std.proofs.lemmas.List.Quantifiers.{all_pairs_push}
 use Rattle.std.proofs.lemmas.List.Sums.{sum_by-append}
 use Rattle.std.proofs.Math.Seq.{drop-append_seam}
 use Rattle.vnode_model.specs.declared.increments.Entry.{Entry}
-use Rattle.vnode_model.specs.Limits.{StandsBefore, IsFit, AreFit, number_of, data_len, all_data}
+use Rattle.vnode_model.specs.Limits.{StandsBefore, IsFit, AreFit, BreakAt, number_of, data_len, all_data}
 use Rattle.vnode_model.specs.Follows.{MayFollow, Stand}
 
 map_push : (es : List Entry) (e : Entry) → map number_of (es ++ e ∷ []) ≡ map number_of es ++ number_of e ∷ []
@@ -116,3 +116,29 @@ fit_front es rest h = record {
   each = All_front IsFit es rest h.each;
   small = omega (arith, sum_by-append data_len es rest, h.small);
 }
+
+-- ---- one more of the entries that a walk has left behind
+
+-- one entry further
+further : (es : List Entry) (at : ℕ) (e : Entry) → at < length es → e ≡ get_or es at e → take (at + 1) es ≡ take at es ++ e ∷ []
+further es at e lt is = take_more es at e lt ∙ ap (λ (x : Entry). take at es ++ x ∷ []) (sym is)
+
+module _ (es : List Entry) (at last room : ℕ) (e : Entry) (stand : Stand (take at es) last room) (lt : at < length es) (is : e ≡ get_or es at e) where
+  front_len : at ≡ length (take at es)
+  front_len = omega (arith, length-take at es)
+
+  pub breaks_here : (MayFollow at last room e → ⊥) → BreakAt es at
+  breaks_here not =
+      let here : AreFit (take (at + 1) es) → ⊥ = λ fit. not
+      (subst (λ (n : ℕ). MayFollow n last room e) (sym front_len)
+      (fit_follows (take at es) last room e stand (subst AreFit (further es at e lt is) fit))) in
+      record {
+        within = lt;
+        before = stand.fit;
+        here = here;
+        whole = λ fit. here (fit_front (take (at + 1) es) (drop (at + 1) es) (subst AreFit (sym (take-append-drop (at + 1) es)) fit));
+      }
+
+  pub stands_on : MayFollow at last room e → Stand (take (at + 1) es) (number_of e) (room - data_len e)
+  stands_on may =
+      rw (further es at e lt is) (pushed_stand (take at es) last room e stand (subst (λ (n : ℕ). MayFollow n last room e) front_len may))

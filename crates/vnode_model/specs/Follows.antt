@@ -3,6 +3,12 @@ use Rattle.std.specs.Prelude.{◌≡◌, ◌⊎◌, ◌↔◌, ℕ, ◌+◌, ◌
 use Rattle.vnode_model.specs.declared.increments.Entry.{Entry}
 use Rattle.vnode_model.specs.Limits.{StandsBefore, IsFit, AreFit, number_of, data_len, most_vnodes, all_data}
 
+-- a number that may follow so many others, the last of which is this one (0 stands for none)
+pub record NumberMayFollow (count last number : ℕ) : Type 0 where
+  pub few : count < most_vnodes
+  pub numbered : 1 ≤ number
+  pub ordered : (last ≡ 0) ⊎ StandsBefore last number
+
 -- an entry that may follow so many others, the last of which has this number (0 stands for none), where there is room
 -- for so much data
 pub record MayFollow (count last room : ℕ) (e : Entry) : Type 0 where

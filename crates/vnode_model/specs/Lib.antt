@@ -1,3 +1,6 @@
 pub mod Headers
 pub mod Limits
 pub mod Follows
+pub mod Volumes
+pub mod Increments
+pub mod EntryRefs

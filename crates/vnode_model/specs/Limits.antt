@@ -76,3 +76,7 @@ pub record BreakAt (entries : List Entry) (at : ℕ) : Type 0 where
   pub before : AreFit (take at entries)
   pub here : AreFit (take (at + 1) entries) → ⊥
   pub whole : AreFit entries → ⊥
+
+-- a volume's vnodes: the same of them as whole entries
+abbrev pub AreVolume : List Vnode → Type 0
+AreVolume vnodes = AreFit (map Whole vnodes)

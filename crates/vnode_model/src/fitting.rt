@@ -1,8 +1,9 @@
 //! Whether entries have the order, the parity and the limits.
 
-ghost use Rattle.std.specs.Prelude.{◌↔◌, IsTrue, MatchOption};
-ghost use Rattle.vnode_model.specs.Limits.{KindFits, AccessFits, IsFitVnode, IsFit, AreFit, BreakAt, number_of, data_len};
-ghost use Rattle.vnode_model.specs.Follows.{MayFollow};
+ghost use Rattle.std.specs.Prelude.{◌↔◌, IsTrue, MatchOption, map};
+ghost use Rattle.vnode_model.specs.Limits.{KindFits, AccessFits, IsFitVnode, IsFit, AreFit, AreVolume, BreakAt, number_of, data_len};
+ghost use Rattle.vnode_model.specs.Follows.{NumberMayFollow, MayFollow};
+ghost use Rattle.vnode_model.specs.declared.increments.Entry.TheVariants.{Whole};
 
 use crate::increments::Entry;
 use crate::vnodes::{Vnode, VnodeKind, stands_before};
@@ -66,16 +67,28 @@ impl Entry {
     }
 }
 
-/// Whether an entry may follow so many others, the last of which has this number, where there is room for so much data.
+/// Whether a number may follow so many others, the last of which is this one (0 stands for none).
+fn number_may_follow(count: usize, last: u32, number: u32) -> bool
+    ensures { IsTrue result ↔ NumberMayFollow count last number }
+{
+    count < 65_536 && number >= 1 && (last == 0 || stands_before(last, number))
+}
+
+/// Whether a vnode may follow so many others, the last of which has this number, where there is room for so much data.
+fn vnode_may_follow(count: usize, last: u32, room: usize, vnode: &Vnode) -> bool
+    ensures { IsTrue result ↔ MayFollow count last room (Whole vnode.now) }
+{
+    number_may_follow(count, last, vnode.number) && is_fit_vnode(vnode) && vnode.body.len() <= room
+}
+
+/// The same of an entry.
 fn may_follow(count: usize, last: u32, room: usize, entry: &Entry) -> bool
     ensures { IsTrue result ↔ MayFollow count last room entry.now }
 {
-    let number = entry.number();
-    count < 65_536
-        && number >= 1
-        && (last == 0 || stands_before(last, number))
-        && is_fit(entry)
-        && entry.data_len() <= room
+    match entry {
+        Entry::Whole(vnode) => vnode_may_follow(count, last, room, vnode),
+        Entry::Kept { number, .. } => number_may_follow(count, last, *number),
+    }
 }
 
 /// Where entries first break the order, the parity or the limits; `None` where they keep them.
@@ -90,6 +103,22 @@ pub fn fault_in(entries: &[Entry]) -> Option<usize>
         }
         last = entry.number();
         room -= entry.data_len();
+    }
+    None
+}
+
+/// Where vnodes, each of which stands whole, first break them; `None` where they keep them.
+pub fn fault_in_vnodes(vnodes: &[Vnode]) -> Option<usize>
+    ensures { MatchOption result (AreVolume vnodes.now) (λ at. BreakAt (map Whole vnodes.now) at) }
+{
+    let mut last = 0;
+    let mut room = 268_435_456;
+    for (at, vnode) in vnodes.iter().enumerate() {
+        if !vnode_may_follow(at, last, room, vnode) {
+            return Some(at);
+        }
+        last = vnode.number;
+        room -= vnode.body.len();
     }
     None
 }

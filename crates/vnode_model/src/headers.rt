@@ -4,6 +4,7 @@ ghost use Rattle.std.specs.Prelude.{◌≡◌, ◌↔◌, IsTrue};
 ghost use Rattle.vnode_model.specs.Headers.{IsMessage, IsVolHeader};
 
 use bk_text::{Bytes, Name};
+use std::alloc::AllocError;
 use std::marker::Model;
 
 /// The fields of a volume's header, in the order in which a dump stream has them. Times are seconds since 1970.
@@ -56,6 +57,29 @@ impl Model for VolHeader {
     ghost view = { λ a. a.fields };
 
     ghost invariant = { λ a. IsVolHeader a.fields };
+}
+
+impl Clone for HeaderFields {
+    ghost is_clone = { λ a b. b ≡ a };
+
+    fn clone(&self) -> Result<HeaderFields, AllocError> {
+        Ok(HeaderFields {
+            name: self.name.clone()?,
+            offline: self.offline.copy()?,
+            message: self.message.copy()?,
+            ..*self
+        })
+    }
+}
+
+impl Clone for VolHeader {
+    ghost is_clone = { λ a b. b ≡ a };
+
+    fn clone(&self) -> Result<VolHeader, AllocError> {
+        Ok(VolHeader {
+            fields: self.fields.clone()?,
+        })
+    }
 }
 
 fn is_message(text: &[u8]) -> bool

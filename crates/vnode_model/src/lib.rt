@@ -1,12 +1,20 @@
 //! Volumes and what a dump stream says of them: vnodes, the volume's header and increments.
 #![tactic(auto)]
 
+mod applying;
 mod fitting;
 mod headers;
 mod increments;
+mod listed;
+mod selecting;
 mod vnodes;
+mod volumes;
 
+pub use applying::ApplyFault;
 pub use fitting::fault_in;
 pub use headers::{HeaderFields, VolHeader};
 pub use increments::{Entry, Increment, IncrementFields};
+pub use listed::{EntryState, VolEntry};
+pub use selecting::{EntryRef, Memory, SelectIter, select, select_iter};
 pub use vnodes::{Vnode, VnodeKind, stands_before};
+pub use volumes::{Volume, VolumeFault, VolumeFields};

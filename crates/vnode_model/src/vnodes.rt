@@ -1,9 +1,10 @@
 //! Vnodes.
 
-ghost use Rattle.std.specs.Prelude.{◌↔◌, IsTrue};
+ghost use Rattle.std.specs.Prelude.{◌≡◌, ◌↔◌, IsTrue};
 ghost use Rattle.vnode_model.specs.Limits.{StandsBefore};
 
 use bk_text::Bytes;
+use std::alloc::AllocError;
 
 /// What a vnode is.
 #[derive(Clone, Copy, Debug, PartialEq, Eq)]
@@ -36,6 +37,17 @@ pub struct Vnode {
     pub access: [u8; 192],
     /// The data.
     pub body: Bytes,
+}
+
+impl Clone for Vnode {
+    ghost is_clone = { λ a b. b ≡ a };
+
+    fn clone(&self) -> Result<Vnode, AllocError> {
+        Ok(Vnode {
+            body: self.body.copy()?,
+            ..*self
+        })
+    }
 }
 
 /// Whether a vnode of the first number may stand before one of the second: directories, which have odd numbers, come
