@@ -437,6 +437,7 @@ same_increment : {dump_id dump_id2 : ℕ} {dump_name dump_name2 : List ℕ} {fro
 same_increment e0 e1 e2 e3 e4 e5 = cc
 
 pub written_spells : (i : IncrementFields) → Allowed i → Spells (written i) i
+unfolding written
 written_spells i h = record {
   dump = dump_fields i;
   header = header_fields i.header;

@@ -120,7 +120,8 @@ abbrev pub section_of : Entry → Section
 section_of (Whole v) = record { head = to_be_bytes w32 v.number ++ to_be_bytes w32 v.uniq; fields = vnode_fields v }
 section_of (Kept number uniq) = record { head = to_be_bytes w32 number ++ to_be_bytes w32 uniq; fields = [] }
 
-abbrev pub written : Increment → List ℕ
+-- This word is closed, so that a caller's proof sees a stream as one thing.
+unfoldable pub written : Increment → List ℕ
 written i =
     1 ∷ opening
     ++ flat_map spelled (dump_fields i)

@@ -24,9 +24,11 @@ mod writing;
 pub use feeding::{Fed, Reader};
 pub use prefixes::no_stream_begins_another;
 pub use reader::{StreamFault, read};
-pub use said::{is_allowed, said_is_allowed, written_is_a_stream, written_is_read};
+pub use said::{increment_is_allowed, said_is_allowed, written_is_a_stream, written_is_read};
 pub use writer::Writer;
 pub use writing::write;
 
 #[cfg(test)]
 mod tests;
+#[cfg(test)]
+mod writing_tests;

@@ -154,7 +154,7 @@ fn entries_are_allowed(entries: &[Entry])
 
 /// Every increment is one that its type allows. It is a law that takes the increment by reference: there is nothing to
 /// find out.
-pub fn is_allowed(increment: &Increment)
+pub fn increment_is_allowed(increment: &Increment)
     ensures { Allowed increment.now }
 {
     let fields = increment.fields();

@@ -11,6 +11,7 @@ abbrev headers_of : IncrementFields → List ℕ
 headers_of i = headers i.dump_id i.dump_name i.from i.to i.header
 
 pub returns-in_err-write_entries-clause-err : goal.returns-in_err-write_entries-clause-err
+unfolding written
 returns-in_err-write_entries-clause-err c =
     let i = c.args.increment.now in
     let old = c.args.out.now in
@@ -23,6 +24,7 @@ returns-in_err-write_entries-clause-err c =
     on_err c.from_residual-in_err-write_entries.result (HoldsFront old (written i) new) (front_first old (headers_of i ++ sections_of i.entries) (4 ∷ closing) new behind)
 
 pub returns-in_err-piece-2-clause-err : goal.returns-in_err-piece-2-clause-err
+unfolding written
 returns-in_err-piece-2-clause-err c =
     let i = c.args.increment.now in
     let old = c.args.out.now in
@@ -36,6 +38,7 @@ returns-in_err-piece-2-clause-err c =
     on_err c.from_residual-in_err-piece-2.result (HoldsFront old (written i) new) (front_behind old c.write_entries.new.out (headers_of i ++ sections_of i.entries) (4 ∷ closing) new upto none)
 
 pub returns-clause-ok : goal.returns-clause-ok
+unfolding written
 returns-clause-ok c =
     let i = c.args.increment.now in
     let old = c.args.out.now in

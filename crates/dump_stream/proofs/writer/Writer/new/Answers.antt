@@ -2,12 +2,14 @@ use Rattle.std.proofs.Common.{◌≡◌, ℕ, List, ◌∷◌, ◌++◌, map, ap
 use Rattle.vnode_model.specs.declared.headers.HeaderFields.{HeaderFields}
 use Rattle.vnode_model.specs.Increments.{entry_from}
 use Rattle.dump_stream.specs.Forms.{closing}
+use Rattle.dump_stream.specs.Written.{written}
 use Rattle.dump_stream.specs.Parts.{headers}
 use Rattle.dump_stream.proofs.PartLaws.{sections_of}
 use Rattle.dump_stream.proofs.LeftLaws.{begun}
 use Rattle.dump_stream.proofs.writer.Writer.new.Goals as goal
 
 pub returns : goal.returns
+unfolding written
 returns c =
     let v = c.args.volume in
     let header_is = c.header-header.ensures in
