@@ -11,8 +11,7 @@ ghost use Rattle.tape_config.specs.declared.config.ConfigFault.TheVariants.{Memo
 
 use crate::line::{DeviceLine, Line, read_line};
 use crate::port::Port;
-use bk_text::place_of;
-use bk_text::List;
+use bk_text::{List, place_of};
 use std::alloc::{AllocError, Global};
 use std::marker::Model;
 use thiserror::Error;
