@@ -10,6 +10,7 @@ pub enum OpenFault {
 }
 
 /// A plant that wasn't opened, with the media as the reading calls left it.
+#[derive(Drop)]
 pub struct Unopened<M> {
     pub fault: OpenFault,
     pub media: M,

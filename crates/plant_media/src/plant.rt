@@ -19,6 +19,7 @@ use plant_core::{Block, Failed, Kind, Plant, PutFault};
 
 /// A log, tapes and an output over a media. File 0 is the log's, file `k + 1` that of slot `k`. Of the tapes at most the
 /// loaded one's state is kept. No call takes memory.
+#[derive(Drop)]
 pub struct MediaPlant<M: Media> {
     media: M,
     journal: CrashLog,
