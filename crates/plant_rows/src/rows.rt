@@ -3,7 +3,7 @@ ghost use Rattle.std.specs.Prelude.{◌≡◌, ◌+◌, ◌^◌, ◌<◌, ◌≤
 ghost use Rattle.media_core.specs.Files.{IsFresh};
 
 use media_core::{Media, MemMedia, Pick};
-use plant_core::{Failed, Kind, Plant, is_whole};
+use plant_core::{Failed, Kind, MemPlant, Plant, is_whole};
 use plant_media::{MediaPlant, OpenFault};
 use std::alloc::Global;
 use std::test::Fail;
@@ -79,6 +79,7 @@ fn put<P: Plant>(plant: &mut P, byte: u8, marks: bool) -> Result<(), Failed>
 /// A block and a mark on the first tape, one block more, two bytes on the log, and then the second tape.
 fn script<P: Plant>(plant: &mut P) -> Result<(), Failed>
     requires { P.sound plant.old }
+    ensures sound { OnOk result (P.sound plant.new) }
 {
     load(plant, 0)?;
     put(plant, 5, false)?;
@@ -144,18 +145,46 @@ fn stopped(mut media: MemMedia, call: u64, pick: Pick) -> Result<(bool, [u8; 4],
 }
 
 #[test]
-fn a_stopped_script_leaves_settled_records(rt: HostRuntime) -> Result<(), Fail> {
-    for call in [0, 1, 3, 6, 9, 12, 15, 18, 21, 24, 27, 30, 99] {
-        for pick in [Pick::Old, Pick::New, Pick::Torn(1)] {
+fn a_script_stopped_at_each_call(rt: HostRuntime) -> Result<(), Fail> {
+    let mut ended = false;
+    for call in 0..60 {
+        for pick in [
+            Pick::Old,
+            Pick::New,
+            Pick::Torn(0),
+            Pick::Torn(1),
+            Pick::Torn(255),
+        ] {
             let media = media_with(rt.alloc(), 1, &[])?;
             let (done, records, log) = stopped(media, call, pick)?;
             let settled = records == [255; 4] || records == [5, 1, 255, 255];
             let all = records == [5, 1, 7, 255] && log == 2;
-            assert!(rt; settled || all, "at {call}");
-            assert_eq!(rt; done, call == 99, "at {call}");
-            assert!(rt; !done || all, "at {call}");
+            assert!(rt; all || settled && !done, "at {call}");
+            ended = done;
         }
     }
+    assert!(rt; ended);
+    Ok(())
+}
+
+/// What a plant answers to the script: the first records of both tapes, and the length of its log.
+fn answers<P: Plant>(plant: &mut P) -> Result<([u8; 4], [u8; 4], u64), Failed>
+    requires { P.sound plant.old }
+{
+    script(plant)?;
+    let first = four(plant, 0)?;
+    let second = four(plant, 1)?;
+    Ok((first, second, plant.log_len()))
+}
+
+#[test]
+fn both_plants_answer_alike(rt: HostRuntime) -> Result<(), Fail> {
+    let mut mem = MemPlant::new(rt.alloc(), 2)?;
+    let in_memory = answers(&mut mem)?;
+    let media = media_with(rt.alloc(), 1, &[])?;
+    let mut plant = opened(media)?;
+    assert!(rt; answers(&mut plant)? == in_memory);
+    assert!(rt; in_memory == ([5, 1, 7, 255], [255; 4], 2));
     Ok(())
 }
 
