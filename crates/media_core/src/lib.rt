@@ -15,5 +15,6 @@ mod source;
 pub use clock::{Clock, ClockMem};
 pub use media::{Failed, Media, Memory};
 pub use mem::MemMedia;
+pub use plan::{Plan, Turn};
 pub use replay::Pick;
 pub use source::{Source, SourceMem};

@@ -56,6 +56,14 @@ impl Volume {
         }
     }
 
+    /// The volume of these fields. `new` tests them.
+    pub fn from_fields(fields: VolumeFields) -> Self
+        requires { AreVolume fields.vnodes }
+        ensures { result ≡ fields }
+    {
+        Volume { fields }
+    }
+
     /// Its header.
     pub fn header(&self) -> &VolHeader
         ensures { result.now ≡ self.now.header }

@@ -1,0 +1,7 @@
+pub mod Orders
+pub mod Vnodes
+pub mod Volumes
+pub mod Cells
+pub mod Calls
+pub mod Answers
+pub mod Fairness

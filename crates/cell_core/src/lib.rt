@@ -1,0 +1,11 @@
+//! Cells: volumes in the order of their names, clones of them, and file servers that stamp each change. An implementation in
+//! memory stands beside the trait.
+#![tactic(auto)]
+
+mod cell;
+mod fault;
+mod stored;
+
+pub use cell::Cell;
+pub use fault::CellFault;
+pub use stored::{Image, Stored, Taken};
