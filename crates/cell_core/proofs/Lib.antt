@@ -1,0 +1,4 @@
+pub mod OrderLaws
+pub mod LookupLaws
+pub mod SearchLaws
+pub mod VnodeLaws

@@ -1,4 +1,5 @@
 pub mod Orders
+pub mod Places
 pub mod Vnodes
 pub mod Volumes
 pub mod Cells

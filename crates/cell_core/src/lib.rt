@@ -4,6 +4,7 @@
 
 mod cell;
 mod fault;
+mod places;
 mod stored;
 
 pub use cell::Cell;
