@@ -2,3 +2,4 @@ pub mod OrderLaws
 pub mod LookupLaws
 pub mod SearchLaws
 pub mod VnodeLaws
+pub mod ChangeLaws

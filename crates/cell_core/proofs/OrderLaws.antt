@@ -1,11 +1,13 @@
 -- Lists in the order of their keys.
-use Rattle.std.proofs.Common.{zero, suc, ◌≡◌, ◌≢◌, ◌⊎◌, ℕ, ◌<◌, ◌≤◌, Bool, true, false, cond, not, List, [], ◌∷◌, ◌++◌, length, take, drop, get_or, refl, sym, ◌∙◌, ap, subst, inl, inr, arith}
+use Rattle.std.proofs.Common.{zero, suc, ◌≡◌, ◌≢◌, ◌⊎◌, ℕ, ◌<◌, ◌≤◌, Bool, true, false, cond, not, List, [], ◌∷◌, ◌++◌, length, take, drop, get_or, set, refl, sym, ◌∙◌, ap, subst, inl, inr, arith}
 use Rattle.std.specs.Prelude.{filter, find, Option, Some, None, All, AllPairs}
 use Rattle.std.specs.declared.cmp.Ordering.{Ordering}
 use Rattle.std.specs.declared.cmp.Ordering.TheVariants.{Less, Equal, Greater}
 use Rattle.std.specs.Ordering.{is_lt, is_eq, is_gt, ordering_reverse, ordering_index}
 use Rattle.std.specs.Cmp.{IsTotalOrder}
 use Rattle.std.proofs.lemmas.Bool.{cond-true, cond-false}
+use Rattle.std.specs.List.{insert}
+use Rattle.std.proofs.lemmas.List.{set_split}
 use Rattle.std.proofs.lemmas.Cmp.{alike_right, tied_itself, tied_back}
 use Rattle.std.proofs.lemmas.List.Elements.{All-nil, All-cons, All-head, All-tail, All-append, All-weaker, All-filter, filter_passes}
 use Rattle.cell_core.specs.Orders.{AreAscending, of_key, before_key, behind_key, placed, without_key}
@@ -106,6 +108,7 @@ module _ {A K : Type 0} (order : K → K → Ordering) (key : A → K) (total : 
         ∙ filter_all (λ (a : A). is_gt (order (key a) k)) xs (All-weaker (λ (a : A). order (key a) k ≡ Greater) (λ (a : A). is_gt (order (key a) k) ≡ true) (λ a g. ap is_gt g) xs later);
         others = cond-false (not (is_eq (order (key x) k))) (x ∷ without_key order key k xs) (without_key order key k xs) (ap (λ (o : Ordering). not (is_eq o)) e)
         ∙ filter_all (λ (a : A). not (is_eq (order (key a) k))) xs (All-weaker (λ (a : A). order (key a) k ≡ Greater) (λ (a : A). not (is_eq (order (key a) k)) ≡ true) (λ a g. ap (λ (o : Ordering). not (is_eq o)) g) xs later);
+        key_is = h;
         there = λ d. cond-true (is_eq (order (key x) k)) (Some x) (of_key order key k xs) (ap is_eq e);
       }
   found_at k (x ∷ xs) (suc i) asc lt h =
@@ -117,6 +120,7 @@ module _ {A K : Type 0} (order : K → K → Ordering) (key : A → K) (total : 
         before = cond-true (is_lt (order (key x) k)) (x ∷ before_key order key k xs) (before_key order key k xs) (ap is_lt e) ∙ ap (λ (l : List A). x ∷ l) rest.before;
         behind = cond-false (is_gt (order (key x) k)) (x ∷ behind_key order key k xs) (behind_key order key k xs) (ap is_gt e) ∙ rest.behind;
         others = cond-true (not (is_eq (order (key x) k))) (x ∷ without_key order key k xs) (without_key order key k xs) (ap (λ (o : Ordering). not (is_eq o)) e) ∙ ap (λ (l : List A). x ∷ l) rest.others;
+        key_is = h;
         there = λ d. cond-false (is_eq (order (key x) k)) (Some x) (of_key order key k xs) (ap is_eq e) ∙ rest.there d;
       }
 
@@ -191,3 +195,16 @@ module _ {A K : Type 0} (order : K → K → Ordering) (key : A → K) (total : 
 
   pub without_all : (P : A → Type 0) (k : K) (xs : List A) → All P xs → All P (without_key order key k xs)
   without_all P k xs all = All-filter (λ (b : A). not (is_eq (order (key b) k))) P xs all
+
+-- ---- at a place that was found
+
+module _ {A K : Type 0} (order : K → K → Ordering) (key : A → K) where
+  pub placed_found : (k : K) (xs : List A) (i : ℕ) (a : A) → FoundAt order key k xs i → key a ≡ k → placed order key a xs ≡ set xs i a
+  placed_found k xs i a found same =
+      ap (λ (l : K). before_key order key l xs ++ a ∷ behind_key order key l xs) same
+      ∙ (ap (λ (l : List A). l ++ a ∷ behind_key order key k xs) found.before ∙ (ap (λ (l : List A). take i xs ++ a ∷ l) found.behind ∙ sym (set_split xs i a found.within)))
+
+  pub placed_free : (k : K) (xs : List A) (i : ℕ) (a : A) → FreeAt order key k xs i → key a ≡ k → placed order key a xs ≡ insert xs i a
+  placed_free k xs i a free same =
+      ap (λ (l : K). before_key order key l xs ++ a ∷ behind_key order key l xs) same
+      ∙ (ap (λ (l : List A). l ++ a ∷ behind_key order key k xs) free.before ∙ ap (λ (l : List A). take i xs ++ a ∷ l) free.behind)

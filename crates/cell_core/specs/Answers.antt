@@ -28,3 +28,10 @@ OnlyFromOutside result = IfErr result (λ e. (e ≡ Failed) ⊎ (e ≡ Memory))
 pub record HasCellCause {T : Type 0} (before now : ℕ) (result : Result T CellFault) : Type 0 where
   pub later : before ≤ now
   pub failed : result ≡ Err Failed → Rose before now
+
+-- what a part of the work leaves: the same, but for calls that fail, of anything that is changed
+abbrev pub Settles : {T : Type 0} → Result T CellFault → T → Result (Unit {0}) CellFault → T → Type 0
+Settles outcome old (Ok done) new = outcome ≡ Ok new
+Settles outcome old (Err Failed) new = ⊥
+Settles outcome old (Err Memory) new = new ≡ old
+Settles outcome old (Err fault) new = (outcome ≡ Err fault) × (new ≡ old)

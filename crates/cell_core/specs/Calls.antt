@@ -112,16 +112,24 @@ put_in cell server partition volume = put_where (stored_as volume.header.name ce
 abbrev pub with_volume : Stored → VolumeFields → Stored
 with_volume s volume = record s { image = Good volume }
 
-abbrev pub put_back : List Stored → Stored → Result VolumeFields CellFault → Result (List Stored) CellFault
-put_back cell s (Ok volume) = Ok (with_stored (with_volume s volume) cell)
-put_back cell s (Err fault) = Err fault
+abbrev pub changed_volume : Stored → Result VolumeFields CellFault → Result Stored CellFault
+changed_volume s (Ok volume) = Ok (with_volume s volume)
+changed_volume s (Err fault) = Err fault
 
-abbrev pub changed_image : Image → List Stored → Stored → (VolumeFields → Result VolumeFields CellFault) → Result (List Stored) CellFault
-changed_image (Good volume) cell s change = if volume.header.kind == 0 then put_back cell s (change volume) else Err NoVolume
-changed_image (Bad at) cell s change = Err (BadImage at)
+abbrev pub changed_image : Image → Stored → (VolumeFields → Result VolumeFields CellFault) → Result Stored CellFault
+changed_image (Good volume) s change = if volume.header.kind == 0 then changed_volume s (change volume) else Err NoVolume
+changed_image (Bad at) s change = Err (BadImage at)
+
+-- what stands under a name is changed so, where it is a read/write volume
+abbrev pub changed_stored : Stored → (VolumeFields → Result VolumeFields CellFault) → Result Stored CellFault
+changed_stored s change = changed_image s.image s change
+
+abbrev pub put_back : List Stored → Result Stored CellFault → Result (List Stored) CellFault
+put_back cell (Ok s) = Ok (with_stored s cell)
+put_back cell (Err fault) = Err fault
 
 abbrev pub changed_where : Option Stored → List Stored → (VolumeFields → Result VolumeFields CellFault) → Result (List Stored) CellFault
-changed_where (Some s) cell change = changed_image s.image cell s change
+changed_where (Some s) cell change = put_back cell (changed_stored s change)
 changed_where None cell change = Err NoVolume
 
 -- the read/write volume of a name is changed so

@@ -5,4 +5,5 @@ pub mod Volumes
 pub mod Cells
 pub mod Calls
 pub mod Answers
+pub mod Changing
 pub mod Fairness

@@ -3,9 +3,12 @@
 #![tactic(auto)]
 
 mod cell;
+mod changes;
 mod fault;
+mod lists;
 mod places;
 mod stored;
+mod vnodes;
 
 pub use cell::Cell;
 pub use fault::CellFault;
