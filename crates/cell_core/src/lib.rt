@@ -5,7 +5,9 @@
 mod cell;
 mod changes;
 mod fault;
+mod ids;
 mod lists;
+mod looking;
 mod places;
 mod stored;
 mod vnodes;

@@ -8,6 +8,7 @@ use crate::fitting::fault_in_vnodes;
 use crate::headers::VolHeader;
 use crate::vnodes::Vnode;
 use bk_text::List;
+use std::alloc::AllocError;
 use std::marker::Model;
 
 /// The fields of a volume.
@@ -39,6 +40,27 @@ impl Model for Volume {
     ghost view = { λ a. a.fields };
 
     ghost invariant = { λ a. AreVolume a.fields.vnodes };
+}
+
+impl Clone for VolumeFields {
+    ghost is_clone = { λ a b. b ≡ a };
+
+    fn clone(&self) -> Result<VolumeFields, AllocError> {
+        Ok(VolumeFields {
+            header: self.header.clone()?,
+            vnodes: self.vnodes.clone()?,
+        })
+    }
+}
+
+impl Clone for Volume {
+    ghost is_clone = { λ a b. b ≡ a };
+
+    fn clone(&self) -> Result<Volume, AllocError> {
+        Ok(Volume {
+            fields: self.fields.clone()?,
+        })
+    }
 }
 
 impl Volume {
