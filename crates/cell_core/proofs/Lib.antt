@@ -3,3 +3,5 @@ pub mod LookupLaws
 pub mod SearchLaws
 pub mod VnodeLaws
 pub mod ChangeLaws
+pub mod CellLaws
+pub mod CallLaws

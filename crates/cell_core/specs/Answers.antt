@@ -35,3 +35,9 @@ Settles outcome old (Ok done) new = outcome ≡ Ok new
 Settles outcome old (Err Failed) new = ⊥
 Settles outcome old (Err Memory) new = new ≡ old
 Settles outcome old (Err fault) new = (outcome ≡ Err fault) × (new ≡ old)
+
+abbrev pub SettlesNew : Result Created CellFault → List Stored → Result ℕ CellFault → List Stored → Type 0
+SettlesNew outcome old (Ok id) new = outcome ≡ Ok (record { id = id; list = new })
+SettlesNew outcome old (Err Failed) new = ⊥
+SettlesNew outcome old (Err Memory) new = new ≡ old
+SettlesNew outcome old (Err fault) new = (outcome ≡ Err fault) × (new ≡ old)

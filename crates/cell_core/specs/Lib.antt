@@ -6,4 +6,5 @@ pub mod Cells
 pub mod Calls
 pub mod Answers
 pub mod Changing
+pub mod Backups
 pub mod Fairness

@@ -55,6 +55,7 @@ fn write_there(
     ensures answer { (k : ℕ) → FoundAt number_order number_of_vnode k vnodes.old.items at → Settles (written_over (vnode_of k vnodes.old.items) (volume_from header.old vnodes.old.items) k body.now now) (volume_from header.old vnodes.old.items) result (volume_from header.new vnodes.new.items) }
     ensures volume { AreVolume vnodes.new.items }
     ensures header { IsVolHeader header.old → IsVolHeader header.new }
+    ensures name { header.new.name ≡ header.old.name }
 {
     let others = data_of(vnodes) - vnodes[at].body.len();
     if body.len() > MOST_DATA {
@@ -85,6 +86,7 @@ fn write_new(
     ensures answer { Settles (written_over None (volume_from header.old vnodes.old.items) number body.now now) (volume_from header.old vnodes.old.items) result (volume_from header.new vnodes.new.items) }
     ensures volume { AreVolume vnodes.new.items }
     ensures header { IsVolHeader header.old → IsVolHeader header.new }
+    ensures name { header.new.name ≡ header.old.name }
 {
     if header.uniq == u32::MAX || vnodes.len() >= MOST_VNODES {
         return Err(CellFault::TooLarge);
@@ -113,6 +115,7 @@ fn write_parts(
     ensures answer { Settles (written_volume number body.now now (volume_from header.old vnodes.old.items)) (volume_from header.old vnodes.old.items) result (volume_from header.new vnodes.new.items) }
     ensures volume { AreVolume vnodes.new.items }
     ensures header { IsVolHeader header.old → IsVolHeader header.new }
+    ensures name { header.new.name ≡ header.old.name }
 {
     if number == 0 {
         return Err(CellFault::TooLarge);
@@ -134,6 +137,7 @@ fn remove_parts(
     ensures answer { Settles (volume_without number now (volume_from header.old vnodes.old.items)) (volume_from header.old vnodes.old.items) result (volume_from header.new vnodes.new.items) }
     ensures volume { AreVolume vnodes.new.items }
     ensures header { IsVolHeader header.old → IsVolHeader header.new }
+    ensures name { header.new.name ≡ header.old.name }
 {
     match place_of_number(vnodes, number) {
         Ok(at) => {
@@ -157,6 +161,7 @@ fn change_parts(
     ensures answer { Settles (outcome_of change.entry now (volume_from header.old vnodes.old.items)) (volume_from header.old vnodes.old.items) result (volume_from header.new vnodes.new.items) }
     ensures volume { AreVolume vnodes.new.items }
     ensures header { IsVolHeader header.old → IsVolHeader header.new }
+    ensures name { header.new.name ≡ header.old.name }
 {
     match change {
         Change::Write { number, body } => write_parts(alloc, header, vnodes, number, body, now),
@@ -171,7 +176,9 @@ pub(crate) fn change_volume(
     change: Change<'_>,
     now: u32,
 ) -> (Volume, Result<(), CellFault>)
-    ensures { Settles (outcome_of change.entry now volume) volume result.1 result.0 }
+    ensures answer { Settles (outcome_of change.entry now volume) volume result.1 result.0 }
+    ensures form { AreVolume result.0.vnodes }
+    ensures name { result.0.header.name ≡ volume.header.name }
 {
     let VolumeFields { header, vnodes } = volume.into_fields();
     let mut header = header.into_fields();

@@ -2,6 +2,7 @@
 //! memory stands beside the trait.
 #![tactic(auto)]
 
+mod calls;
 mod cell;
 mod changes;
 mod fault;
@@ -10,7 +11,9 @@ mod lists;
 mod looking;
 mod places;
 mod stored;
+mod storing;
 mod vnodes;
+mod volumes;
 
 pub use cell::Cell;
 pub use fault::CellFault;
