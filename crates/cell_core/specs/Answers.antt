@@ -41,3 +41,10 @@ SettlesNew outcome old (Ok id) new = outcome ≡ Ok (record { id = id; list = ne
 SettlesNew outcome old (Err Failed) new = ⊥
 SettlesNew outcome old (Err Memory) new = new ≡ old
 SettlesNew outcome old (Err fault) new = (outcome ≡ Err fault) × (new ≡ old)
+
+-- what a part of the work gives, or why it gives nothing
+abbrev pub Gives : {T : Type 0} → Result T CellFault → Result T CellFault → Type 0
+Gives outcome (Ok given) = outcome ≡ Ok given
+Gives outcome (Err Failed) = ⊥
+Gives outcome (Err Memory) = Unit {0}
+Gives outcome (Err fault) = outcome ≡ Err fault

@@ -1,6 +1,5 @@
 -- What a copy for a backup volume is, or why there is none.
-use Rattle.std.specs.Prelude.{◌≡◌, ℕ, List, Option, Some, Result, Ok, Err, ⊤}
-use Rattle.vnode_model.specs.declared.volumes.VolumeFields.{VolumeFields}
+use Rattle.std.specs.Prelude.{ℕ, Bool, false, not, ◌==◌, Result, Ok, Err}
 use Rattle.cell_core.specs.declared.fault.CellFault.{CellFault}
 use Rattle.cell_core.specs.declared.fault.CellFault.TheVariants.{BadImage}
 use Rattle.cell_core.specs.declared.stored.Stored.{Stored}
@@ -24,3 +23,8 @@ stamped_image (Bad at) s now = s
 -- what is stored, with the backup date
 abbrev pub stamped : Stored → ℕ → Stored
 stamped s now = stamped_image s.image s now
+
+-- a volume that isn't read/write
+abbrev pub is_no_source : Image → Bool
+is_no_source (Good volume) = not (volume.header.kind == 0)
+is_no_source (Bad at) = false

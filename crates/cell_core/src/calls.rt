@@ -1,25 +1,22 @@
 //! What the calls make of a cell's list.
 
-ghost use Rattle.std.specs.Prelude.{◌≡◌, ◌<◌, ◌≤◌, ℕ, List, None, Some, IfOk, length, vec_len};
-ghost use Rattle.vnode_model.specs.declared.volumes.VolumeFields.{VolumeFields};
+ghost use Rattle.std.specs.Prelude.{◌≡◌, ℕ, List};
 ghost use Rattle.cell_core.specs.declared.stored.Stored.{Stored};
 ghost use Rattle.cell_core.specs.Places.{FoundAt, FreeAt};
-ghost use Rattle.cell_core.specs.Volumes.{backup_name, stamped_volume};
-ghost use Rattle.cell_core.specs.Cells.{IsCell, IsImageOf, name_order, name_of, stored_as, with_stored};
-ghost use Rattle.cell_core.specs.Calls.{put_in, created, changed_stored, changed, id_over, backup_id, backed_up, removed, with_volume};
+ghost use Rattle.cell_core.specs.Cells.{IsCell, IsImageOf, name_order, name_of};
+ghost use Rattle.cell_core.specs.Calls.{put_in, created, changed_stored, changed};
 ghost use Rattle.cell_core.specs.Answers.{Settles, SettlesNew};
 ghost use Rattle.cell_core.specs.Changing.{outcome_of};
-ghost use Rattle.cell_core.specs.Backups.{copied, stamped};
 
 use crate::changes::{Change, change_volume};
 use crate::fault::CellFault;
 use crate::ids::{free_id, is_full};
 use crate::places::place_of_name;
-use crate::storing::{is_of_kind, remove_backup, remove_named, store, store_new, store_over, stored_volume};
+use crate::storing::{store_new, store_over, stored_volume};
 use crate::stored::{Image, Stored};
-use crate::volumes::{backup_copy, backup_name, new_volume, stamped};
+use crate::volumes::new_volume;
 use bk_text::{Host, Name, Part};
-use std::alloc::{AllocError, Global};
+use std::alloc::Global;
 use std::mem;
 use vnode_model::Volume;
 

@@ -2,6 +2,7 @@
 //! memory stands beside the trait.
 #![tactic(auto)]
 
+mod backups;
 mod calls;
 mod cell;
 mod changes;
