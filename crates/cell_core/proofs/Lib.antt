@@ -5,3 +5,4 @@ pub mod VnodeLaws
 pub mod ChangeLaws
 pub mod CellLaws
 pub mod CallLaws
+pub mod FairLaws

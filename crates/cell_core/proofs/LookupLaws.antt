@@ -5,7 +5,8 @@ use Rattle.std.specs.declared.cmp.Ordering.{Ordering}
 use Rattle.std.specs.declared.cmp.Ordering.TheVariants.{Less, Equal, Greater}
 use Rattle.std.specs.Ordering.{is_lt, is_eq, is_gt}
 use Rattle.std.specs.Cmp.{IsTotalOrder}
-use Rattle.std.proofs.lemmas.Bool.{cond-true, cond-false, false_from_ne_true, true_from_ne_false, not-false, true≢false}
+use Rattle.std.proofs.lemmas.List.{get_or_default}
+use Rattle.std.proofs.lemmas.Bool.{cases_order, cond-true, cond-false, false_from_ne_true, true_from_ne_false, not-false, true≢false}
 use Rattle.std.proofs.lemmas.Option.{same_Some}
 use Rattle.std.proofs.lemmas.Cmp.{tied_itself, tied_back}
 use Rattle.std.proofs.lemmas.List.Elements.{Contains-append_cases}
@@ -87,6 +88,9 @@ gt_not_eq Less h = λ e. cc
 gt_not_eq Equal h = λ e. cc
 gt_not_eq Greater h = λ e. cc
 
+less_equal_apart : (o : Ordering) → o ≡ Less → o ≡ Equal → ⊥
+less_equal_apart o less same = let e : Less ≡ Equal = sym less ∙ same in cc
+
 module _ {A K : Type 0} (order : K → K → Ordering) (key : A → K) (total : IsTotalOrder order) where
   -- one of a list with one more placed is that one, or it was there and has another key
   pub contains_placed : (a : A) (xs : List A) (b : A) → Contains (placed order key a xs) b → (a ≡ b) ⊎ (Contains xs b × (order (key b) (key a) ≢ Equal))
@@ -155,3 +159,14 @@ module _ {A K : Type 0} (order : K → K → Ordering) (key : A → K) (total : 
   found_apart k other apart xs =
       find_in_filter (λ (b : A). is_eq (order (key b) k)) (λ (b : A). not (is_eq (order (key b) other)))
       (λ b t. true_from_ne_false (not (is_eq (order (key b) other))) (λ f. apart (sym (total.congr (key b) k other (from_eq (order (key b) k) t)) ∙ from_eq (order (key b) other) (not-false (is_eq (order (key b) other)) f)))) xs
+
+  -- one key, one of them
+  pub alone : (xs : List A) (a b : A) → AreAscending order key xs → Contains xs a → Contains xs b → order (key a) (key b) ≡ Equal → a ≡ b
+  alone xs a b asc (i, li, ia) (j, lj, jb) same =
+      let at_b : get_or xs j a ≡ b = get_or_default xs j a b lj ∙ jb in
+      let at_a : get_or xs i b ≡ a = get_or_default xs i b a li ∙ ia in
+      elim (cases_order i j) [
+        | inl e ↦ sym ia ∙ (ap (λ (n : ℕ). get_or xs n a) e ∙ at_b)
+        | inr (inl lt) ↦ absurd (let less : order (key a) (key b) ≡ Less = subst (λ (x : A). order (key x) (key b) ≡ Less) ia (subst (λ (y : A). order (key (get_or xs i a)) (key y) ≡ Less) at_b (asc i j a lt lj)) in less_equal_apart (order (key a) (key b)) less same)
+        | inr (inr gt) ↦ absurd (let less : order (key b) (key a) ≡ Less = subst (λ (x : A). order (key x) (key a) ≡ Less) jb (subst (λ (y : A). order (key (get_or xs j b)) (key y) ≡ Less) at_a (asc j i b gt li)) in less_equal_apart (order (key b) (key a)) less (tied_back total (key a) (key b) same))
+      ]
