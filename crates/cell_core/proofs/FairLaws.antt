@@ -35,7 +35,7 @@ found_with s cell name =
       | inr apart ↦ inr (found_beside name_order name_of nat_list_cmp_total name s apart cell)
     ]
 
-found_less : (other : List ℕ) (cell : List Stored) (name : List ℕ) → (stored_as name (without_stored other cell) ≡ None) ⊎ (stored_as name (without_stored other cell) ≡ stored_as name cell)
+pub found_less : (other : List ℕ) (cell : List Stored) (name : List ℕ) → (stored_as name (without_stored other cell) ≡ None) ⊎ (stored_as name (without_stored other cell) ≡ stored_as name cell)
 found_less other cell name =
     elim (is_equal (name_order name other)) [
       | inl same ↦ inl (ap (λ (n : List ℕ). stored_as n (without_stored other cell)) (same_name name other same) ∙ found_without name_order name_of nat_list_cmp_total other cell)

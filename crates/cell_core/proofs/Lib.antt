@@ -6,3 +6,4 @@ pub mod ChangeLaws
 pub mod CellLaws
 pub mod CallLaws
 pub mod FairLaws
+pub mod KeepLaws

@@ -8,6 +8,7 @@ mod cell;
 mod changes;
 mod fault;
 mod ids;
+mod keeping;
 mod lists;
 mod looking;
 mod places;
