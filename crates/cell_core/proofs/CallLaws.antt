@@ -90,4 +90,3 @@ backed_up_done cell new1 new2 name s id now copy there named id_is source h firs
     ∙ (ap (λ (o : Option ℕ). backed_up_image s.image o cell s now) id_is
     ∙ (done_image s.image cell s id now copy source h
     ∙ (ap (λ (l : List Stored). done_with (with_stored (stamped s now) l)) (sym first) ∙ ap done_with (sym (second s still)))))
-

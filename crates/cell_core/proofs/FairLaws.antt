@@ -146,13 +146,14 @@ module _ (cell : List Stored) (dumped : List Dumped) (time now : ℕ) (fair : Fa
       backup = λ t new b old ct ti tk cb bi bk bn. elim (contains_placed name_order name_of nat_list_cmp_total s' cell b cb) [
         | inl same_b ↦ absurd (kinds_apart w (change.kind ∙ kind) (ap (λ (x : VolumeFields). x.header.kind) (one_image s' b w old same_b s'_is bi) ∙ bk))
         | inr ob ↦ elim (contains_placed name_order name_of nat_list_cmp_total s' cell t ct) [
-            | inl same ↦
-                let h = fair.backup s v b old there s_is kind ob.0 bi bk (bn ∙ ap backup_name (sym (ap (λ (x : Stored). x.name) same) ∙ named)) in
-                (omega (arith, h.0, le),
+          | inl same ↦
+              let h = fair.backup s v b old there s_is kind ob.0 bi bk (bn ∙ ap backup_name (sym (ap (λ (x : Stored). x.name) same) ∙ named)) in (
+                omega (arith, h.0, le),
                 subst (λ (x : VolumeFields). IsFairTo x.header.created x old.header.created old) (one_image s' t w new same s'_is ti)
-                (subst (λ (n : ℕ). IsFairTo n w old.header.created old) (sym change.created) (fair_changed now v.header.created v w old old.header.created change (omega (arith, h.0, le)) h.1)))
-            | inr ot ↦ let h = fair.backup t new b old ot.0 ti tk ob.0 bi bk bn in (omega (arith, h.0, le), h.1)
-          ]
+                    (subst (λ (n : ℕ). IsFairTo n w old.header.created old) (sym change.created) (fair_changed now v.header.created v w old old.header.created change (omega (arith, h.0, le)) h.1)),
+              )
+          | inr ot ↦ let h = fair.backup t new b old ot.0 ti tk ob.0 bi bk bn in (omega (arith, h.0, le), h.1)
+        ]
       ];
     }
 
@@ -189,11 +190,11 @@ module _ (cell : List Stored) (dumped : List Dumped) (time now : ℕ) (fair : Fa
       backup = λ t new b old ct ti tk cb bi bk bn. elim (contains_placed name_order name_of nat_list_cmp_total s' cell b cb) [
         | inl same_b ↦ absurd (kinds_apart n kind (ap (λ (x : VolumeFields). x.header.kind) (one_image s' b n old same_b s'_is bi) ∙ bk))
         | inr ob ↦ elim (contains_placed name_order name_of nat_list_cmp_total s' cell t ct) [
-            | inl same ↦
-                let before = made_before b old ob.0 bi in
-                (before, subst (λ (x : VolumeFields). IsFairTo x.header.created x old.header.created old) (one_image s' t n new same s'_is ti) (inl (omega (arith, created, before))))
-            | inr ot ↦ let h = fair.backup t new b old ot.0 ti tk ob.0 bi bk bn in (omega (arith, h.0, le), h.1)
-          ]
+          | inl same ↦
+              let before = made_before b old ob.0 bi in
+              (before, subst (λ (x : VolumeFields). IsFairTo x.header.created x old.header.created old) (one_image s' t n new same s'_is ti) (inl (omega (arith, created, before))))
+          | inr ot ↦ let h = fair.backup t new b old ot.0 ti tk ob.0 bi bk bn in (omega (arith, h.0, le), h.1)
+        ]
       ];
     }
 
@@ -221,9 +222,9 @@ module _ (cell : List Stored) (dumped : List Dumped) (time now : ℕ) (fair : Fa
     copy_born =
         elim (base_of_backup s.name) [
           | inl base ↦ elim (found_with copy cell s.name) [
-              | inl f ↦ inr (omega (arith, by_base ∙ (ap (λ (m : List ℕ). birth_of (stored_as m (with_stored copy cell))) base ∙ (ap birth_of f ∙ copy_birth)), fits))
-              | inr f ↦ inl (by_base ∙ (ap (λ (m : List ℕ). birth_of (stored_as m (with_stored copy cell))) base ∙ (ap birth_of (f ∙ found) ∙ (ap birth_of_image s_is ∙ ap (λ (k : ℕ). cond (k == 0) v.header.created 4294967295) kind))))
-            ]
+            | inl f ↦ inr (omega (arith, by_base ∙ (ap (λ (m : List ℕ). birth_of (stored_as m (with_stored copy cell))) base ∙ (ap birth_of f ∙ copy_birth)), fits))
+            | inr f ↦ inl (by_base ∙ (ap (λ (m : List ℕ). birth_of (stored_as m (with_stored copy cell))) base ∙ (ap birth_of (f ∙ found) ∙ (ap birth_of_image s_is ∙ ap (λ (k : ℕ). cond (k == 0) v.header.created 4294967295) kind))))
+          ]
           | inr whole ↦
               let f : stored_as (backup_name s.name) (with_stored copy cell) ≡ Some copy = ap (λ (m : List ℕ). stored_as m (with_stored copy cell)) (sym copy_name) ∙ found_placed name_order name_of nat_list_cmp_total copy cell in
               inr (omega (arith, by_base ∙ (ap (λ (m : List ℕ). birth_of (stored_as m (with_stored copy cell))) whole ∙ (ap birth_of f ∙ copy_birth)), fits))
@@ -257,15 +258,17 @@ module _ (cell : List Stored) (dumped : List Dumped) (time now : ℕ) (fair : Fa
       backup = λ t new b old ct ti tk cb bi bk bn. elim (contains_placed name_order name_of nat_list_cmp_total copy cell t ct) [
         | inl same ↦ absurd (kinds_apart n (ap (λ (x : VolumeFields). x.header.kind) (one_image copy t n new same copy_is ti) ∙ tk) n_kind)
         | inr ot ↦ elim (contains_placed name_order name_of nat_list_cmp_total copy cell b cb) [
-            | inl same_b ↦
-                let e : n ≡ old = one_image copy b n old same_b copy_is bi in
-                let named : t.name ≡ s.name = append_cancel_right t.name s.name backup_ending (sym bn ∙ (sym (ap (λ (x : Stored). x.name) same_b) ∙ copy_name)) in
-                let same : v ≡ new = one_image s t v new (sym (one t ot.0 named)) s_is ti in
-                let created : old.header.created ≡ now = ap (λ (x : VolumeFields). x.header.created) (sym e) ∙ n_created in
-                (omega (arith, created), subst (λ (x : VolumeFields). IsFairTo x.header.created x old.header.created old) same
-                (inr (All-weaker (Contains v.vnodes) (λ (x : Vnode). x.server_modified < old.header.created → Contains old.vnodes x) (λ x h _. subst (λ (l : List Vnode). Contains l x) (sym n_vnodes ∙ ap (λ (y : VolumeFields). y.vnodes) e) h) v.vnodes (All-contains_itself v.vnodes))))
-            | inr ob ↦ let h = fair.backup t new b old ot.0 ti tk ob.0 bi bk bn in (omega (arith, h.0, le), h.1)
-          ]
+          | inl same_b ↦
+              let e : n ≡ old = one_image copy b n old same_b copy_is bi in
+              let named : t.name ≡ s.name = append_cancel_right t.name s.name backup_ending (sym bn ∙ (sym (ap (λ (x : Stored). x.name) same_b) ∙ copy_name)) in
+              let same : v ≡ new = one_image s t v new (sym (one t ot.0 named)) s_is ti in
+              let created : old.header.created ≡ now = ap (λ (x : VolumeFields). x.header.created) (sym e) ∙ n_created in (
+                omega (arith, created),
+                subst (λ (x : VolumeFields). IsFairTo x.header.created x old.header.created old) same
+                    (inr (All-weaker (Contains v.vnodes) (λ (x : Vnode). x.server_modified < old.header.created → Contains old.vnodes x) (λ x h _. subst (λ (l : List Vnode). Contains l x) (sym n_vnodes ∙ ap (λ (y : VolumeFields). y.vnodes) e) h) v.vnodes (All-contains_itself v.vnodes))),
+              )
+          | inr ob ↦ let h = fair.backup t new b old ot.0 ti tk ob.0 bi bk bn in (omega (arith, h.0, le), h.1)
+        ]
       ];
     }
 

@@ -320,7 +320,7 @@ module _ (cell : List Stored) (dumped : List Dumped) (time now : ℕ) where
   without_keeps : (name : List ℕ) → Fair cell dumped time → time ≤ now → now ≤ 4294967295 → Fair (without_stored name cell) dumped now
   without_keeps name fair le fits =
       less_fair cell dumped time now fair le (without_stored name cell) (λ t there. (contains_without name_order name_of nat_list_cmp_total name cell t there).0)
-      (λ n. elim (found_less name cell n) [ | inl none ↦ inr (ap birth_of none) | inr same ↦ inl (ap birth_of same) ]) fits
+      (λ n. elim (found_less name cell n) [ inl none ↦ inr (ap birth_of none) | inr same ↦ inl (ap birth_of same) ]) fits
 
   backup_less_keeps : (name : List ℕ) → Fair cell dumped time → time ≤ now → now ≤ 4294967295 → Fair (without_backup name cell) dumped now
   backup_less_keeps name fair le fits =

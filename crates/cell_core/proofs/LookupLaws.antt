@@ -27,9 +27,9 @@ contains_filter p [] a h = absurd (omega (arith, h.1))
 contains_filter {A = A} p (x ∷ xs) a h =
     elim (p x) as (λ b. p x ≡ b → Contains (cond b (x ∷ filter p xs) (filter p xs)) a → Contains (x ∷ xs) a × (p a ≡ true)) [
       | true ↦ λ e g. elim (contains_cons x (filter p xs) a g) [
-          | inl same ↦ ((0, omega arith, same), subst (λ (y : A). p y ≡ true) same e)
-          | inr there ↦ one_further p x xs a (contains_filter p xs a there)
-        ]
+        | inl same ↦ ((0, omega arith, same), subst (λ (y : A). p y ≡ true) same e)
+        | inr there ↦ one_further p x xs a (contains_filter p xs a there)
+      ]
       | false ↦ λ e g. one_further p x xs a (contains_filter p xs a g)
     ] refl h
 
@@ -98,9 +98,9 @@ module _ {A K : Type 0} (order : K → K → Ordering) (key : A → K) (total : 
       elim (Contains-append_cases (before_key order key (key a) xs) (a ∷ behind_key order key (key a) xs) b h) [
         | inl low ↦ let r = contains_filter (λ (c : A). is_lt (order (key c) (key a))) xs b low in inr (r.0, lt_not_eq (order (key b) (key a)) r.1)
         | inr high ↦ elim (contains_cons a (behind_key order key (key a) xs) b high) [
-            | inl same ↦ inl same
-            | inr there ↦ let r = contains_filter (λ (c : A). is_gt (order (key c) (key a))) xs b there in inr (r.0, gt_not_eq (order (key b) (key a)) r.1)
-          ]
+          | inl same ↦ inl same
+          | inr there ↦ let r = contains_filter (λ (c : A). is_gt (order (key c) (key a))) xs b there in inr (r.0, gt_not_eq (order (key b) (key a)) r.1)
+        ]
       ]
 
   pub contains_without : (k : K) (xs : List A) (b : A) → Contains (without_key order key k xs) b → Contains xs b × (order (key b) k ≢ Equal)

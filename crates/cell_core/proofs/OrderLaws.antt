@@ -103,11 +103,11 @@ module _ {A K : Type 0} (order : K → K → Ordering) (key : A → K) (total : 
       record {
         within = lt;
         before = cond-false (is_lt (order (key x) k)) (x ∷ before_key order key k xs) (before_key order key k xs) (ap is_lt e)
-        ∙ filter_none (λ (a : A). is_lt (order (key a) k)) xs (All-weaker (λ (a : A). order (key a) k ≡ Greater) (λ (a : A). is_lt (order (key a) k) ≡ false) (λ a g. ap is_lt g) xs later);
+            ∙ filter_none (λ (a : A). is_lt (order (key a) k)) xs (All-weaker (λ (a : A). order (key a) k ≡ Greater) (λ (a : A). is_lt (order (key a) k) ≡ false) (λ a g. ap is_lt g) xs later);
         behind = cond-false (is_gt (order (key x) k)) (x ∷ behind_key order key k xs) (behind_key order key k xs) (ap is_gt e)
-        ∙ filter_all (λ (a : A). is_gt (order (key a) k)) xs (All-weaker (λ (a : A). order (key a) k ≡ Greater) (λ (a : A). is_gt (order (key a) k) ≡ true) (λ a g. ap is_gt g) xs later);
+            ∙ filter_all (λ (a : A). is_gt (order (key a) k)) xs (All-weaker (λ (a : A). order (key a) k ≡ Greater) (λ (a : A). is_gt (order (key a) k) ≡ true) (λ a g. ap is_gt g) xs later);
         others = cond-false (not (is_eq (order (key x) k))) (x ∷ without_key order key k xs) (without_key order key k xs) (ap (λ (o : Ordering). not (is_eq o)) e)
-        ∙ filter_all (λ (a : A). not (is_eq (order (key a) k))) xs (All-weaker (λ (a : A). order (key a) k ≡ Greater) (λ (a : A). not (is_eq (order (key a) k)) ≡ true) (λ a g. ap (λ (o : Ordering). not (is_eq o)) g) xs later);
+            ∙ filter_all (λ (a : A). not (is_eq (order (key a) k))) xs (All-weaker (λ (a : A). order (key a) k ≡ Greater) (λ (a : A). not (is_eq (order (key a) k)) ≡ true) (λ a g. ap (λ (o : Ordering). not (is_eq o)) g) xs later);
         key_is = h;
         there = λ d. cond-true (is_eq (order (key x) k)) (Some x) (of_key order key k xs) (ap is_eq e);
       }

@@ -8,3 +8,5 @@ pub mod Answers
 pub mod Changing
 pub mod Backups
 pub mod Fairness
+pub mod Mem
+pub mod Props

@@ -39,13 +39,7 @@ fn backup_id(cell: &[Stored], name: &[u8]) -> Option<u32>
     }
     match place_of_name(cell, name) {
         Ok(at) => id_over(&cell[at].image, cell),
-        Err(_) => {
-            if is_full(cell) {
-                None
-            } else {
-                free_id(cell)
-            }
-        }
+        Err(_) => { if is_full(cell) { None } else { free_id(cell) } }
     }
 }
 

@@ -12,8 +12,8 @@ use crate::changes::{Change, change_volume};
 use crate::fault::CellFault;
 use crate::ids::{free_id, is_full};
 use crate::places::place_of_name;
-use crate::storing::{store_new, store_over, stored_volume};
 use crate::stored::{Image, Stored};
+use crate::storing::{store_new, store_over, stored_volume};
 use crate::volumes::new_volume;
 use bk_text::{Host, Name, Part};
 use std::alloc::Global;
@@ -128,7 +128,12 @@ pub(crate) fn create_in(
 }
 
 /// Changes a read/write volume; its image stays where that is refused.
-fn change_image(alloc: Global, image: &mut Image, change: Change<'_>, now: u32) -> Result<(), CellFault>
+fn change_image(
+    alloc: Global,
+    image: &mut Image,
+    change: Change<'_>,
+    now: u32,
+) -> Result<(), CellFault>
     ensures answer { (s : Stored) → s.image ≡ image.old → Settles (changed_stored s (outcome_of change.entry now)) s result (record s { image = image.new }) }
     ensures form { (name : List ℕ) → IsImageOf name image.old → IsImageOf name image.new }
 {

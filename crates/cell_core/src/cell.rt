@@ -63,7 +63,13 @@ pub trait Cell {
 
     /// Makes a read/write volume with one empty directory, and says its id. `VolumeExists` where the name is there, and
     /// `TooLarge` where no volume or no id is free.
-    fn create(&mut self, server: &Host, partition: &Part, name: &Name, now: u32) -> Result<u32, CellFault>
+    fn create(
+        &mut self,
+        server: &Host,
+        partition: &Part,
+        name: &Name,
+        now: u32,
+    ) -> Result<u32, CellFault>
         ensures answer { tells → Creates (created (list self.old) server.now partition.now name.now now) (list self.old) result (list self.new) }
         ensures fair { tells → (dumped : List Dumped) (time : ℕ) → Fair (list self.old) dumped time → time ≤ now → AreMadeBy now (list self.old) → Fair (list self.new) dumped now }
         ensures made { tells → (time : ℕ) → AreMadeBy time (list self.old) → now ≤ time → AreMadeBy time (list self.new) }

@@ -11,6 +11,7 @@ mod ids;
 mod keeping;
 mod lists;
 mod looking;
+mod mem;
 mod places;
 mod stored;
 mod storing;
@@ -19,4 +20,5 @@ mod volumes;
 
 pub use cell::Cell;
 pub use fault::CellFault;
+pub use mem::CellMem;
 pub use stored::{Image, Stored, Taken};

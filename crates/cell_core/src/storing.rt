@@ -24,7 +24,11 @@ pub(crate) fn is_of_kind(image: &Image, kind: u8) -> bool
 }
 
 /// A volume as it is stored.
-pub(crate) fn stored_volume(server: &Host, partition: &Part, volume: Volume) -> Result<Stored, AllocError>
+pub(crate) fn stored_volume(
+    server: &Host,
+    partition: &Part,
+    volume: Volume,
+) -> Result<Stored, AllocError>
     ensures value { IfOk result (λ stored. stored ≡ stored_volume server.now partition.now volume) }
     ensures form { IfOk result (λ stored. IsImageOf stored.name stored.image) }
 {

@@ -44,7 +44,12 @@ fn new_header(alloc: Global, id: u32, name: &Name, now: u32) -> Result<HeaderFie
 }
 
 /// A new read/write volume, with one empty directory.
-pub(crate) fn new_volume(alloc: Global, id: u32, name: &Name, now: u32) -> Result<Volume, AllocError>
+pub(crate) fn new_volume(
+    alloc: Global,
+    id: u32,
+    name: &Name,
+    now: u32,
+) -> Result<Volume, AllocError>
     ensures value { IfOk result (λ volume. volume ≡ new_volume id name.now now) }
     ensures form { IfOk result (λ volume. AreVolume volume.vnodes) }
 {
@@ -67,7 +72,12 @@ pub(crate) fn backup_name(alloc: Global, name: &[u8]) -> Result<Bytes, AllocErro
 }
 
 /// The copy of a volume under its backup volume's name.
-pub(crate) fn backup_copy(volume: &Volume, id: u32, name: Name, now: u32) -> Result<Volume, AllocError>
+pub(crate) fn backup_copy(
+    volume: &Volume,
+    id: u32,
+    name: Name,
+    now: u32,
+) -> Result<Volume, AllocError>
     requires { name ≡ backup_name volume.now.header.name }
     ensures value { IfOk result (λ copy. copy ≡ backup_copy id now volume.now) }
     ensures form { IfOk result (λ copy. AreVolume copy.vnodes) }
