@@ -7,3 +7,4 @@ pub mod CellLaws
 pub mod CallLaws
 pub mod FairLaws
 pub mod KeepLaws
+pub mod EntryLaws

@@ -22,3 +22,6 @@ pub use cell::Cell;
 pub use fault::CellFault;
 pub use mem::CellMem;
 pub use stored::{Image, Stored, Taken};
+
+#[cfg(test)]
+mod tests;
