@@ -1,0 +1,10 @@
+pub mod OrderLaws
+pub mod LookupLaws
+pub mod SearchLaws
+pub mod VnodeLaws
+pub mod ChangeLaws
+pub mod CellLaws
+pub mod CallLaws
+pub mod FairLaws
+pub mod KeepLaws
+pub mod EntryLaws
