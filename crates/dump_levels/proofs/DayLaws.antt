@@ -1,5 +1,5 @@
 -- The calendar's days are those of `jiff`.
-use Rattle.std.proofs.Common.{zero, suc, ℕ, ◌+◌, ◌-◌, ◌*◌, ◌≤◌, ◌<◌, ◌≡◌, ℤ, pos, refl, sym, ◌∙◌, ap, subst, arith, Bool, true, false}
+use Rattle.std.proofs.Common.{zero, suc, ℕ, ◌+◌, ◌-◌, ◌≤◌, ◌≡◌, pos, refl, sym, ◌∙◌, ap, subst, arith, Bool, true, false}
 use Rattle.std.specs.Prelude.{nat_lt, if◌then◌else◌}
 use Rattle.std.proofs.lemmas.Bool.{ltb-true, ltb-false}
 use Rattle.jiff_core.specs.Calendar.{day_count, days_from_civil, days_of_months as jiff_days_of_months}
@@ -7,7 +7,7 @@ use Rattle.jiff_core.proofs.CalendarLemmas.{day_count-epoch, day_count-next_year
 use Rattle.jiff_core.proofs.DateLemmas.{days_from_civil-day, days_from_civil-next_month, days_from_civil-next_year}
 use Rattle.jiff_core.proofs.SignedLemmas.{signed_arith}
 use Rattle.dump_levels.specs.declared.calendar.Day.{Day}
-use Rattle.dump_levels.specs.Calendar.{days_in_year, days_in_month, days_of_years, days_of_months, days_since, next_day, day_at}
+use Rattle.dump_levels.specs.Calendar.{days_in_month, days_of_years, days_of_months, days_since, next_day, day_at}
 
 months_same : (y m : ℕ) → jiff_days_of_months (pos y) m ≡ days_of_months y m
 unfolding jiff_days_of_months
@@ -67,11 +67,11 @@ at_next n d at = go (nat_lt d.day (days_in_month d.year d.month)) refl (nat_lt d
       day = omega arith;
       held = omega arith;
       count =
-        let december : d.month ≡ 12 = omega (arith, at.last, ltb-false d.month 12 last) in
-        let days : days_in_month d.year d.month ≡ 31 = ap (days_in_month d.year) december in
-        let end : d.day ≡ 31 = omega (arith, at.held, days, ltb-false d.day (days_in_month d.year d.month) above) in
-        let same : days_from_civil (pos d.year) 12 31 ≡ pos n = ap (λ (m : ℕ). days_from_civil (pos d.year) m 31) (sym december) ∙ ap (days_from_civil (pos d.year) d.month) (sym end) ∙ at.count in
-        omega (arith, signed_arith, same, days_from_civil-next_year (pos d.year) (pos (d.year + 1)) (omega (arith, signed_arith)) (omega (arith, signed_arith)));
+          let december : d.month ≡ 12 = omega (arith, at.last, ltb-false d.month 12 last) in
+          let days : days_in_month d.year d.month ≡ 31 = ap (days_in_month d.year) december in
+          let end : d.day ≡ 31 = omega (arith, at.held, days, ltb-false d.day (days_in_month d.year d.month) above) in
+          let same : days_from_civil (pos d.year) 12 31 ≡ pos n = ap (λ (m : ℕ). days_from_civil (pos d.year) m 31) (sym december) ∙ ap (days_from_civil (pos d.year) d.month) (sym end) ∙ at.count in
+          omega (arith, signed_arith, same, days_from_civil-next_year (pos d.year) (pos (d.year + 1)) (omega (arith, signed_arith)) (omega (arith, signed_arith)));
     }
 
 pub at_is : (n : ℕ) → IsAt n (day_at n)

@@ -1,5 +1,5 @@
 -- A moment so long after another, as `jiff` adds it.
-use Rattle.std.proofs.Common.{zero, suc, ℕ, ◌+◌, ◌-◌, ◌*◌, ◌/◌, ◌%◌, ◌^◌, ◌≤◌, ◌<◌, ◌≡◌, ℤ, pos, ◌+ℤ◌, ◌*ℤ◌, refl, sym, ◌∙◌, ap, subst, arith, false}
+use Rattle.std.proofs.Common.{zero, suc, ℕ, ◌+◌, ◌-◌, ◌*◌, ◌/◌, ◌%◌, ◌^◌, ◌≤◌, ◌<◌, ◌≡◌, ℤ, pos, sym, ◌∙◌, ap, arith, false}
 use Rattle.std.specs.Prelude.{min}
 use Rattle.std.specs.Int.{int_div_euclid}
 use Rattle.std.proofs.lemmas.Bool.{false_from_ne_true}
@@ -8,7 +8,7 @@ use Rattle.jiff_core.specs.declared.civil.datetime.DateTime.{DateTime}
 use Rattle.jiff_core.specs.declared.span.Span.{Span}
 use Rattle.jiff_core.specs.Calendar.{days_from_civil, days_in_month as jiff_days_in_month}
 use Rattle.jiff_core.specs.Date.{epoch_day}
-use Rattle.jiff_core.specs.DateTime.{civil_nanos, IsCivilNanos}
+use Rattle.jiff_core.specs.DateTime.{civil_nanos}
 use Rattle.jiff_core.specs.Span.{span_months, span_days, clock_nanos, total_magnitude, SetsUnit}
 use Rattle.jiff_core.specs.declared.unit.Unit.TheVariants.{Year, Month, Day as DayUnit}
 use Rattle.jiff_core.specs.Time.{time_nanos}
@@ -22,7 +22,7 @@ use Rattle.jiff_span.specs.Add.{datetime_add, CanAddToDateTime}
 use Rattle.jiff_span.specs.Months.{add_months, shifted_year, shifted_month}
 use Rattle.jiff_span.proofs.MonthLemmas.{shift_parts}
 use Rattle.dump_levels.specs.declared.calendar.Day.{Day}
-use Rattle.dump_levels.specs.Calendar.{days_in_year, days_in_month, days_of_years, days_of_months, days_since, day_at, months_after}
+use Rattle.dump_levels.specs.Calendar.{days_of_years, days_of_months, days_since, day_at, months_after}
 use Rattle.dump_levels.specs.Spans.{second_after}
 use Rattle.dump_levels.proofs.DayLaws.{IsAt, at_is, days_same}
 

@@ -103,7 +103,10 @@ fn spans_of_more_than_one_unit(rt: HostRuntime) {
         (0, (67, 11, 31), 2145916799),
     ];
     for (created, (years, months, days), second) in table {
-        assert!(rt; expires_at(created, span(years, months, days)) == second, "{created}");
+        assert!(rt;
+            expires_at(created, span(years, months, days)) == second,
+            "{created}"
+        );
     }
 }
 

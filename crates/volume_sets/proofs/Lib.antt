@@ -3,3 +3,4 @@ pub mod RestLaws
 pub mod ParseLaws
 pub mod MatchLaws
 pub mod RowLaws
+pub mod SetLaws

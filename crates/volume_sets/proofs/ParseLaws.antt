@@ -1,7 +1,7 @@
 -- A pattern byte by byte: a place of a text is told where the front before it begins a pattern.
-use Rattle.std.proofs.Common.{zero, suc, ◌≡◌, ◌≢◌, ℕ, ◌+◌, ◌<◌, ◌≤◌, List, [], ◌∷◌, ◌++◌, length, length-append, take, get_or, append_assoc, refl, sym, ◌∙◌, ap, subst, arith, lit<, Bool, true, false, ◌==◌}
+use Rattle.std.proofs.Common.{zero, suc, ◌≡◌, ℕ, ◌+◌, ◌<◌, ◌≤◌, List, [], ◌∷◌, ◌++◌, length, length-append, take, get_or, append_assoc, refl, sym, ◌∙◌, ap, subst, arith, lit<, Bool, true, false, ◌==◌}
 use Rattle.std.specs.Prelude.{if◌then◌else◌, nat_le, nat_lt, All, Option, Some, None, IfSome}
-use Rattle.std.proofs.lemmas.Bool.{ltb-true, leb-true, leb-false, le-leb, and_from, lt-ltb, false≢true, and_parts, cases_Bool}
+use Rattle.std.proofs.lemmas.Bool.{ltb-true, leb-true, leb-false, le-leb, and_from, lt-ltb, false≢true, and_parts}
 use Rattle.std.proofs.lemmas.List.{take_all, take_more, length-take-le, append-nil}
 use Rattle.std.proofs.lemmas.List.Elements.{All-get_or, All-more, All-append, All-cons, All-nil}
 use Rattle.std.proofs.Math.Seq.{get_or-append_seam}
@@ -274,13 +274,14 @@ pattern_a = whole_of (97 ∷ []) (omega arith) (omega arith) (one_byte 97 letter
 
 begun_some : (at : ℕ) (text : List ℕ) (state : State) → at ≤ length text → 0 < at → GoesPattern at text state → Begun IsPattern (take at text)
 begun_some at text state within some so_far =
-    let (e, count, each) = shortest_is state so_far.known in
-    (shortest state,
-     whole_of (take at text ++ shortest state)
-       (omega (arith, length-append (take at text) (shortest state), length-take-le at text within))
-       (omega (arith, length-append (take at text) (shortest state), length-take-le at text within, count, so_far.room))
-       (All-append IsPatternByte (take at text) (shortest state) so_far.each each)
-       (so_far.goes (shortest state) ∙ e))
+    let (e, count, each) = shortest_is state so_far.known in (
+      shortest state,
+      whole_of (take at text ++ shortest state)
+          (omega (arith, length-append (take at text) (shortest state), length-take-le at text within))
+          (omega (arith, length-append (take at text) (shortest state), length-take-le at text within, count, so_far.room))
+          (All-append IsPatternByte (take at text) (shortest state) so_far.each each)
+          (so_far.goes (shortest state) ∙ e),
+    )
 
 begun : (at : ℕ) (text : List ℕ) (state : State) → at ≤ length text → GoesPattern at text state → Begun IsPattern (take at text)
 begun zero text state within so_far = (97 ∷ [], pattern_a)

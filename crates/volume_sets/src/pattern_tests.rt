@@ -102,7 +102,10 @@ fn places_near_the_limit(rt: HostRuntime) {
         (124, b"[a-\\".as_slice(), Some(127)),
     ];
     for (count, text, at) in table {
-        assert!(rt; place_behind(rt.alloc(), count, text) == at, "{count} {text:?}");
+        assert!(rt;
+            place_behind(rt.alloc(), count, text) == at,
+            "{count} {text:?}"
+        );
     }
 }
 
@@ -117,9 +120,21 @@ fn matched(alloc: Global, text: &[u8], name: &[u8]) -> Option<bool> {
 #[test]
 fn matches(rt: HostRuntime) {
     let table: [(&[u8], &[u8], bool); 24] = [
-        (b"user\\..*\\.backup".as_slice(), b"user.a.backup".as_slice(), true),
-        (b"user\\..*\\.backup".as_slice(), b"userXa.backup".as_slice(), false),
-        (b"user\\..*\\.backup".as_slice(), b"user.a".as_slice(), false),
+        (
+            b"user\\..*\\.backup".as_slice(),
+            b"user.a.backup".as_slice(),
+            true,
+        ),
+        (
+            b"user\\..*\\.backup".as_slice(),
+            b"userXa.backup".as_slice(),
+            false,
+        ),
+        (
+            b"user\\..*\\.backup".as_slice(),
+            b"user.a".as_slice(),
+            false,
+        ),
         (b".*".as_slice(), b"".as_slice(), true),
         (b".".as_slice(), b"".as_slice(), false),
         (b"a*".as_slice(), b"aaab".as_slice(), false),
@@ -143,13 +158,17 @@ fn matches(rt: HostRuntime) {
         (b"a+".as_slice(), b"aa".as_slice(), false),
     ];
     for (text, name, wanted) in table {
-        assert!(rt; matched(rt.alloc(), text, name) == Some(wanted), "{text:?} {name:?}");
+        assert!(rt;
+            matched(rt.alloc(), text, name) == Some(wanted),
+            "{text:?} {name:?}"
+        );
     }
 }
 
 #[test]
 fn many_stars_end(rt: HostRuntime) {
-    let pattern = b"a*a*a*a*a*a*a*a*a*a*a*a*a*a*a*a*a*a*a*a*a*a*a*a*a*a*a*a*a*a*a*a*a*a*a*a*a*a*a*a*a*a*a*a*a*a*a*a*a*a*a*a*a*a*a*a*a*a*a*a*a*a*a*b".as_slice();
+    let pattern =
+        b"a*a*a*a*a*a*a*a*a*a*a*a*a*a*a*a*a*a*a*a*a*a*a*a*a*a*a*a*a*a*a*a*a*a*a*a*a*a*a*a*a*a*a*a*a*a*a*a*a*a*a*a*a*a*a*a*a*a*a*a*a*a*a*b".as_slice();
     let name = b"aaaaaaaaaaaaaaaaaaaaaaaaaaaaaaa".as_slice();
     assert!(rt; matched(rt.alloc(), pattern, name) == Some(false));
     assert!(rt; matched(rt.alloc(), pattern, b"aaaaaaaaaaaaaaaaaaaaaaaaaaaaaab") == Some(true));
