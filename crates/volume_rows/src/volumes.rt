@@ -1,10 +1,10 @@
 //! Which vnodes are refused, and where; the latest time of a volume.
 
-use crate::rows::{Row, header_from, vnode_from, vnodes_from, volume_from};
-use bk_text::{Host, List, Name, Part};
+use crate::rows::{Row, has, header_from, vnode_from, vnodes_from, volume_from};
+use bk_text::List;
 use std::alloc::{AllocError, Global};
 use std::test::Fail;
-use vnode_model::{EntryState, VnodeKind, VolEntry, Volume, VolumeFault};
+use vnode_model::{VnodeKind, Volume, VolumeFault};
 
 const FILE: VnodeKind = VnodeKind::File;
 
@@ -21,55 +21,57 @@ fn refusal(alloc: Global, rows: &[Row]) -> Result<Option<usize>, AllocError> {
     }
 }
 
+/// Vnodes, and where they are refused.
+const ORDERS: [(&'static [Row], Option<usize>); 12] = [
+    (&[], None),
+    (&[(1, 1, DIRECTORY, 0, b"")], None),
+    // directories come first; the numbers of files may be smaller
+    (
+        &[
+            (1, 1, DIRECTORY, 0, b""),
+            (9, 2, DIRECTORY, 0, b""),
+            (2, 3, FILE, 0, b"a"),
+            (6, 4, LINK, 0, b"b"),
+        ],
+        None,
+    ),
+    // number 0
+    (&[(0, 1, FILE, 0, b"")], Some(0)),
+    // a number twice
+    (
+        &[(1, 1, DIRECTORY, 0, b""), (1, 2, DIRECTORY, 0, b"")],
+        Some(1),
+    ),
+    (
+        &[
+            (1, 1, DIRECTORY, 0, b""),
+            (2, 1, FILE, 0, b""),
+            (2, 2, FILE, 0, b""),
+        ],
+        Some(2),
+    ),
+    // a directory behind a file
+    (&[(2, 1, FILE, 0, b""), (3, 2, DIRECTORY, 0, b"")], Some(1)),
+    // a file behind a greater one
+    (&[(4, 1, FILE, 0, b""), (2, 2, FILE, 0, b"")], Some(1)),
+    // the wrong parity
+    (&[(2, 1, DIRECTORY, 0, b"")], Some(0)),
+    (&[(1, 1, FILE, 0, b"")], Some(0)),
+    (&[(2, 1, FILE, 0, b""), (5, 2, LINK, 0, b"")], Some(1)),
+    // the first of two
+    (
+        &[
+            (3, 1, DIRECTORY, 0, b""),
+            (1, 2, DIRECTORY, 0, b""),
+            (1, 3, DIRECTORY, 0, b""),
+        ],
+        Some(1),
+    ),
+];
+
 #[test]
 fn order_and_parity(rt: HostRuntime) -> Result<(), Fail> {
-    let table: [(&[Row], Option<usize>); 12] = [
-        (&[], None),
-        (&[(1, 1, DIRECTORY, 0, b"")], None),
-        // directories come first; the numbers of files may be smaller
-        (
-            &[
-                (1, 1, DIRECTORY, 0, b""),
-                (9, 2, DIRECTORY, 0, b""),
-                (2, 3, FILE, 0, b"a"),
-                (6, 4, LINK, 0, b"b"),
-            ],
-            None,
-        ),
-        // number 0
-        (&[(0, 1, FILE, 0, b"")], Some(0)),
-        // a number twice
-        (
-            &[(1, 1, DIRECTORY, 0, b""), (1, 2, DIRECTORY, 0, b"")],
-            Some(1),
-        ),
-        (
-            &[
-                (1, 1, DIRECTORY, 0, b""),
-                (2, 1, FILE, 0, b""),
-                (2, 2, FILE, 0, b""),
-            ],
-            Some(2),
-        ),
-        // a directory behind a file
-        (&[(2, 1, FILE, 0, b""), (3, 2, DIRECTORY, 0, b"")], Some(1)),
-        // a file behind a greater one
-        (&[(4, 1, FILE, 0, b""), (2, 2, FILE, 0, b"")], Some(1)),
-        // the wrong parity
-        (&[(2, 1, DIRECTORY, 0, b"")], Some(0)),
-        (&[(1, 1, FILE, 0, b"")], Some(0)),
-        (&[(2, 1, FILE, 0, b""), (5, 2, LINK, 0, b"")], Some(1)),
-        // the first of two
-        (
-            &[
-                (3, 1, DIRECTORY, 0, b""),
-                (1, 2, DIRECTORY, 0, b""),
-                (1, 3, DIRECTORY, 0, b""),
-            ],
-            Some(1),
-        ),
-    ];
-    for (index, (rows, at)) in table.iter().enumerate() {
+    for (index, (rows, at)) in ORDERS.iter().enumerate() {
         assert_eq!(rt; refusal(rt.alloc(), rows)?, *at, "row {index}");
     }
     Ok(())
@@ -90,21 +92,23 @@ fn access_lists(rt: HostRuntime) -> Result<(), Fail> {
     Ok(())
 }
 
+/// Vnodes of a volume that was created at 1000, and its latest time.
+const LATEST: [(&'static [Row], u32); 3] = [
+    (&[], 1000),
+    (&[(1, 1, DIRECTORY, 999, b"")], 1000),
+    (
+        &[
+            (1, 1, DIRECTORY, 1001, b""),
+            (2, 1, FILE, 2002, b""),
+            (4, 1, FILE, 1500, b""),
+        ],
+        2002,
+    ),
+];
+
 #[test]
 fn latest_times(rt: HostRuntime) -> Result<(), Fail> {
-    let table: [(&[Row], u32); 3] = [
-        (&[], 1000),
-        (&[(1, 1, DIRECTORY, 999, b"")], 1000),
-        (
-            &[
-                (1, 1, DIRECTORY, 1001, b""),
-                (2, 1, FILE, 2002, b""),
-                (4, 1, FILE, 1500, b""),
-            ],
-            2002,
-        ),
-    ];
-    for (rows, latest) in table {
+    for (rows, latest) in LATEST {
         assert_eq!(rt; volume_from(rt.alloc(), 1, rows)?.latest(), latest);
     }
     Ok(())
@@ -112,11 +116,11 @@ fn latest_times(rt: HostRuntime) -> Result<(), Fail> {
 
 #[test]
 fn fields_of_a_volume(rt: HostRuntime) -> Result<(), Fail> {
-    let volume = volume_from(rt.alloc(), 7, &[(1, 5, DIRECTORY, 0, b"")])?;
-    assert_eq!(rt; volume.header().fields().id, 7);
-    assert_eq!(rt; volume.vnodes().len(), 1);
+    let rows: [Row; 2] = [(1, 5, DIRECTORY, 3, b""), (2, 6, FILE, 4, b"hi")];
+    let volume = volume_from(rt.alloc(), 7, &rows)?;
+    assert!(rt; has(&volume.clone()?, 7, &rows));
     let fields = volume.into_fields();
     assert_eq!(rt; fields.header.fields().id, 7);
-    assert_eq!(rt; fields.vnodes.len(), 1);
+    assert_eq!(rt; fields.vnodes.len(), 2);
     Ok(())
 }
