@@ -9,12 +9,7 @@ use crate::words::{Alphabet, is_allowed, may_stand};
 
 /// Where the front of a text of so many bytes stops being 1 to `most` bytes of an alphabet; `None` where some such text
 /// begins with it. It takes no memory.
-pub fn fault_in_stated(
-    alphabet: Alphabet,
-    most: usize,
-    count: usize,
-    front: &[u8],
-) -> Option<usize>
+pub fn fault_in_stated(alphabet: Alphabet, most: usize, count: usize, front: &[u8]) -> Option<usize>
     requires some { 0 < count }
     requires most { count ≤ most }
     requires within { length front.now ≤ count }
@@ -35,9 +30,7 @@ fn may_follow_before(in_element: usize, left: usize, byte: u8) -> bool
     if byte == b'/' {
         in_element > 0 && left > 0
     } else {
-        in_element < 28
-            && (in_element != 27 || left != 1)
-            && is_allowed(Alphabet::AnyFirst, byte)
+        in_element < 28 && (in_element != 27 || left != 1) && is_allowed(Alphabet::AnyFirst, byte)
     }
 }
 
