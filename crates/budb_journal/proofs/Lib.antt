@@ -1,0 +1,9 @@
+pub mod Bases
+pub mod Puts
+pub mod FormatLaws
+pub mod Leaves
+pub mod Layouts
+pub mod ChangeKinds
+pub mod Logs
+pub mod Folds
+mod FoldRows

@@ -1,0 +1,108 @@
+//! Logs that were worked out by hand, and logs that go wrong at one byte.
+
+use crate::{Change, ChangeFault, decode, encode};
+use bk_text::Out;
+use std::alloc::Global;
+
+/// Where bytes are refused; `None` where they are those of changes that are written as the same bytes.
+fn place(alloc: Global, bytes: &[u8]) -> Option<u64> {
+    let changes = match decode(alloc, bytes) {
+        Ok(changes) => changes,
+        Err(ChangeFault::BadChange { at }) => return Some(at),
+        Err(ChangeFault::Memory) => return Some(u64::MAX),
+    };
+    let mut out = Out::new(alloc);
+    match encode(alloc, changes.as_slice(), &mut out) {
+        Ok(()) => {}
+        Err(_) => return Some(u64::MAX),
+    }
+    if out.as_slice() == bytes {
+        None
+    } else {
+        Some(u64::MAX)
+    }
+}
+
+#[test]
+fn each_kind(rt: HostRuntime) {
+    let alloc = rt.alloc();
+    let rows: [&[u8]; 19] = [
+        b"",
+        b"\x08\x02th\0\0\x01\x05users\x03\x05users\0\0\0\x08user\\..*",
+        b"\x01\x01a",
+        b"\x02\x01a",
+        b"\x03\x01a\x03fs1\x06vicepa\0\x01.",
+        b"\x04\x01a\0\0\0\x01",
+        b"\x05\0\x05/full\x00",
+        b"\x05\0\x05/full\x01",
+        b"\x06\0\x05/full\x02\0\0\0\x09",
+        b"\x06\0\x05/full\x03\0\x01\0\x02\0\x03",
+        b"\x07\0\x05/full",
+        b"\x08\x02th\xff\xff",
+        b"\x09\0\x01",
+        b"\x0a\0\0\x07\xd0",
+        b"\x0b\0\0\x07\xd0",
+        b"\x0c\0\0\x07\xd0\0\0\x07\xd0\0\0\0\0\0\0\0\0\x05users\0\x05/full\x0ausers.full\0\x01\0\0\0\x01\0\0\0\x02\0\0\0\x06\0\0\0\x03\0\0\0\x01\x06user.a\x20\0\0\0\x03fs1\x06vicepa\0\0\x07\xd0\0\0\0\0\0\x01\0\0\0\x01\0\0\0\x03",
+        b"\x0d\0\0\x07\xd0",
+        b"\x0e\0\0\0\0\0\0\0\0\0\0\0\0\0\0\0\0\x01a\0\x02/a\x01b\0\0\0\0\0\0",
+        b"\x0a\0\0\x07\xd0\x0b\0\0\x07\xd0",
+    ];
+    for row in rows {
+        assert_eq!(rt; place(alloc, row), None);
+    }
+}
+
+#[test]
+fn refusals(rt: HostRuntime) {
+    let alloc = rt.alloc();
+    let rows: [(&[u8], u64); 26] = [
+        (b"\0", 0),
+        (b"\x0f", 0),
+        (b"\x01", 1),
+        (b"\x01\0", 1),
+        (b"\x01\x20", 1),
+        (b"\x01\x05u", 3),
+        (b"\x01\x05us.", 4),
+        (b"\x01\x02-a", 2),
+        (b"\x01\x01a\x0f", 3),
+        (b"\x03\x01a\x40", 3),
+        (b"\x03\x01a\0\x20", 4),
+        (b"\x03\x01a\0\0\x01", 5),
+        (b"\x03\x01a\0\0\0\0", 6),
+        (b"\x03\x01a\0\0\0\x81", 6),
+        (b"\x03\x01a\0\0\0\x02a ", 8),
+        (b"\x05\0\x01", 2),
+        (b"\x05\x02", 1),
+        (b"\x05\x01\x01", 2),
+        (b"\x05\0\x03/a/", 5),
+        (b"\x05\0\x1e/abcdefghijklmnopqrstuvwxyzabc", 31),
+        (b"\x05\0\x05/full\x04", 8),
+        (b"\x05\0\x05/fu", 6),
+        (b"\x0a\0\0\0", 4),
+        (b"\x0c\0\0\0\0\0\0\0\0\0\0\0\0\0\0\0\0\x01a\0\x02/a\x46", 23),
+        (
+            b"\x0e\0\0\0\0\0\0\0\0\0\0\0\0\0\0\0\0\x01a\0\x02/a\x01b\0\0\xff\xff\xff\xff",
+            31,
+        ),
+        (
+            b"\x0e\0\0\0\0\0\0\0\0\0\0\0\0\0\0\0\0\x01a\0\x02/a\x01b\0\0\0\0\0\x01\x01a\0\0\0\0\x01a\x01a\0\0\0\0\0\0\0\0\0\0",
+            50,
+        ),
+    ];
+    for (row, want) in rows {
+        assert_eq!(rt; place(alloc, row), Some(want));
+    }
+}
+
+#[test]
+fn a_begin(rt: HostRuntime) {
+    let alloc = rt.alloc();
+    let id = match decode(alloc, b"\x0a\0\0\x07\xd0") {
+        Ok(mut changes) => match changes.pop() {
+            Some(Change::Begin { id }) => Some(id),
+            _ => None,
+        },
+        Err(_) => None,
+    };
+    assert_eq!(rt; id, Some(2000));
+}
