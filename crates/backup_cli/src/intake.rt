@@ -9,15 +9,19 @@ use crate::examined::Examined;
 use crate::judged::Judged;
 use dump_stream::{Fed, Reader, StreamFault};
 use std::alloc::Global;
+use thiserror::Error;
 
 /// Why an input wasn't read to its end.
-#[derive(Clone, Copy, Debug, PartialEq, Eq)]
+#[derive(Clone, Copy, Debug, PartialEq, Eq, Drop, Error)]
 pub enum ReadStop {
     /// A read failed.
+    #[error("a read failed")]
     Failed,
     /// More bytes came than an input may have.
+    #[error("the input is too long")]
     TooLong,
     /// Memory was refused.
+    #[error("memory was refused")]
     Memory,
 }
 

@@ -12,14 +12,17 @@ use crate::lines::{line_of_bad, line_of_cut, line_of_entry, line_of_volume};
 use bk_text::Bytes;
 use media_core::{Failed, Media};
 use std::alloc::{AllocError, Global};
+use thiserror::Error;
 use vnode_model::{Entry, Increment};
 
 /// Why not all lines were told.
-#[derive(Clone, Copy, Debug, PartialEq, Eq)]
+#[derive(Clone, Copy, Debug, PartialEq, Eq, Drop, Error)]
 pub enum TellStop {
     /// The output took no more.
+    #[error("the output took no more")]
     Refused,
     /// Memory was refused.
+    #[error("memory was refused")]
     Memory,
 }
 

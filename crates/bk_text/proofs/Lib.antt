@@ -5,3 +5,4 @@ pub mod LevelLaws
 pub mod LevelParts
 mod PatternRows
 mod WordLaws
+pub mod StatedLaws

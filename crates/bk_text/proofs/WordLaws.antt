@@ -6,7 +6,7 @@ use Rattle.bk_text.specs.Places.{Begun, FailsAt}
 use Rattle.bk_text.specs.Alphabets.{IsNameByte}
 use Rattle.bk_text.specs.Words.{Allowed, AllowedFirst, IsWordOf, MayStand}
 use Rattle.bk_text.specs.declared.words.Alphabet.{Alphabet}
-use Rattle.bk_text.specs.declared.words.Alphabet.TheVariants.{Plain, NoPeriod, AnyFirst}
+use Rattle.bk_text.specs.declared.words.Alphabet.TheVariants.{Plain, NoPeriod, AnyFirst, Printable}
 use Rattle.bk_text.proofs.Fails.{whole_begun, stops_at, ends_early}
 use Rattle.std.proofs.Common.{lit<}
 use Rattle.std.specs.Prelude.{All}
@@ -15,15 +15,17 @@ use Rattle.std.specs.Prelude.{All}
 a_plain : IsNameByte 97
 a_plain = (lit< tt, lit< tt, λ (e : 97 ≡ 47). omega arith)
 
-a_allowed : (alphabet : Alphabet) → Allowed alphabet 97
+pub a_allowed : (alphabet : Alphabet) → Allowed alphabet 97
 a_allowed Plain = a_plain
 a_allowed NoPeriod = (a_plain, λ (e : 97 ≡ 46). omega arith)
 a_allowed AnyFirst = a_plain
+a_allowed Printable = (lit< tt, lit< tt)
 
-a_first : (alphabet : Alphabet) → AllowedFirst alphabet 97
+pub a_first : (alphabet : Alphabet) → AllowedFirst alphabet 97
 a_first Plain = λ (e : 97 ≡ 45). omega arith
 a_first NoPeriod = λ (e : 97 ≡ 45). omega arith
 a_first AnyFirst = tt
+a_first Printable = tt
 
 a_word : (alphabet : Alphabet) (most : ℕ) → 0 < most → IsWordOf alphabet most (97 ∷ [])
 a_word alphabet most some = record {

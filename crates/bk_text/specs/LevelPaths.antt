@@ -32,3 +32,8 @@ IsLastSlash text at = (elements : List (List ℕ)) (last : List ℕ) → IsPathO
 -- for one byte behind it, or one more byte of the element.
 abbrev pub MayFollow : ℕ → ℕ → ℕ → Type 0
 MayFollow count at b = ((b ≡ 47) × (0 < count) × (at < 255)) ⊎ (IsNameByte b × (count < 28) × (at < 256))
+
+-- A byte that may follow in a path of a stated length, where the element there has so many bytes so far and so many
+-- bytes stand behind this one.
+abbrev pub MayFollowBefore : ℕ → ℕ → ℕ → Type 0
+MayFollowBefore count left b = ((b ≡ 47) × (0 < count) × (0 < left)) ⊎ (IsNameByte b × (count < 28) × (count ≡ 27 → left ≡ 1 → ⊥))

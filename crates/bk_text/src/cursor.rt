@@ -5,9 +5,11 @@ ghost use Rattle.std.specs.Int.{w16, w32, w64};
 ghost use Rattle.bk_text.specs.Fields.{Reading, Took, TookNumber, Lacks};
 
 use std::marker::Model;
+use thiserror::Error;
 
 /// Fewer bytes are left than were asked for. `at` is the length of all the bytes.
-#[derive(Clone, Copy, Debug, PartialEq, Eq)]
+#[derive(Clone, Copy, Debug, PartialEq, Eq, Drop, Error)]
+#[error("the input ends at byte {at}")]
 pub struct Short {
     pub at: usize,
 }

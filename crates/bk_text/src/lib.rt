@@ -13,6 +13,7 @@ mod name;
 mod out;
 mod part;
 mod set_name;
+mod stated;
 mod tape_name;
 mod texts;
 mod words;
@@ -28,8 +29,10 @@ pub use name::Name;
 pub use out::Out;
 pub use part::Part;
 pub use set_name::SetName;
+pub use stated::{fault_in_stated, fault_in_stated_path};
 pub use tape_name::TapeName;
 pub use texts::TextFault;
+pub use words::{Alphabet, fault_in};
 
 #[cfg(test)]
 mod level_tests;

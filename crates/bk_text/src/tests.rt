@@ -1,8 +1,9 @@
 //! Each text at its limits, and fields written and read again.
 
 use crate::{
-    Bytes, Cursor, Expiry, Host, List, Name, Out, Part, SetName, Short, TapeName, TextFault,
-    capped_number, digits_in, place_of, split_word,
+    Alphabet, Bytes, Cursor, Expiry, Host, List, Name, Out, Part, SetName, Short, TapeName,
+    TextFault, capped_number, digits_in, fault_in_stated, fault_in_stated_path, place_of,
+    split_word,
 };
 use std::alloc::{AllocError, Global};
 use std::test::Fail;
@@ -183,4 +184,12 @@ fn words_and_numbers_of_a_text(rt: HostRuntime) {
     assert_eq!(rt; digits_in(b"0012", 1, 4), Some(12));
     assert_eq!(rt; digits_in(b"12345", 1, 4), None);
     assert_eq!(rt; capped_number(b"99999999999"), Some(10_000_000_000));
+}
+
+#[test]
+fn texts_of_a_stated_length(rt: HostRuntime) {
+    assert_eq!(rt; fault_in_stated(Alphabet::Plain, 31, 3, b"a/"), Some(1));
+    assert_eq!(rt; fault_in_stated(Alphabet::Plain, 31, 3, b"ab"), None);
+    assert_eq!(rt; fault_in_stated_path(3, b"/a/"), Some(2));
+    assert_eq!(rt; fault_in_stated_path(4, b"/a/"), None);
 }

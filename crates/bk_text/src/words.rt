@@ -13,15 +13,19 @@ pub enum Alphabet {
     NoPeriod,
     /// Those of a name, and any of them at the front.
     AnyFirst,
+    /// Each byte of 33 to 126.
+    Printable,
 }
 
+/// Whether a text of the alphabet may have this byte behind its first one.
 pub fn is_allowed(alphabet: Alphabet, byte: u8) -> bool
     ensures { IsTrue result ↔ Allowed alphabet byte }
 {
-    let plain = 32 < byte && byte < 127 && byte != b'/';
+    let printable = 32 < byte && byte < 127;
     match alphabet {
-        Alphabet::Plain | Alphabet::AnyFirst => plain,
-        Alphabet::NoPeriod => plain && byte != b'.',
+        Alphabet::Plain | Alphabet::AnyFirst => printable && byte != b'/',
+        Alphabet::NoPeriod => printable && byte != b'/' && byte != b'.',
+        Alphabet::Printable => printable,
     }
 }
 
@@ -30,12 +34,12 @@ fn is_allowed_first(alphabet: Alphabet, byte: u8) -> bool
 {
     match alphabet {
         Alphabet::Plain | Alphabet::NoPeriod => byte != b'-',
-        Alphabet::AnyFirst => true,
+        Alphabet::AnyFirst | Alphabet::Printable => true,
     }
 }
 
 /// Whether a byte may stand at this place of a text of at most so many bytes.
-fn may_stand(alphabet: Alphabet, most: usize, at: usize, byte: u8) -> bool
+pub fn may_stand(alphabet: Alphabet, most: usize, at: usize, byte: u8) -> bool
     ensures { IsTrue result ↔ MayStand alphabet most at byte }
 {
     at < most && is_allowed(alphabet, byte) && (at > 0 || is_allowed_first(alphabet, byte))

@@ -92,7 +92,7 @@ fits_has_log Stale moments seen log media fits a was =
 -- nothing was done
 pub fits_idle : {D : Type 0} (moments : Moments D Image) (seen : D → Image) (log : LogState) (media : D) → Fits moments seen log media → Leads moments media media (AtFile log.file (HasLog (settled_bytes log ((seen media).file log.file))))
 fits_idle moments seen log media fits = weakened moments media media (λ a b. b ≡ a) (AtFile log.file (HasLog (settled_bytes log ((seen media).file log.file)))) (stays moments media) (λ a c was same.
-    subst (AtFile log.file (HasLog (settled_bytes log ((seen media).file log.file))) a) (sym same) (record { here = fits_has_log log.needs moments seen log media fits a was; others = λ k ne. refl; told = refl }))
+    subst (AtFile log.file (HasLog (settled_bytes log ((seen media).file log.file))) a) (sym same) (record { here = record { bytes = fits_has_log log.needs moments seen log media fits a was; whole = λ whole. whole }; others = λ k ne. refl; told = refl }))
 
 -- what was put behind the log
 pub put_grown : (log : LogState) (n : ℕ) (old new bytes : List ℕ) → span log.start (log.size + log.more) new ≡ put_bytes log old → span (log.start + (log.size + log.more)) n new ≡ bytes → span log.start (log.size + (log.more + n)) new ≡ put_bytes log old ++ bytes

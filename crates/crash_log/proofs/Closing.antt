@@ -4,13 +4,13 @@ use Rattle.crash_moments.specs.Moments.{Moments, Leads}
 use Rattle.crash_moments.proofs.Joining.{weakened, stays}
 use Rattle.media_core.specs.Media.{Image, Torn, AtFile, Holds}
 use Rattle.media_core.specs.Kept.{written_torn}
-use Rattle.crash_log.specs.Log.{gate_at, HasLog}
+use Rattle.crash_log.specs.Log.{gate_at, log_of, is_damaged, HasLog}
 use Rattle.crash_log.specs.State.{base_of, other_of, place_in, settled_bytes}
 use Rattle.crash_log.specs.Fit.{Stands, Yields, Other, IsReady, IsStill, SameBehind}
 use Rattle.crash_log.specs.Turn.{IsClosed}
 use Rattle.crash_log.specs.declared.state.LogState.{LogState}
 use Rattle.crash_log.proofs.Spans.{written_span, same_behind}
-use Rattle.crash_log.proofs.Slots.{Apart, IsOther, stands_log, stands_apart, gate_torn, shut_false}
+use Rattle.crash_log.proofs.Slots.{Apart, IsOther, stands_log, stands_whole, stands_apart, gate_torn, shut_false}
 
 pub apart_of : (second : Bool) → Apart (if second then 4096 else 0) (if second then 0 else 4096)
 apart_of true = record { bases = inr (refl, refl) }
@@ -34,8 +34,11 @@ module _ {D : Type 0} (moments : Moments D Image) (seen : D → Image) (log : Lo
   settled = settled_bytes log before
 
   -- an image at the entry
-  pub ready_log : (a : Image) → moments.may_leave old a → HasLog settled (a.file log.file) (a.file log.file)
+  pub ready_log : (a : Image) → moments.may_leave old a → log_of (a.file log.file) ≡ settled
   ready_log a was = stands_log (base_of log) (other_of log) (apart log) (place_in log) settled (a.file log.file) ready.fine (ready.stands a was) (is_other log.other_open (other_of log) log.turn (a.file log.file) (ready.other a was))
+
+  pub ready_whole : (a : Image) → moments.may_leave old a → is_damaged (a.file log.file) ≡ false
+  ready_whole a was = stands_whole (base_of log) (other_of log) (apart log) (place_in log) settled (a.file log.file) ready.fine (ready.stands a was)
 
   pub older : log.other_open ≡ true → (a : Image) → moments.may_leave old a → Yields (other_of log) log.turn (a.file log.file)
   older is_open a was = subst (λ (b : Bool). Other b (other_of log) log.turn (a.file log.file)) is_open (ready.other a was)
@@ -49,8 +52,11 @@ module _ {D : Type 0} (moments : Moments D Image) (seen : D → Image) (log : Lo
   -- while the gate is written
   pub closing : log.other_open ≡ true → (mid : D) → Leads moments old mid (AtFile log.file (Torn (other_of log) 1)) → Leads moments old mid (AtFile log.file (HasLog settled))
   closing is_open mid leads = weakened moments old mid (AtFile log.file (Torn (other_of log) 1)) (AtFile log.file (HasLog settled)) leads (λ a c was step. record {
-    here = stands_log (base_of log) (other_of log) (apart log) (place_in log) settled (c.file log.file) ready.fine (still (a.file log.file) (c.file log.file) step.here (ready.stands a was))
-        (gate_torn (other_of log) log.turn (a.file log.file) (c.file log.file) step.here (older is_open a was));
+    here = record {
+      bytes = stands_log (base_of log) (other_of log) (apart log) (place_in log) settled (c.file log.file) ready.fine (still (a.file log.file) (c.file log.file) step.here (ready.stands a was))
+          (gate_torn (other_of log) log.turn (a.file log.file) (c.file log.file) step.here (older is_open a was));
+      whole = λ _. stands_whole (base_of log) (other_of log) (apart log) (place_in log) settled (c.file log.file) ready.fine (still (a.file log.file) (c.file log.file) step.here (ready.stands a was));
+    };
     others = step.others;
     told = step.told;
   })
@@ -58,7 +64,7 @@ module _ {D : Type 0} (moments : Moments D Image) (seen : D → Image) (log : Lo
   -- where there is nothing to close
   pub idle : Leads moments old old (AtFile log.file (HasLog settled))
   idle = weakened moments old old (λ a b. b ≡ a) (AtFile log.file (HasLog settled)) (stays moments old) (λ a c was same.
-      subst (AtFile log.file (HasLog settled) a) (sym same) (record { here = ready_log a was; others = λ k ne. refl; told = refl }))
+      subst (AtFile log.file (HasLog settled) a) (sym same) (record { here = record { bytes = ready_log a was; whole = λ whole. whole }; others = λ k ne. refl; told = refl }))
 
   pub idle_closed : log.other_open ≡ false → IsClosed moments seen log old
   idle_closed is_shut = record { fine = ready.fine; put = ready.put; stands = ready.stands; shut = shut is_shut }

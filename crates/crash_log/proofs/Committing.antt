@@ -18,13 +18,16 @@ at_weaker f R T a b first weaker = record { here = weaker first.here; others = f
 
 module _ {D : Type 0} (moments : Moments D Image) (f : ℕ) (log put : List ℕ) (old mid new : D) where
   pub before_put : Leads moments old mid (AtFile f (HasLog log)) → Leads moments old mid (AtFile f (HasOneOf log put))
-  before_put leads = weakened moments old mid (AtFile f (HasLog log)) (AtFile f (HasOneOf log put)) leads (λ a b was step. at_weaker f (HasLog log) (HasOneOf log put) a b step (λ is. inl is))
+  before_put leads = weakened moments old mid (AtFile f (HasLog log)) (AtFile f (HasOneOf log put)) leads (λ a b was step. at_weaker f (HasLog log) (HasOneOf log put) a b step (λ is. record { bytes = inl is.bytes; whole = is.whole }))
 
   pub still_before : (log' : List ℕ) → log' ≡ log → Leads moments old mid (AtFile f (HasLog log)) → Leads moments mid new (AtFile f (HasLog log')) → Leads moments old new (AtFile f (HasLog log))
   still_before log' same first second = joined moments old mid new (AtFile f (HasLog log)) (AtFile f (HasLog log')) (AtFile f (HasLog log)) first second
-      (λ a b was step. step) (λ a b c was step left next. at_both f (HasLog log) (HasLog log') (HasLog log) a b c step next (λ x y. y ∙ same))
+      (λ a b was step. step) (λ a b c was step left next. at_both f (HasLog log) (HasLog log') (HasLog log) a b c step next (λ x y. record { bytes = y.bytes ∙ same; whole = λ was. y.whole (x.whole was) }))
 
   pub either_log : (log' put' : List ℕ) → log' ≡ log → put' ≡ put → Leads moments old mid (AtFile f (HasLog log)) → Leads moments mid new (AtFile f (HasOneOf log' put')) → Leads moments old new (AtFile f (HasOneOf log put))
   either_log log' put' same same_put first second = joined moments old mid new (AtFile f (HasLog log)) (AtFile f (HasOneOf log' put')) (AtFile f (HasOneOf log put)) first second
-      (λ a b was step. at_weaker f (HasLog log) (HasOneOf log put) a b step (λ is. inl is))
-      (λ a b c was step left next. at_both f (HasLog log) (HasOneOf log' put') (HasOneOf log put) a b c step next (λ x y. ⊎_elim (λ l. inl (l ∙ same)) (λ p. inr (p ∙ same_put)) y))
+      (λ a b was step. at_weaker f (HasLog log) (HasOneOf log put) a b step (λ is. record { bytes = inl is.bytes; whole = is.whole }))
+      (λ a b c was step left next. at_both f (HasLog log) (HasOneOf log' put') (HasOneOf log put) a b c step next (λ x y. record {
+        bytes = ⊎_elim (λ l. inl (l ∙ same)) (λ p. inr (p ∙ same_put)) y.bytes;
+        whole = λ was. y.whole (x.whole was);
+      }))

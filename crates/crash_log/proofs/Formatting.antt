@@ -1,5 +1,5 @@
 -- A blank file and a damaged one are formatted: at each moment their log is empty.
-use Rattle.std.proofs.Common.{◌≡◌, ◌≢◌, ◌⊎◌, inl, inr, ℕ, zero, suc, ◌+◌, ◌<◌, ◌≤◌, lit≤, false, List, [], ◌∷◌, ◌++◌, length, drop, refl, sym, ◌∙◌, ap, subst, arith, slice_index, length-drop}
+use Rattle.std.proofs.Common.{◌≡◌, ◌≢◌, ◌⊎◌, inl, inr, ℕ, zero, suc, ◌+◌, ◌<◌, ◌≤◌, lit≤, true, false, List, [], ◌∷◌, ◌++◌, length, drop, refl, sym, ◌∙◌, ap, subst, arith, slice_index, length-drop}
 use Rattle.std.proofs.lemmas.Bool.{cases_lt, cases_eq}
 use Rattle.std.proofs.lemmas.Bool.Decides.{nat_tests}
 use Rattle.std.proofs.lemmas.List.{length-take}
@@ -7,14 +7,14 @@ use Rattle.crash_moments.specs.Moments.{Moments, Leads}
 use Rattle.crash_moments.proofs.Joining.{weakened, joined, stays}
 use Rattle.media_core.specs.Media.{Image, Torn, AtFile, Holds, written}
 use Rattle.media_core.specs.Kept.{written_torn}
-use Rattle.crash_log.specs.Log.{span, place_of, IsFine, gate_at, place_at, is_good, log_of, HasLog}
+use Rattle.crash_log.specs.Log.{span, place_of, IsFine, gate_at, place_at, is_good, log_of, is_damaged, HasLog}
 use Rattle.crash_log.specs.State.{settled_bytes, empty_state}
 use Rattle.crash_log.specs.Fit.{Stands, IsReady, IsStill, SameLog}
 use Rattle.crash_log.specs.Format.{first_place, IsFront, HasNoGood, IsShut, IsPlaced, IsFormatted, Has}
 use Rattle.crash_log.specs.declared.state.LogState.{LogState}
 use Rattle.crash_log.specs.declared.state.Needs.{Needs}
 use Rattle.crash_log.proofs.Spans.{torn_span, written_span}
-use Rattle.crash_log.proofs.Slots.{Apart, stands_log, none_good, shut_false, gate_torn_bad, bad_apart}
+use Rattle.crash_log.proofs.Slots.{Apart, stands_log, stands_whole, short_whole, none_good, shut_false, gate_torn_bad, bad_apart}
 
 -- a file shorter than the slots has no good one
 short_bad : (base : ℕ) (file : List ℕ) → length file < 8192 → is_good base file ≡ false
@@ -34,6 +34,13 @@ first_stands file long gate place = record { gate = gate; place = place; bytes =
 
 pub formatted_log : (file : List ℕ) → IsFormatted file → log_of file ≡ []
 formatted_log file is = stands_log 0 4096 first_apart first_place [] file first_fine (first_stands file is.long is.gate is.place) (inl (shut_false 4096 file is.other))
+
+pub formatted_whole : (file : List ℕ) → IsFormatted file → is_damaged file ≡ false
+formatted_whole file is = stands_whole 0 4096 first_apart first_place [] file first_fine (first_stands file is.long is.gate is.place)
+
+-- a file without a good slot is damaged
+pub none_damaged : (file : List ℕ) → 8192 ≤ length file → is_good 0 file ≡ false → is_good 4096 file ≡ false → is_damaged file ≡ true
+none_damaged file long first second = grind (arith, nat_tests)
 
 gate_kept : (at n base : ℕ) (old new : List ℕ) → Torn at n old new → (base + 1 ≤ at) ⊎ (at + n ≤ base) → gate_at base new ≡ gate_at base old
 gate_kept at n base old new torn away = ap (λ (l : List ℕ). slice_index l 0) (torn_span at n base 1 old new torn away)
@@ -59,6 +66,12 @@ end_torn old c front torn = elim (cases_lt (length c) 8192) [
   | inr long ↦ formatted_log c (end_formats old c front torn long)
 ]
 
+end_whole : (old c : List ℕ) → IsFront old → Torn 8191 1 old c → is_damaged c ≡ false
+end_whole old c front torn = elim (cases_lt (length c) 8192) [
+  | inl short ↦ short_whole c short
+  | inr long ↦ formatted_whole c (end_formats old c front torn long)
+]
+
 close_bad : (base : ℕ) (old c : List ℕ) → (base ≡ 0) ⊎ (base ≡ 4096) → HasNoGood old → gate_at base old ≡ 1 → Torn base 1 old c → HasNoGood c
 close_bad base old c (inl is) bad gate torn =
     let t : Torn 0 1 old c = subst (λ (b : ℕ). Torn b 1 old c) is torn in
@@ -77,6 +90,16 @@ close_bad base old c (inr is) bad gate torn =
 
 pub bad_log : (file : List ℕ) → HasNoGood file → log_of file ≡ []
 bad_log file bad = none_good file bad.first bad.second
+
+pub bad_damaged : (file : List ℕ) → HasNoGood file → is_damaged file ≡ true
+bad_damaged file bad = none_damaged file bad.long bad.first bad.second
+
+-- a damaged file has no log to lose
+was_damaged : (old c : List ℕ) → is_damaged old ≡ true → is_damaged old ≡ false → is_damaged c ≡ false
+was_damaged old c damaged whole = absurd (cc)
+
+shut_damaged : (file : List ℕ) → IsShut file → is_damaged file ≡ true
+shut_damaged file shut = none_damaged file shut.long (shut_false 0 file shut.first) (shut_false 4096 file shut.second)
 
 place_shut : (old c : List ℕ) → IsShut old → Torn 1 23 old c → IsShut c
 place_shut old c shut torn = record {
@@ -133,21 +156,23 @@ module _ {D : Type 0} (moments : Moments D Image) (seen : D → Image) (f : ℕ)
   abbrev Empties : Type 0
   Empties = Leads moments old mid (AtFile f (HasLog []))
 
-  torn_empties : (at n : ℕ) → IsStill moments seen f old → ((c : List ℕ) → Torn at n before c → log_of c ≡ []) → Torns at n → Empties
-  torn_empties at n still empty leads = weakened moments old mid (AtFile f (Torn at n)) (AtFile f (HasLog [])) leads (λ a c was step. record {
-    here = empty (c.file f) (subst (λ (l : List ℕ). Torn at n l (c.file f)) (still a was) step.here);
+  torn_empties : (at n : ℕ) → IsStill moments seen f old → ((c : List ℕ) → Torn at n before c → log_of c ≡ []) → ((c : List ℕ) → Torn at n before c → is_damaged before ≡ false → is_damaged c ≡ false) → Torns at n → Empties
+  torn_empties at n still empty whole leads = weakened moments old mid (AtFile f (Torn at n)) (AtFile f (HasLog [])) leads (λ a c was step. record {
+    here =
+        let torn = subst (λ (l : List ℕ). Torn at n l (c.file f)) (still a was) step.here in
+        record { bytes = empty (c.file f) torn; whole = λ undamaged. whole (c.file f) torn (ap is_damaged (sym (still a was)) ∙ undamaged) };
     others = step.others;
     told = step.told;
   })
 
   pub front_empties : IsStill moments seen f old → length before < 8192 → Torns 0 8191 → Empties
-  front_empties still short = torn_empties 0 8191 still (λ c. front_torn before c short)
+  front_empties still short = torn_empties 0 8191 still (λ c. front_torn before c short) (λ c torn _. short_whole c (omega (arith, torn.no_longer, short)))
 
   pub front_has : (bytes : List ℕ) → IsFront bytes → length before < 8192 → Holds 0 bytes before after → IsStill moments seen f mid → Has moments seen IsFront f mid
   front_has bytes front short holds durable = record { still = durable; is = subst IsFront (sym (holds ∙ written_whole bytes before (omega (arith, front.size, short)))) front }
 
   pub end_empties : Has moments seen IsFront f old → Torns 8191 1 → Empties
-  end_empties has = torn_empties 8191 1 has.still (λ c. end_torn before c has.is)
+  end_empties has = torn_empties 8191 1 has.still (λ c. end_torn before c has.is) (λ c torn _. end_whole before c has.is torn)
 
   torn_by : (at n : ℕ) (bytes : List ℕ) → length bytes ≡ n → at ≤ length before → Holds at bytes before after → Torn at n before after
   torn_by at n bytes size within holds = subst (Torn at n before) (sym holds) (subst (λ (k : ℕ). Torn at k before (written at bytes before)) size (written_torn at bytes before within))
@@ -164,7 +189,7 @@ module _ {D : Type 0} (moments : Moments D Image) (seen : D → Image) (f : ℕ)
       record { still = durable; is = end_formats before after has.is (torn_by 8191 1 (0 ∷ []) refl within holds) long }
 
   pub close_empties : (base : ℕ) → (base ≡ 0) ⊎ (base ≡ 4096) → Has moments seen HasNoGood f old → gate_at base before ≡ 1 → Torns base 1 → Empties
-  close_empties base which has gate = torn_empties base 1 has.still (λ c torn. bad_log c (close_bad base before c which has.is gate torn))
+  close_empties base which has gate = torn_empties base 1 has.still (λ c torn. bad_log c (close_bad base before c which has.is gate torn)) (λ c _. was_damaged before c (bad_damaged before has.is))
 
   base_within : (base : ℕ) → (base ≡ 0) ⊎ (base ≡ 4096) → HasNoGood before → base ≤ length before
   base_within base (inl is) bad = omega (arith, is)
@@ -183,7 +208,7 @@ module _ {D : Type 0} (moments : Moments D Image) (seen : D → Image) (f : ℕ)
   close_others base which has holds o away = gate_kept base 1 o before after (torn_by base 1 (0 ∷ []) refl (base_within base which has.is) holds) away
 
   pub place_empties : Has moments seen IsShut f old → Torns 1 23 → Empties
-  place_empties has = torn_empties 1 23 has.still (λ c torn. shut_log c (place_shut before c has.is torn))
+  place_empties has = torn_empties 1 23 has.still (λ c torn. shut_log c (place_shut before c has.is torn)) (λ c _. was_damaged before c (shut_damaged before has.is))
 
   pub place_has : (fields : List ℕ) → length fields ≡ 23 → place_of fields ≡ first_place → Has moments seen IsShut f old → Holds 1 fields before after → IsStill moments seen f mid → Has moments seen IsPlaced f mid
   place_has fields size place has holds durable =
@@ -197,7 +222,7 @@ module _ {D : Type 0} (moments : Moments D Image) (seen : D → Image) (f : ℕ)
       }
 
   pub open_empties : Has moments seen IsPlaced f old → Torns 0 1 → Empties
-  open_empties has = torn_empties 0 1 has.still (λ c. open_torn before c has.is)
+  open_empties has = torn_empties 0 1 has.still (λ c. open_torn before c has.is) (λ c _. was_damaged before c (shut_damaged before has.is.shut))
 
   pub open_has : Has moments seen IsPlaced f old → Holds 0 (1 ∷ []) before after → IsStill moments seen f mid → Has moments seen IsFormatted f mid
   open_has has holds durable = record { still = durable; is = open_formats before after has.is (torn_by 0 1 (1 ∷ []) refl (omega arith) holds) (gate_by 0 1 (omega arith) holds) }
@@ -205,12 +230,12 @@ module _ {D : Type 0} (moments : Moments D Image) (seen : D → Image) (f : ℕ)
 -- where nothing is written
 pub idle_empties : {D : Type 0} (moments : Moments D Image) (seen : D → Image) (f : ℕ) (old : D) → Has moments seen HasNoGood f old → Leads moments old old (AtFile f (HasLog []))
 idle_empties moments seen f old has = weakened moments old old (λ a b. b ≡ a) (AtFile f (HasLog [])) (stays moments old) (λ a c was same.
-    subst (AtFile f (HasLog []) a) (sym same) (record { here = ap log_of (has.still a was) ∙ bad_log ((seen old).file f) has.is; others = λ k ne. refl; told = refl }))
+    subst (AtFile f (HasLog []) a) (sym same) (record { here = record { bytes = ap log_of (has.still a was) ∙ bad_log ((seen old).file f) has.is; whole = λ whole. whole }; others = λ k ne. refl; told = refl }))
 
 -- one after the other
 pub empties_twice : {D : Type 0} (moments : Moments D Image) (f : ℕ) (old mid new : D) → Leads moments old mid (AtFile f (HasLog [])) → Leads moments mid new (AtFile f (HasLog [])) → Leads moments old new (AtFile f (HasLog []))
 empties_twice moments f old mid new first second = joined moments old mid new (AtFile f (HasLog [])) (AtFile f (HasLog [])) (AtFile f (HasLog [])) first second (λ a b was step. step)
-    (λ a b c was step left next. record { here = next.here; others = λ k ne. next.others k ne ∙ step.others k ne; told = next.told ∙ step.told })
+    (λ a b c was step left next. record { here = record { bytes = next.here.bytes; whole = λ whole. next.here.whole (step.here.whole whole) }; others = λ k ne. next.others k ne ∙ step.others k ne; told = next.told ∙ step.told })
 
 -- what is formatted is ready
 pub formatted_ready : {D : Type 0} (moments : Moments D Image) (seen : D → Image) (log : LogState) (needs : Needs) (media : D) → log ≡ empty_state log.file log.limit needs → Has moments seen IsFormatted log.file media → IsReady moments seen log media

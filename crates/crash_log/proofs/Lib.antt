@@ -1,6 +1,7 @@
 pub mod Changing
 mod Closing
 mod Committing
+pub mod Fitting
 mod Formatting
 mod Front
 mod Naming

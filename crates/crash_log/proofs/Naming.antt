@@ -10,7 +10,7 @@ use Rattle.crash_log.specs.Fit.{Stands, IsStill, SameBehind}
 use Rattle.crash_log.specs.Turn.{IsClosed, IsNamed}
 use Rattle.crash_log.specs.declared.state.LogState.{LogState}
 use Rattle.crash_log.proofs.Spans.{torn_span, written_span, same_behind}
-use Rattle.crash_log.proofs.Slots.{stands_log, stands_apart, shut_false}
+use Rattle.crash_log.proofs.Slots.{stands_log, stands_whole, stands_apart, shut_false}
 use Rattle.crash_log.proofs.Closing.{apart, other_low}
 
 module _ {D : Type 0} (moments : Moments D Image) (seen : D → Image) (log : LogState) (old : D) (closed : IsClosed moments seen log old) where
@@ -30,8 +30,11 @@ module _ {D : Type 0} (moments : Moments D Image) (seen : D → Image) (log : Lo
   -- while the place is written
   pub naming : (mid : D) → Leads moments old mid (AtFile log.file (Torn (other_of log + 1) 23)) → Leads moments old mid (AtFile log.file (HasLog settled))
   naming mid leads = weakened moments old mid (AtFile log.file (Torn (other_of log + 1) 23)) (AtFile log.file (HasLog settled)) leads (λ a c was step. record {
-    here = stands_log (base_of log) (other_of log) (apart log) (place_in log) settled (c.file log.file) closed.fine (still (a.file log.file) (c.file log.file) step.here (closed.stands a was))
-        (inl (shut_false (other_of log) (c.file log.file) (λ is_one. closed.shut a was (sym (gate_stays (a.file log.file) (c.file log.file) step.here) ∙ is_one))));
+    here = record {
+      bytes = stands_log (base_of log) (other_of log) (apart log) (place_in log) settled (c.file log.file) closed.fine (still (a.file log.file) (c.file log.file) step.here (closed.stands a was))
+          (inl (shut_false (other_of log) (c.file log.file) (λ is_one. closed.shut a was (sym (gate_stays (a.file log.file) (c.file log.file) step.here) ∙ is_one))));
+      whole = λ _. stands_whole (base_of log) (other_of log) (apart log) (place_in log) settled (c.file log.file) closed.fine (still (a.file log.file) (c.file log.file) step.here (closed.stands a was));
+    };
     others = step.others;
     told = step.told;
   })

@@ -1,17 +1,17 @@
 -- The slot that has the next place is opened.
-use Rattle.std.proofs.Common.{◌≡◌, inl, inr, ℕ, ◌+◌, ◌≤◌, Bool, true, false, not, if◌then◌else◌, List, [], ◌∷◌, length, refl, sym, ◌∙◌, ap, subst, arith, slice_index}
+use Rattle.std.proofs.Common.{◌≡◌, ◌⊎◌, inl, inr, ℕ, ◌+◌, ◌≤◌, Bool, true, false, not, if◌then◌else◌, List, [], ◌∷◌, length, refl, sym, ◌∙◌, ap, subst, arith, slice_index}
 use Rattle.std.proofs.lemmas.Bool.{cases_eq}
 use Rattle.crash_moments.specs.Moments.{Moments, Leads}
 use Rattle.crash_moments.proofs.Joining.{weakened}
 use Rattle.media_core.specs.Media.{Image, Torn, AtFile, Holds}
 use Rattle.media_core.specs.Kept.{written_torn}
-use Rattle.crash_log.specs.Log.{span, Place, place_of, gate_at, HasOneOf}
+use Rattle.crash_log.specs.Log.{span, Place, place_of, gate_at, log_of, HasOneOf}
 use Rattle.crash_log.specs.State.{base_of, other_of, place_in, settled_bytes, moved_to}
 use Rattle.crash_log.specs.Fit.{Stands, Yields, IsReady, IsStill, SameBehind}
 use Rattle.crash_log.specs.Turn.{IsNext, IsNamed}
 use Rattle.crash_log.specs.declared.state.LogState.{LogState}
 use Rattle.crash_log.proofs.Spans.{torn_span, written_span, same_behind}
-use Rattle.crash_log.proofs.Slots.{Apart, stands_log, stands_apart, stands_older, shut_false}
+use Rattle.crash_log.proofs.Slots.{Apart, stands_log, stands_whole, stands_apart, stands_older, shut_false}
 use Rattle.crash_log.proofs.Closing.{apart, other_low}
 
 turned : (b o : ℕ) → Apart b o → Apart o b
@@ -49,7 +49,7 @@ module _ {D : Type 0} (moments : Moments D Image) (seen : D → Image) (log : Lo
   base_older : (c : List ℕ) → Torn (other_of log) 1 before c → Yields (base_of log) p.turn c
   base_older c torn = stands_older (base_of log) (place_in log) settled p.turn c named.closed.fine (still c torn) next.turn
 
-  either : (c : List ℕ) → Torn (other_of log) 1 before c → HasOneOf settled bytes before c
+  either : (c : List ℕ) → Torn (other_of log) 1 before c → (log_of c ≡ settled) ⊎ (log_of c ≡ bytes)
   either c torn = elim (cases_eq (gate_at (other_of log) c) 1) [
     | inl is_open ↦ inr (stands_log (other_of log) (base_of log) (turned (base_of log) (other_of log) (apart log)) p bytes c next.fine (next_stands c torn is_open) (inr (base_older c torn)))
     | inr shut ↦ inl (stands_log (base_of log) (other_of log) (apart log) (place_in log) settled c named.closed.fine (still c torn) (inl (shut_false (other_of log) c shut)))
@@ -58,7 +58,12 @@ module _ {D : Type 0} (moments : Moments D Image) (seen : D → Image) (log : Lo
   -- while the gate is written
   pub opening : (mid : D) → Leads moments old mid (AtFile log.file (Torn (other_of log) 1)) → Leads moments old mid (AtFile log.file (HasOneOf settled bytes))
   opening mid leads = weakened moments old mid (AtFile log.file (Torn (other_of log) 1)) (AtFile log.file (HasOneOf settled bytes)) leads (λ a c was step. record {
-    here = either (c.file log.file) (subst (λ (l : List ℕ). Torn (other_of log) 1 l (c.file log.file)) (named.durable a was) step.here);
+    here =
+        let torn = subst (λ (l : List ℕ). Torn (other_of log) 1 l (c.file log.file)) (named.durable a was) step.here in
+        record {
+          bytes = either (c.file log.file) torn;
+          whole = λ _. stands_whole (base_of log) (other_of log) (apart log) (place_in log) settled (c.file log.file) named.closed.fine (still (c.file log.file) torn);
+        };
     others = step.others;
     told = step.told;
   })

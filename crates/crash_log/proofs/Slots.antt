@@ -1,9 +1,9 @@
 -- Which log a file has by its two slots.
-use Rattle.std.proofs.Common.{◌≡◌, ◌≢◌, ◌⊎◌, inl, inr, ℕ, ◌+◌, ◌≤◌, ◌==◌, ◌&&◌, true, false, List, [], length, sym, ◌∙◌, ap, subst, arith, slice_index}
+use Rattle.std.proofs.Common.{◌≡◌, ◌≢◌, ◌⊎◌, inl, inr, ℕ, ◌+◌, ◌<◌, ◌≤◌, ◌==◌, ◌&&◌, ◌||◌, not, Bool, true, false, List, [], length, refl, sym, ◌∙◌, ap, subst, arith, slice_index}
 use Rattle.std.proofs.lemmas.Bool.{cases_eq}
 use Rattle.std.proofs.lemmas.Bool.Decides.{nat_tests}
 use Rattle.media_core.specs.Media.{Torn}
-use Rattle.crash_log.specs.Log.{span, Place, place_of, IsFine, gate_at, place_at, is_fine, is_good, successor, named, log_of}
+use Rattle.crash_log.specs.Log.{span, Place, place_of, IsFine, gate_at, place_at, is_fine, is_good, successor, named, log_of, is_damaged}
 use Rattle.crash_log.specs.Fit.{Stands, Yields}
 use Rattle.crash_log.proofs.Spans.{torn_span}
 
@@ -53,6 +53,30 @@ module _ (file : List ℕ) where
 
   pub none_good : is_good 0 file ≡ false → is_good 4096 file ≡ false → log_of file ≡ []
   none_good a b = grind (arith, nat_tests)
+
+-- a file with a good slot isn't damaged
+first_whole : (long a b : Bool) → a ≡ true → (long && not (a || b)) ≡ false
+first_whole false a b good = refl
+first_whole true true b good = refl
+first_whole true false b good = absurd (cc)
+
+second_whole : (long a b : Bool) → b ≡ true → (long && not (a || b)) ≡ false
+second_whole false a b good = refl
+second_whole true true b good = refl
+second_whole true false true good = refl
+second_whole true false false good = absurd (cc)
+
+pub good_whole : (base : ℕ) (file : List ℕ) → (base ≡ 0) ⊎ (base ≡ 4096) → is_good base file ≡ true → is_damaged file ≡ false
+good_whole base file (inl is) good = first_whole _ (is_good 0 file) (is_good 4096 file) (subst (λ (b : ℕ). is_good b file ≡ true) is good)
+good_whole base file (inr is) good = second_whole _ (is_good 0 file) (is_good 4096 file) (subst (λ (b : ℕ). is_good b file ≡ true) is good)
+
+pub stands_whole : (b o : ℕ) → Apart b o → (p : Place) (log file : List ℕ) → IsFine p → Stands b p log file → is_damaged file ≡ false
+stands_whole b o apart p log file fine stands =
+    good_whole b file (elim apart.bases [ inl (x, y) ↦ inl x | inr (x, y) ↦ inr x ]) (stands_good b p log file fine stands)
+
+-- and neither is one that is shorter than the slots
+pub short_whole : (file : List ℕ) → length file < 8192 → is_damaged file ≡ false
+short_whole file short = grind (arith, nat_tests)
 
 -- the other slot is no good one, or yields
 abbrev pub IsOther : ℕ → ℕ → List ℕ → Type 0

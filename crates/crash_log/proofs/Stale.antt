@@ -9,7 +9,7 @@ use Rattle.crash_log.specs.State.{base_of, other_of, place_in, settled_bytes}
 use Rattle.crash_log.specs.Fit.{Stands, Other, IsReady, IsStill, IsStale, SameBehind, SameLog}
 use Rattle.crash_log.specs.declared.state.LogState.{LogState}
 use Rattle.crash_log.proofs.Spans.{written_span, same_behind}
-use Rattle.crash_log.proofs.Slots.{stands_log, stands_apart, gate_torn_bad}
+use Rattle.crash_log.proofs.Slots.{stands_log, stands_whole, stands_apart, gate_torn_bad}
 use Rattle.crash_log.proofs.Closing.{apart, other_low}
 
 module _ {D : Type 0} (moments : Moments D Image) (seen : D → Image) (log : LogState) (old mid : D) (stale : IsStale moments seen log old) where
@@ -30,7 +30,12 @@ module _ {D : Type 0} (moments : Moments D Image) (seen : D → Image) (log : Lo
 
   pub unstaling : Leads moments old mid (AtFile log.file (Torn (other_of log) 1)) → Leads moments old mid (AtFile log.file (HasLog settled))
   unstaling leads = weakened moments old mid (AtFile log.file (Torn (other_of log) 1)) (AtFile log.file (HasLog settled)) leads (λ a c was step. record {
-    here = has (c.file log.file) (subst (λ (l : List ℕ). Torn (other_of log) 1 l (c.file log.file)) (stale.still a was) step.here);
+    here =
+        let torn = subst (λ (l : List ℕ). Torn (other_of log) 1 l (c.file log.file)) (stale.still a was) step.here in
+        record {
+          bytes = has (c.file log.file) torn;
+          whole = λ _. stands_whole (base_of log) (other_of log) (apart log) (place_in log) settled (c.file log.file) stale.fine (still (c.file log.file) torn);
+        };
     others = step.others;
     told = step.told;
   })

@@ -10,7 +10,7 @@ use Rattle.crash_log.specs.State.{base_of, other_of, place_in, settled_bytes, wi
 use Rattle.crash_log.specs.Fit.{Stands, Other, IsReady}
 use Rattle.crash_log.specs.declared.state.LogState.{LogState}
 use Rattle.crash_log.proofs.Spans.{torn_span, written_span}
-use Rattle.crash_log.proofs.Slots.{stands_log, yields_still}
+use Rattle.crash_log.proofs.Slots.{stands_log, stands_whole, yields_still}
 use Rattle.crash_log.proofs.Closing.{apart, other_low, is_other}
 
 pub base_low : (log : LogState) → base_of log ≤ 4096
@@ -57,9 +57,12 @@ module _ {D : Type 0} (moments : Moments D Image) (seen : D → Image) (log : Lo
 
   pub writing : Leads moments old mid (AtFile log.file (HasLog settled))
   writing = weakened moments old mid (AtFile log.file (Torn at n)) (AtFile log.file (HasLog settled)) leads (λ a c was step. record {
-    here = stands_log (base_of log) (other_of log) (apart log) (place_in log) settled (c.file log.file) ready.fine
-        (stands_then (a.file log.file) (c.file log.file) step.here (ready.stands a was))
-        (is_other log.other_open (other_of log) log.turn (c.file log.file) (other_then (a.file log.file) (c.file log.file) step.here (ready.other a was)));
+    here = record {
+      bytes = stands_log (base_of log) (other_of log) (apart log) (place_in log) settled (c.file log.file) ready.fine
+          (stands_then (a.file log.file) (c.file log.file) step.here (ready.stands a was))
+          (is_other log.other_open (other_of log) log.turn (c.file log.file) (other_then (a.file log.file) (c.file log.file) step.here (ready.other a was)));
+      whole = λ _. stands_whole (base_of log) (other_of log) (apart log) (place_in log) settled (c.file log.file) ready.fine (stands_then (a.file log.file) (c.file log.file) step.here (ready.stands a was));
+    };
     others = step.others;
     told = step.told;
   })

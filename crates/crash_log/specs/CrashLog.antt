@@ -21,6 +21,10 @@ limit_of log = log.state.limit
 abbrev pub length_of : CrashLog → ℕ
 length_of log = len_of log.state
 
+-- how many of them are settled: a crash leaves these
+abbrev pub settled_of : CrashLog → ℕ
+settled_of log = log.state.size
+
 -- its file was damaged, and wasn't formatted since
 abbrev pub damaged_of : CrashLog → Bool
 damaged_of log = needs_mending log.state.needs
@@ -37,9 +41,10 @@ settled_log log file = settled_bytes log.state file
 abbrev pub FitsIts : {D : Type 0} → Moments D Image → (D → Image) → CrashLog → D → Type 0
 FitsIts moments seen log media = Fits moments seen log.state media
 
--- it is the log of the same file with the same limit, of this length, and isn't damaged
-pub record IsNow (old : CrashLog) (n : ℕ) (new : CrashLog) : Type 0 where
+-- it is the log of the same file with the same limit, of this length, of which so much is settled, and isn't damaged
+pub record IsNow (old : CrashLog) (n kept : ℕ) (new : CrashLog) : Type 0 where
   pub file : file_of new ≡ file_of old
   pub limit : limit_of new ≡ limit_of old
   pub size : length_of new ≡ n
+  pub settled : settled_of new ≡ kept
   pub sound : damaged_of new ≡ false

@@ -1,5 +1,5 @@
 -- What the bytes of a file stand for as a log: two slots, each a gate and a place, and the bytes at the place of the current one.
-use Rattle.std.specs.Prelude.{◌≡◌, ◌⊎◌, ℕ, ◌+◌, ◌≤◌, ◌^◌, ◌==◌, ◌&&◌, ◌||◌, nat_le, not, if◌then◌else◌, Bool, List, [], length, take, drop, slice_index}
+use Rattle.std.specs.Prelude.{◌≡◌, ◌⊎◌, ℕ, ◌+◌, ◌≤◌, ◌^◌, ◌==◌, ◌&&◌, ◌||◌, nat_le, not, if◌then◌else◌, Bool, false, List, [], length, take, drop, slice_index}
 use Rattle.std.specs.Int.{w64, from_be_bytes}
 
 -- n bytes from a on
@@ -59,13 +59,19 @@ log_of file =
 abbrev pub is_damaged : List ℕ → Bool
 is_damaged file = nat_le 8192 (length file) && not (is_good 0 file || is_good 4096 file)
 
--- a file has this log
-abbrev pub HasLog : List ℕ → List ℕ → List ℕ → Type 0
-HasLog log old new = log_of new ≡ log
+-- a file that isn't damaged doesn't become so
+abbrev pub StaysWhole : List ℕ → List ℕ → Type 0
+StaysWhole old new = is_damaged old ≡ false → is_damaged new ≡ false
 
--- a file has one of two logs
-abbrev pub HasOneOf : List ℕ → List ℕ → List ℕ → List ℕ → Type 0
-HasOneOf before after old new = (log_of new ≡ before) ⊎ (log_of new ≡ after)
+-- a file has this log, and isn't damaged where it wasn't
+pub record HasLog (log old new : List ℕ) : Type 0 where
+  pub bytes : log_of new ≡ log
+  pub whole : StaysWhole old new
+
+-- a file has one of two logs, and isn't damaged where it wasn't
+pub record HasOneOf (before after old new : List ℕ) : Type 0 where
+  pub bytes : (log_of new ≡ before) ⊎ (log_of new ≡ after)
+  pub whole : StaysWhole old new
 
 -- whatever one file is
 abbrev pub Any : List ℕ → List ℕ → Type 0

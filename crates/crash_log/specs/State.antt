@@ -1,9 +1,16 @@
 -- What the state of a log says of its file.
-use Rattle.std.specs.Prelude.{ℕ, ◌+◌, ◌≤◌, ◌^◌, if◌then◌else◌, Bool, true, false, not, List}
+use Rattle.std.specs.Prelude.{◌≡◌, ℕ, ◌+◌, ◌≤◌, ◌^◌, if◌then◌else◌, Bool, true, false, not, List, IsTrue}
 use Rattle.crash_log.specs.Log.{span, Place, successor}
 use Rattle.crash_log.specs.declared.state.LogState.{LogState}
 use Rattle.crash_log.specs.declared.state.Needs.{Needs}
 use Rattle.crash_log.specs.declared.state.Needs.TheVariants.{Nothing, Blank, Damaged, Stale}
+
+-- the file was damaged, and wasn't formatted since
+abbrev pub needs_mending : Needs → Bool
+needs_mending Nothing = false
+needs_mending Blank = false
+needs_mending (Damaged first second) = true
+needs_mending Stale = false
 
 -- numbers that each log keeps, also where no contents are told
 pub record IsBounded (log : LogState) : Type 0 where
@@ -12,6 +19,7 @@ pub record IsBounded (log : LogState) : Type 0 where
   pub high : log.start ≤ 2 ^ 40
   pub room : log.size + log.more ≤ 2 ^ 38
   pub limit : log.limit ≤ 2 ^ 36
+  pub none : IsTrue (needs_mending log.needs) → log.size + log.more ≡ 0
 
 -- where the current slot begins, and the other one
 abbrev pub base_of : LogState → ℕ
@@ -34,13 +42,6 @@ put_bytes log file = span log.start (log.size + log.more) file
 
 abbrev pub settled_bytes : LogState → List ℕ → List ℕ
 settled_bytes log file = span log.start log.size file
-
--- the file was damaged, and wasn't formatted since
-abbrev pub needs_mending : Needs → Bool
-needs_mending Nothing = false
-needs_mending Blank = false
-needs_mending (Damaged first second) = true
-needs_mending Stale = false
 
 -- once bytes were put
 abbrev pub with_more : LogState → ℕ → LogState

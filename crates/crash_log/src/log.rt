@@ -12,11 +12,14 @@ use crate::open::read_state;
 use crate::state::{LogState, Needs};
 use crate::turn::turn_over;
 use media_core::{Failed, Media};
+use thiserror::Error;
 
 /// A put or a replace was refused: the log would be longer than its limit, or a call of the media failed.
-#[derive(Clone, Copy, Debug, PartialEq, Eq, Drop)]
+#[derive(Clone, Copy, Debug, PartialEq, Eq, Drop, Error)]
 pub enum PutFault {
+    #[error("the log would pass its limit")]
     LogFull,
+    #[error("a call of the media failed")]
     Failed,
 }
 
@@ -32,7 +35,7 @@ pub struct CrashLog {
 }
 
 impl CrashLog {
-    ghost use Rattle.crash_log.specs.CrashLog.{file_of, limit_of, length_of, damaged_of, log_bytes, settled_log, FitsIts, IsNow};
+    ghost use Rattle.crash_log.specs.CrashLog.{file_of, limit_of, length_of, settled_of, damaged_of, log_bytes, settled_log, FitsIts, IsNow};
 
     /// Opens the log of a file. It writes nothing. Its condition beside the file's being here is a limit of at most 2^36
     /// bytes, and that no write to the file waits for a sync.
@@ -42,6 +45,7 @@ impl CrashLog {
         requires still { M.tells → IsStill M.time M.seen f media.old }
         ensures file { IfOk result (λ log. file_of log ≡ f) }
         ensures limit { IfOk result (λ log. limit_of log ≡ limit) }
+        ensures whole { IfOk result (λ log. settled_of log ≡ length_of log) }
         ensures fits { M.tells → IfOk result (λ log. FitsIts M.time M.seen log media.new) }
         ensures bytes { M.tells → IfOk result (λ log. log_bytes log ((M.seen media.old).file f) ≡ log_of ((M.seen media.old).file f)) }
         ensures settled { M.tells → IfOk result (λ log. settled_log log ((M.seen media.old).file f) ≡ log_of ((M.seen media.old).file f)) }
@@ -59,14 +63,16 @@ impl CrashLog {
 
     /// How many bytes the log has, with those that were put.
     pub fn len(&self) -> u64
-        ensures { result ≡ length_of self.now }
+        ensures length { result ≡ length_of self.now }
+        ensures bounded { result ≤ 2 ^ 38 }
     {
         self.state.size + self.state.more
     }
 
     /// Whether the file had 8,192 bytes or more and no good slot, and wasn't formatted since. The log is then empty.
     pub fn damaged(&self) -> bool
-        ensures { result ≡ damaged_of self.now }
+        ensures damaged { result ≡ damaged_of self.now }
+        ensures empty { IsTrue result → length_of self.now ≡ 0 }
     {
         match self.state.needs {
             Needs::Damaged(_, _) => true,
@@ -100,7 +106,7 @@ impl CrashLog {
     pub fn put<M: Media>(&mut self, media: &mut M, piece: &[u8]) -> Result<(), PutFault>
         requires here { IsTrue (M.present media.old (file_of self.old)) }
         requires fits { M.tells → FitsIts M.time M.seen self.old media.old }
-        ensures log { OnOk result (IsNow self.old (length_of self.old + length piece.now) self.new) }
+        ensures log { OnOk result (IsNow self.old (length_of self.old + length piece.now) (settled_of self.old) self.new) }
         ensures full { (result ≡ Err PutFault.LogFull) ↔ (limit_of self.old < length_of self.old + length piece.now) }
         ensures full_state { result ≡ Err PutFault.LogFull → (self.new ≡ self.old) × (media.new ≡ media.old) }
         ensures fits { M.tells → OnOk result (FitsIts M.time M.seen self.new media.new) }
@@ -129,7 +135,7 @@ impl CrashLog {
         requires here { IsTrue (M.present media.old (file_of self.old)) }
         requires room { length_of self.old + length piece.now ≤ limit_of self.old }
         requires fits { M.tells → FitsIts M.time M.seen self.old media.old }
-        ensures log { OnOk result (IsNow self.old (length_of self.old + length piece.now) self.new) }
+        ensures log { OnOk result (IsNow self.old (length_of self.old + length piece.now) (settled_of self.old) self.new) }
         ensures fits { M.tells → OnOk result (FitsIts M.time M.seen self.new media.new) }
         ensures bytes { M.tells → OnOk result (log_bytes self.new ((M.seen media.new).file (file_of self.old)) ≡ log_bytes self.old ((M.seen media.old).file (file_of self.old)) ++ piece.now) }
         ensures settled { M.tells → OnOk result (settled_log self.new ((M.seen media.new).file (file_of self.old)) ≡ settled_log self.old ((M.seen media.old).file (file_of self.old))) }
@@ -152,10 +158,11 @@ impl CrashLog {
     pub fn commit<M: Media>(&mut self, media: &mut M) -> Result<(), Failed>
         requires here { IsTrue (M.present media.old (file_of self.old)) }
         requires fits { M.tells → FitsIts M.time M.seen self.old media.old }
-        ensures log { OnOk result (IsNow self.old (length_of self.old) self.new) }
+        ensures log { OnOk result (IsNow self.old (length_of self.old) (length_of self.old) self.new) }
         ensures fits { M.tells → OnOk result (FitsIts M.time M.seen self.new media.new) }
         ensures bytes { M.tells → OnOk result (log_bytes self.new ((M.seen media.new).file (file_of self.old)) ≡ log_bytes self.old ((M.seen media.old).file (file_of self.old))) }
         ensures durable { M.tells → OnOk result ((c : Image) → M.time.may_leave media.new c → log_of (c.file (file_of self.old)) ≡ log_bytes self.old ((M.seen media.old).file (file_of self.old))) }
+        ensures still { M.tells → OnOk result (IsStill M.time M.seen (file_of self.old) media.new) }
         ensures frame { M.tells → OnOk result (AtFile (file_of self.old) Any (M.seen media.old) (M.seen media.new)) }
         ensures crash { M.tells → Leads M.time media.old media.new (AtFile (file_of self.old) (HasOneOf (settled_log self.old ((M.seen media.old).file (file_of self.old))) (log_bytes self.old ((M.seen media.old).file (file_of self.old))))) }
         ensures count { M.count media.new ≡ M.count media.old }
@@ -175,10 +182,11 @@ impl CrashLog {
         requires here { IsTrue (M.present media.old (file_of self.old)) }
         requires within { n ≤ length_of self.old }
         requires fits { M.tells → FitsIts M.time M.seen self.old media.old }
-        ensures log { OnOk result (IsNow self.old n self.new) }
+        ensures log { OnOk result (IsNow self.old n n self.new) }
         ensures fits { M.tells → OnOk result (FitsIts M.time M.seen self.new media.new) }
         ensures bytes { M.tells → OnOk result (log_bytes self.new ((M.seen media.new).file (file_of self.old)) ≡ take n (log_bytes self.old ((M.seen media.old).file (file_of self.old)))) }
         ensures durable { M.tells → OnOk result ((c : Image) → M.time.may_leave media.new c → log_of (c.file (file_of self.old)) ≡ take n (log_bytes self.old ((M.seen media.old).file (file_of self.old)))) }
+        ensures still { M.tells → OnOk result (IsStill M.time M.seen (file_of self.old) media.new) }
         ensures frame { M.tells → OnOk result (AtFile (file_of self.old) Any (M.seen media.old) (M.seen media.new)) }
         ensures crash { M.tells → Leads M.time media.old media.new (AtFile (file_of self.old) (HasOneOf (settled_log self.old ((M.seen media.old).file (file_of self.old))) (take n (log_bytes self.old ((M.seen media.old).file (file_of self.old)))))) }
         ensures count { M.count media.new ≡ M.count media.old }
@@ -197,12 +205,13 @@ impl CrashLog {
     pub fn replace<M: Media>(&mut self, media: &mut M, bytes: &[u8]) -> Result<(), PutFault>
         requires here { IsTrue (M.present media.old (file_of self.old)) }
         requires fits { M.tells → FitsIts M.time M.seen self.old media.old }
-        ensures log { OnOk result (IsNow self.old (length bytes.now) self.new) }
+        ensures log { OnOk result (IsNow self.old (length bytes.now) (length bytes.now) self.new) }
         ensures full { (result ≡ Err PutFault.LogFull) ↔ (limit_of self.old < length bytes.now) }
         ensures full_state { result ≡ Err PutFault.LogFull → (self.new ≡ self.old) × (media.new ≡ media.old) }
         ensures fits { M.tells → OnOk result (FitsIts M.time M.seen self.new media.new) }
         ensures bytes { M.tells → OnOk result (log_bytes self.new ((M.seen media.new).file (file_of self.old)) ≡ bytes.now) }
         ensures durable { M.tells → OnOk result ((c : Image) → M.time.may_leave media.new c → log_of (c.file (file_of self.old)) ≡ bytes.now) }
+        ensures still { M.tells → OnOk result (IsStill M.time M.seen (file_of self.old) media.new) }
         ensures frame { M.tells → OnOk result (AtFile (file_of self.old) Any (M.seen media.old) (M.seen media.new)) }
         ensures crash { M.tells → Leads M.time media.old media.new (AtFile (file_of self.old) (HasOneOf (settled_log self.old ((M.seen media.old).file (file_of self.old))) bytes.now)) }
         ensures count { M.count media.new ≡ M.count media.old }
@@ -225,10 +234,11 @@ impl CrashLog {
         requires here { IsTrue (M.present media.old (file_of self.old)) }
         requires room { length bytes.now ≤ limit_of self.old }
         requires fits { M.tells → FitsIts M.time M.seen self.old media.old }
-        ensures log { OnOk result (IsNow self.old (length bytes.now) self.new) }
+        ensures log { OnOk result (IsNow self.old (length bytes.now) (length bytes.now) self.new) }
         ensures fits { M.tells → OnOk result (FitsIts M.time M.seen self.new media.new) }
         ensures bytes { M.tells → OnOk result (log_bytes self.new ((M.seen media.new).file (file_of self.old)) ≡ bytes.now) }
         ensures durable { M.tells → OnOk result ((c : Image) → M.time.may_leave media.new c → log_of (c.file (file_of self.old)) ≡ bytes.now) }
+        ensures still { M.tells → OnOk result (IsStill M.time M.seen (file_of self.old) media.new) }
         ensures frame { M.tells → OnOk result (AtFile (file_of self.old) Any (M.seen media.old) (M.seen media.new)) }
         ensures crash { M.tells → Leads M.time media.old media.new (AtFile (file_of self.old) (HasOneOf (settled_log self.old ((M.seen media.old).file (file_of self.old))) bytes.now)) }
         ensures count { M.count media.new ≡ M.count media.old }

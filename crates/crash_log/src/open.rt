@@ -112,6 +112,7 @@ fn choose(first: &Slot, second: &Slot, f: u32, limit: u64, long: u64) -> LogStat
     requires { limit ≤ 2 ^ 36 }
     ensures state { result ≡ opened_state first.now second.now f limit long }
     ensures bounded { IsBounded result }
+    ensures fresh { result.more ≡ 0 }
 {
     let first_good = first.is_good(long);
     let second_good = second.is_good(long);
@@ -179,6 +180,7 @@ fn state_of_slots<M: Media>(
     requires slots { 8192 ≤ long }
     ensures opened { M.tells → IfOk result (λ s. IsOpened M.time M.seen f media.new s) }
     ensures bounded { IfOk result IsBounded }
+    ensures fresh { IfOk result (λ s. s.more ≡ 0) }
     ensures file { IfOk result (λ s. s.file ≡ f) }
     ensures limit { IfOk result (λ s. s.limit ≡ limit) }
     ensures seen { M.tells → M.seen media.new ≡ M.seen media.old }
@@ -199,6 +201,7 @@ pub fn read_state<M: Media>(media: &mut M, f: u32, limit: u64) -> Result<LogStat
     requires still { M.tells → IsStill M.time M.seen f media.old }
     ensures opened { M.tells → IfOk result (λ s. IsOpened M.time M.seen f media.new s) }
     ensures bounded { IfOk result IsBounded }
+    ensures fresh { IfOk result (λ s. s.more ≡ 0) }
     ensures file { IfOk result (λ s. s.file ≡ f) }
     ensures limit { IfOk result (λ s. s.limit ≡ limit) }
     ensures seen { M.tells → M.seen media.new ≡ M.seen media.old }

@@ -4,7 +4,7 @@ ghost use Rattle.crash_moments.specs.Moments.{Leads, HasCause};
 ghost use Rattle.media_core.specs.Media.{Image, AtFile};
 ghost use Rattle.crash_log.specs.Log.{place_of, span, IsFine, HasLog, HasOneOf, Any, successor};
 ghost use Rattle.crash_log.specs.State.{settled_bytes, place_for, moved_to};
-ghost use Rattle.crash_log.specs.Fit.{IsReady, SameBehind};
+ghost use Rattle.crash_log.specs.Fit.{IsReady, IsStill, SameBehind};
 ghost use Rattle.crash_log.specs.Turn.{IsClosed, IsNext, IsNamed};
 
 use crate::settle::settle;
@@ -69,6 +69,7 @@ fn open_other<M: Media>(log: &LogState, media: &mut M, start: u64, size: u64) ->
     requires named { M.tells → IsNamed M.time M.seen log.now (place_for log.now start size) media.old }
     requires next { M.tells → IsNext log.now (place_for log.now start size) ((M.seen media.old).file log.now.file) }
     ensures ready { M.tells → OnOk result (IsReady M.time M.seen (moved_to log.now (place_for log.now start size)) media.new) }
+    ensures still { M.tells → OnOk result (IsStill M.time M.seen log.now.file media.new) }
     ensures same { M.tells → OnOk result (SameBehind ((M.seen media.old).file log.now.file) ((M.seen media.new).file log.now.file)) }
     ensures frame { M.tells → OnOk result (AtFile log.now.file Any (M.seen media.old) (M.seen media.new)) }
     ensures crash { M.tells → Leads M.time media.old media.new (AtFile log.now.file (HasOneOf (settled_bytes log.now ((M.seen media.old).file log.now.file)) (span start size ((M.seen media.old).file log.now.file)))) }
@@ -94,6 +95,7 @@ pub fn turn_over<M: Media>(
     requires ready { M.tells → IsReady M.time M.seen log.now media.old }
     requires within { M.tells → start + size ≤ length ((M.seen media.old).file log.now.file) }
     ensures ready { M.tells → OnOk result (IsReady M.time M.seen (moved_to log.now (place_for log.now start size)) media.new) }
+    ensures still { M.tells → OnOk result (IsStill M.time M.seen log.now.file media.new) }
     ensures same { M.tells → OnOk result (SameBehind ((M.seen media.old).file log.now.file) ((M.seen media.new).file log.now.file)) }
     ensures frame { M.tells → OnOk result (AtFile log.now.file Any (M.seen media.old) (M.seen media.new)) }
     ensures crash { M.tells → Leads M.time media.old media.new (AtFile log.now.file (HasOneOf (settled_bytes log.now ((M.seen media.old).file log.now.file)) (span start size ((M.seen media.old).file log.now.file)))) }

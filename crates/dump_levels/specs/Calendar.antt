@@ -1,5 +1,5 @@
 -- The calendar: the Gregorian one, which is taken to hold in every year from 0 on.
-use Rattle.std.specs.Prelude.{zero, suc, ℕ, ◌+◌, ◌-◌, ◌*◌, ◌%◌, Bool, not, ◌&&◌, ◌||◌, ◌==◌, nat_le, if◌then◌else◌}
+use Rattle.std.specs.Prelude.{zero, suc, ℕ, ◌+◌, ◌-◌, ◌*◌, ◌/◌, ◌%◌, min, Bool, not, ◌&&◌, ◌||◌, ◌==◌, nat_lt, nat_le, if◌then◌else◌}
 use Rattle.dump_levels.specs.declared.calendar.Day.{Day}
 
 -- every fourth year is a leap year, but of the centuries only every fourth
@@ -36,3 +36,22 @@ days_since d = days_of_years (d.year - 1970) + days_of_months d.year (d.month - 
 -- the second, since 1970, with which a minute of a day begins; minutes count from midnight
 abbrev pub second_of : Day → ℕ → ℕ
 second_of d minutes = (days_since d * 1440 + minutes) * 60
+
+-- the day behind a day
+abbrev pub next_day : Day → Day
+next_day d =
+    if nat_lt d.day (days_in_month d.year d.month) then record { year = d.year; month = d.month; day = d.day + 1 } else
+    if nat_lt d.month 12 then record { year = d.year; month = d.month + 1; day = 1 } else record { year = d.year + 1; month = 1; day = 1 }
+
+-- the day that comes so many days after 1 January 1970
+abbrev pub day_at : ℕ → Day
+day_at zero = record { year = 1970; month = 1; day = 1 }
+day_at (suc n) = next_day (day_at n)
+
+-- this day of a month, or its last one where the month is shorter
+abbrev pub day_held : ℕ → ℕ → ℕ → Day
+day_held year month day = record { year = year; month = month; day = min day (days_in_month year month) }
+
+-- so many months after a day: the same day of that month, held to the month's end
+abbrev pub months_after : Day → ℕ → Day
+months_after d more = day_held (d.year + (d.month - 1 + more) / 12) ((d.month - 1 + more) % 12 + 1) d.day

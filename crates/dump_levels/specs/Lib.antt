@@ -3,3 +3,4 @@ pub mod Trees
 pub mod Calendar
 pub mod Dates
 pub mod Expiries
+pub mod Spans

@@ -9,14 +9,17 @@ ghost use Rattle.dump_levels.specs.Dates.{is_slash, is_colon, real_day, day_of, 
 
 use crate::calendar::{Day, exists, second_at};
 use bk_text::{digits_in, place_of, split_word};
+use thiserror::Error;
 
 /// Why a date or an expiration was refused.
-#[derive(Clone, Copy, Debug, PartialEq, Eq)]
+#[derive(Clone, Copy, Debug, PartialEq, Eq, Drop, Error)]
 pub enum DateFault {
     /// The word of this number doesn't fit; words count from 0. Where a word is wanting, it is the number of words. A
     /// day that the calendar lacks doesn't fit.
+    #[error("word {at} does not fit")]
     BadDate { at: usize },
     /// Every word fits, and the day is before 1970.
+    #[error("the date is before 1970")]
     DateOutOfRange,
 }
 

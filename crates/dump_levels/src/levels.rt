@@ -2,13 +2,16 @@
 
 ghost use Rattle.std.specs.Prelude.{◌≡◌, [], ◌∷◌, ◌++◌, map, IfOk, OnOk, OnErr};
 ghost use Rattle.dump_levels.specs.Elements.{paths_above};
+ghost use Rattle.dump_levels.specs.Spans.{expiry_in, expires_in};
 ghost use Rattle.dump_levels.specs.Trees.{is_level, has_level, has_upper, after_add, after_set, after_remove, expiring, Changes, ChangesInMemory};
 ghost use Rattle.dump_levels.specs.declared.levels.LevelFault.TheVariants.{Memory};
 
 use crate::above::{above, all_above, is_at_or_below};
+use crate::spans::expires_at;
 use bk_text::{Expiry, LevelPath, List};
 use std::alloc::{AllocError, Global};
 use std::marker::Model;
+use thiserror::Error;
 
 /// A level of dumps: its path, and when its dumps expire.
 #[derive(Debug, Drop)]
@@ -21,15 +24,19 @@ pub struct Level {
 }
 
 /// Why a call on the levels was refused.
-#[derive(Clone, Copy, Debug, PartialEq, Eq)]
+#[derive(Clone, Copy, Debug, PartialEq, Eq, Drop, Error)]
 pub enum LevelFault {
     /// There is a level of this path.
+    #[error("the level exists")]
     LevelExists,
     /// There is no level above this one, which has more than one element.
+    #[error("there is no level above it")]
     NoParentLevel,
     /// There is no level of this path.
+    #[error("there is no such level")]
     NoSuchLevel,
     /// Memory was refused.
+    #[error("memory was refused")]
     Memory,
 }
 
@@ -58,6 +65,18 @@ fn any_of_path(levels: &[Level], path: &LevelPath) -> bool
         }
     }
     false
+}
+
+/// The expiration of the level of this path.
+fn expiry_at(levels: &[Level], path: &LevelPath) -> Option<Expiry>
+    ensures { result ≡ expiry_in levels.now path.now }
+{
+    for level in levels {
+        if is_of_path(level, path) {
+            return Some(level.expiry);
+        }
+    }
+    None
 }
 
 /// Whether the level above is there, where there is a path above.
@@ -159,6 +178,21 @@ impl Levels {
         self.levels
             .retain(|level| !is_at_or_below(&level.path, path));
         Ok(())
+    }
+
+    /// When a dump of a level expires that is created at this second; both are seconds since 1970. It is 0 where the
+    /// level has no expiration, and 4294967295 where its dumps never expire. A span is added to the civil date and time
+    /// of the creation: years and months first, where the day is held to the month's end, and then days; the time of
+    /// day is kept. A moment past 2037 is reduced to the last second of 2037, which is 2145916799. `NoSuchLevel` where
+    /// there is no level of this path. The rules are those of the OpenAFS Administration Guide; the limit is this
+    /// project's own choice. It takes no memory.
+    pub fn expiry_of(&self, path: &LevelPath, created: u32) -> Result<u32, LevelFault>
+        ensures { result ≡ expires_in self.now path.now created }
+    {
+        match expiry_at(self.levels.as_slice(), path) {
+            None => Err(LevelFault::NoSuchLevel),
+            Some(expiry) => Ok(expires_at(created, expiry)),
+        }
     }
 
     /// The levels in the order in which they were added. It takes no memory.

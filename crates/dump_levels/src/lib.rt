@@ -6,6 +6,7 @@ mod calendar;
 mod dates;
 mod expiries;
 mod levels;
+mod spans;
 
 pub use dates::{DateFault, parse_date};
 pub use expiries::parse_expiry;
@@ -13,5 +14,7 @@ pub use levels::{Level, LevelFault, Levels};
 
 #[cfg(test)]
 mod date_tests;
+#[cfg(test)]
+mod expiry_tests;
 #[cfg(test)]
 mod tests;

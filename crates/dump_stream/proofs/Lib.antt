@@ -6,3 +6,7 @@ pub mod StepLaws
 pub mod ReadLaws
 pub mod FeedLaws
 pub mod SoundLaws
+pub mod WrittenLaws
+pub mod SaidLaws
+pub mod PartLaws
+pub mod LeftLaws

@@ -47,7 +47,7 @@ payload_fits table before (f ∷ fs) tag form h at = elim (cases_Bool (eqb f.tag
 ]
 
 -- a tag that the table lacks is no field's
-payload_none : (table : Table) (before fs : List Field) (tag : ℕ) → AreFields table before fs → table tag ≡ None → payload_of tag fs ≡ None
+pub payload_none : (table : Table) (before fs : List Field) (tag : ℕ) → AreFields table before fs → table tag ≡ None → payload_of tag fs ≡ None
 payload_none table before [] tag h at = refl
 payload_none table before (f ∷ fs) tag h at = elim (cases_Bool (eqb f.tag tag)) [
   | inl e ↦
@@ -56,7 +56,7 @@ payload_none table before (f ∷ fs) tag h at = elim (cases_Bool (eqb f.tag tag)
   | inr e ↦ rw e (payload_none table (before ++ f ∷ []) fs tag h.2 at)
 ]
 
-there : (o : Option (List ℕ)) (P : List ℕ → Type 0) → IfSome o P → is_some o ≡ true → IsSomeAnd o P
+pub there : (o : Option (List ℕ)) (P : List ℕ → Type 0) → IfSome o P → is_some o ≡ true → IsSomeAnd o P
 there None P h e = absurd cc
 there (Some p) P h e = h
 
@@ -67,7 +67,7 @@ added table fs tag form p h at whole =
 
 -- ---- the headers
 
-front_is : (text : List ℕ) (x : ℕ) → take (length (text ++ x ∷ []) - 1) (text ++ x ∷ []) ≡ text
+pub front_is : (text : List ℕ) (x : ℕ) → take (length (text ++ x ∷ []) - 1) (text ++ x ∷ []) ≡ text
 front_is text x =
     let len : length (text ++ x ∷ []) - 1 ≡ length text = omega (arith, length-append text (x ∷ [])) in
     ap (λ (n : ℕ). take n (text ++ x ∷ [])) len ∙ take-append-le (length text) text (x ∷ []) (omega arith) ∙ take_all (length text) text (omega arith)
@@ -94,7 +94,7 @@ named_dump fs h some = elim (cases_Bool (has 110 fs)) [
   | inr absent ↦ absurd (let none : false ≡ true = rw absent at some in cc)
 ]
 
-named_volume : (fs : List Field) → AreFields header_table [] fs → has 110 fs ≡ true → IsNameThere fs
+pub named_volume : (fs : List Field) → AreFields header_table [] fs → has 110 fs ≡ true → IsNameThere fs
 named_volume fs h e = there (payload_of 110 fs) (IsWhole forms.Name) (payload_fits header_table [] fs 110 forms.Name h refl) e
 
 pub named_header : (dump : DumpHead) (fs : List Field) (tag : ℕ) → (tag ≡ 3) ⊎ (tag ≡ 4) → IsSound (Volume dump fs) → IsSome (form_at (Volume dump fs) tag) → IsNameThere fs
@@ -114,13 +114,13 @@ not_odd n not = elim (cases_eq (n % 2) 0) [
   | inr e ↦ absurd (not (omega (arith, e)))
 ]
 
-is_odd : (n : ℕ) → eqb (n % 2) 1 ≡ true → n % 2 ≡ 1
+pub is_odd : (n : ℕ) → eqb (n % 2) 1 ≡ true → n % 2 ≡ 1
 is_odd n e = eqb-true (n % 2) 1 e
 
-is_even : (n : ℕ) → eqb (n % 2) 1 ≡ false → n % 2 ≡ 0
+pub is_even : (n : ℕ) → eqb (n % 2) 1 ≡ false → n % 2 ≡ 0
 is_even n e = not_odd n (λ odd. let t : eqb (n % 2) 1 ≡ true = rw odd refl in let none : false ≡ true = cc in absurd cc)
 
-access_len : (o : Option (List ℕ)) → IfSome o (IsWhole (forms.Exact 192)) → IfSome o (λ p. length p ≡ 192)
+pub access_len : (o : Option (List ℕ)) → IfSome o (IsWhole (forms.Exact 192)) → IfSome o (λ p. length p ≡ 192)
 access_len None h = tt
 access_len (Some p) h = ap length h.1.1 ∙ h.1.2
 
@@ -179,23 +179,23 @@ body_within limit None None h k = omega arith
 body_within limit None (Some q) h k = data_small true limit q k
 body_within limit (Some p) w h k = data_small false limit p h
 
-body_small : (n room : ℕ) (fs : List Field) → AreFields (vnode_table n room) [] fs → length (body_of fs) ≤ min most_data room
+pub body_small : (n room : ℕ) (fs : List Field) → AreFields (vnode_table n room) [] fs → length (body_of fs) ≤ min most_data room
 body_small n room fs h =
     let limit = min most_data room in
     body_within limit (payload_of 102 fs) (payload_of 104 fs) (payload_fits (vnode_table n room) [] fs 102 (forms.Data false limit) h refl) (payload_fits (vnode_table n room) [] fs 104 (forms.Data true limit) h refl)
 
-entry_fits : (n room uniq : ℕ) (fs : List Field) → AreFields (vnode_table n room) [] fs → is_typed fs ≡ true → IsFit (entry_of n uniq fs)
+pub entry_fits : (n room uniq : ℕ) (fs : List Field) → AreFields (vnode_table n room) [] fs → is_typed fs ≡ true → IsFit (entry_of n uniq fs)
 entry_fits n room uniq [] h typed = tt
 entry_fits n room uniq (f ∷ fs) h typed =
     let k = kind_and_access n room (f ∷ fs) h typed in
     let small = body_small n room (f ∷ fs) h in
     record { kind = k.0; access = k.1; body = omega (arith, small) }
 
-entry_number : (n uniq : ℕ) (fs : List Field) → number_of (entry_of n uniq fs) ≡ n
+pub entry_number : (n uniq : ℕ) (fs : List Field) → number_of (entry_of n uniq fs) ≡ n
 entry_number n uniq [] = refl
 entry_number n uniq (f ∷ fs) = refl
 
-entry_data : (n uniq : ℕ) (fs : List Field) → data_len (entry_of n uniq fs) ≡ length (body_of fs)
+pub entry_data : (n uniq : ℕ) (fs : List Field) → data_len (entry_of n uniq fs) ≡ length (body_of fs)
 entry_data n uniq [] = refl
 entry_data n uniq (f ∷ fs) = refl
 
@@ -217,7 +217,7 @@ none_fit = record {
   small = omega arith;
 }
 
-pushed_fit : (es : List Entry) (room n : ℕ) (e : Entry) → MayFollow es room n → IsFit e → number_of e ≡ n → data_len e ≤ room → AreFit (es ++ e ∷ [])
+pub pushed_fit : (es : List Entry) (room n : ℕ) (e : Entry) → MayFollow es room n → IsFit e → number_of e ≡ n → data_len e ≤ room → AreFit (es ++ e ∷ [])
 pushed_fit es room n e h fits number small = record {
   few = omega (arith, h.few, length-append es (e ∷ []));
   numbered = rw (map_push es e) (All-push (λ (k : ℕ). 1 ≤ k) (map number_of es) (number_of e) h.fit.numbered (rw number h.numbered));
@@ -247,7 +247,7 @@ first_follows n h = record {
   room_left = omega arith;
 }
 
-next_follows : (es : List Entry) (room n next : ℕ) (e : Entry) → MayFollow es room n → IsFit e → number_of e ≡ n → data_len e ≤ room → length es + 1 < most_vnodes → ComesAfter n next → MayFollow (es ++ e ∷ []) (room - data_len e) next
+pub next_follows : (es : List Entry) (room n next : ℕ) (e : Entry) → MayFollow es room n → IsFit e → number_of e ≡ n → data_len e ≤ room → length es + 1 < most_vnodes → ComesAfter n next → MayFollow (es ++ e ∷ []) (room - data_len e) next
 next_follows es room n next e h fits number small few after =
     let before = next_after n next h.numbered after in
     record {

@@ -6,3 +6,7 @@ pub mod Steps
 pub mod Sound
 pub mod Reads
 pub mod Feeds
+pub mod Written
+pub mod Allowed
+pub mod Parts
+pub mod Left

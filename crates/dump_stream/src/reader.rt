@@ -9,16 +9,20 @@ ghost use Rattle.dump_stream.specs.declared.reader.StreamFault.TheVariants.{Memo
 use crate::machine::{Machine, Ran};
 use crate::pieces::run;
 use std::alloc::{AllocError, Global};
+use thiserror::Error;
 use vnode_model::Increment;
 
 /// Why bytes are no stream.
-#[derive(Clone, Copy, Debug, PartialEq, Eq)]
+#[derive(Clone, Copy, Debug, PartialEq, Eq, Drop, Error)]
 pub enum StreamFault {
     /// The bytes are a proper prefix of a stream.
+    #[error("the stream is cut short")]
     Cut,
     /// No prefix of the bytes is a stream. The first `at` bytes begin some stream, and the first `at + 1` begin none.
+    #[error("no stream has this byte at {at}")]
     Bad { at: usize },
     /// Memory was refused.
+    #[error("memory was refused")]
     Memory,
 }
 

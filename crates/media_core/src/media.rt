@@ -5,12 +5,14 @@ ghost use Rattle.crash_moments.specs.Telling.{ToldPart, in_progress};
 ghost use Rattle.media_core.specs.Media.{Image, Holds, Torn, AtFile, Same, Tells};
 
 use std::alloc::AllocError;
+use thiserror::Error;
 
 /// Want of memory, where it is the only error.
 pub type Memory = AllocError;
 
 /// A call was refused by the outside. Its cause is a count of faults that rose.
-#[derive(Clone, Copy, Debug, PartialEq, Eq, Drop)]
+#[derive(Clone, Copy, Debug, PartialEq, Eq, Drop, Error)]
+#[error("a call of the media failed")]
 pub struct Failed;
 
 /// Numbered files and one output. File 0 is the journal and is always here, file `k + 1` is tape slot `k`. Offsets and

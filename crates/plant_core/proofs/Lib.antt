@@ -1,1 +1,4 @@
+pub mod Keeping
+pub mod Leading
+pub mod TapeLists
 pub mod Wholes

@@ -1,5 +1,5 @@
 -- A log, tapes and an output: all that is found after a crash, and all that reads give.
-use Rattle.std.specs.Prelude.{ℕ, List, take, Option, Some, None}
+use Rattle.std.specs.Prelude.{◌≡◌, ℕ, List, [], take, Option, Some, None}
 use Rattle.plant_core.specs.Records.{Record}
 
 -- the bytes of the log, the records of the tape in each slot, also where the slot isn't here, and the bytes that were told
@@ -20,3 +20,12 @@ settled_part bytes records stock = record {
   tape = λ k. take (records k) (stock.tape k);
   told = stock.told;
 }
+
+-- an empty log, blank tapes and nothing told
+abbrev pub nothing : Stock
+nothing = record { log = []; tape = λ k. []; told = [] }
+
+pub record IsNothing (c : Stock) : Type 0 where
+  pub log : c.log ≡ []
+  pub tapes : (k : ℕ) → c.tape k ≡ []
+  pub told : c.told ≡ []

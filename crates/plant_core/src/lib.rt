@@ -2,12 +2,19 @@
 //! leave of all three together is told at every moment, also inside a call.
 #![tactic(auto)]
 
+mod event;
 mod fault;
+mod mem;
 mod plant;
 mod record;
+mod refusals;
+mod stored;
+#[cfg(test)]
+mod tests;
 mod whole;
 
-pub use fault::{Failed, PutFault};
+pub use fault::{Failed, Memory, PutFault};
+pub use mem::MemPlant;
 pub use plant::Plant;
 pub use record::{Block, Kind};
 pub use whole::is_whole;

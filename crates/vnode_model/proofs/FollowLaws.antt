@@ -25,7 +25,7 @@ sum_push es e = sum_by-append data_len es (e ∷ []) ∙ omega arith
 All_last : {X : Type 0} (P : X → Type 0) (xs : List X) (x : X) → All P (xs ++ x ∷ []) → P x
 All_last P xs x h = All-head P x [] (subst (All P) (drop-append_seam xs (x ∷ [])) (All-drop P (length xs) (xs ++ x ∷ []) h))
 
-before_trans : (a b c : ℕ) → StandsBefore a b → StandsBefore b c → StandsBefore a c
+pub before_trans : (a b c : ℕ) → StandsBefore a b → StandsBefore b c → StandsBefore a c
 before_trans a b c (inl h) (inl k) = absurd (let e : 0 ≡ 1 = sym h.1 ∙ k.0 in cc)
 before_trans a b c (inl h) (inr k) = inl (h.0, sym k.0 ∙ h.1)
 before_trans a b c (inr h) (inl k) = inl (h.0 ∙ k.0, k.1)

@@ -1,2 +1,4 @@
 pub mod FollowLaws
 pub mod IncrementLaws
+pub mod TakingLaws
+pub mod ApplyLaws

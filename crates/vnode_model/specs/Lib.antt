@@ -4,3 +4,4 @@ pub mod Follows
 pub mod Volumes
 pub mod Increments
 pub mod EntryRefs
+pub mod Taking

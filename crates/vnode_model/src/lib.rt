@@ -3,18 +3,21 @@
 
 mod applying;
 mod fitting;
+mod following;
 mod headers;
 mod increments;
 mod listed;
 mod selecting;
+mod taking;
 mod vnodes;
 mod volumes;
 
-pub use applying::ApplyFault;
+pub use applying::{ApplyFault, apply};
 pub use fitting::fault_in;
+pub use following::increments_restore;
 pub use headers::{HeaderFields, VolHeader};
 pub use increments::{Entry, Increment, IncrementFields};
 pub use listed::{EntryState, VolEntry};
-pub use selecting::{EntryRef, Memory, SelectIter, select, select_iter};
+pub use selecting::{EntryRef, Memory, SelectIter, is_whole_from, select, select_iter};
 pub use vnodes::{Vnode, VnodeKind, stands_before};
 pub use volumes::{Volume, VolumeFault, VolumeFields};

@@ -43,7 +43,7 @@ impl<'a> Model for SelectIter<'a> {
 
 /// Whether a vnode stands whole in an increment from this time on: always from 0, else where the server changed it then
 /// or later.
-fn is_whole_from(from: u32, vnode: &Vnode) -> bool
+pub fn is_whole_from(from: u32, vnode: &Vnode) -> bool
     ensures { result ≡ is_whole_from from vnode.now }
 {
     from == 0 || vnode.server_modified >= from

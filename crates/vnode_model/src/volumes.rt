@@ -10,6 +10,7 @@ use crate::vnodes::Vnode;
 use bk_text::List;
 use std::alloc::AllocError;
 use std::marker::Model;
+use thiserror::Error;
 
 /// The fields of a volume.
 #[derive(Debug, Drop)]
@@ -25,9 +26,10 @@ pub struct Volume {
 }
 
 /// Why a header and vnodes are no volume.
-#[derive(Debug, Drop)]
+#[derive(Clone, Copy, Debug, PartialEq, Eq, Drop, Error)]
 pub enum VolumeFault {
     /// The vnode at this index is the first that breaks the order, the parity or a limit.
+    #[error("vnode {index} breaks the order, the parity or a limit")]
     Order { index: usize },
 }
 
@@ -42,23 +44,15 @@ impl Model for Volume {
     ghost invariant = { λ a. AreVolume a.fields.vnodes };
 }
 
-impl Clone for VolumeFields {
-    ghost is_clone = { λ a b. b ≡ a };
-
-    fn clone(&self) -> Result<VolumeFields, AllocError> {
-        Ok(VolumeFields {
-            header: self.header.clone()?,
-            vnodes: self.vnodes.clone()?,
-        })
-    }
-}
-
 impl Clone for Volume {
     ghost is_clone = { λ a b. b ≡ a };
 
     fn clone(&self) -> Result<Volume, AllocError> {
         Ok(Volume {
-            fields: self.fields.clone()?,
+            fields: VolumeFields {
+                header: self.fields.header.clone()?,
+                vnodes: self.fields.vnodes.clone()?,
+            },
         })
     }
 }

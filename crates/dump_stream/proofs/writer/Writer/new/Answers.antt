@@ -1,0 +1,21 @@
+use Rattle.std.proofs.Common.{◌≡◌, ℕ, List, ◌∷◌, ◌++◌, map, ap, ◌∙◌}
+use Rattle.vnode_model.specs.declared.headers.HeaderFields.{HeaderFields}
+use Rattle.vnode_model.specs.Increments.{entry_from}
+use Rattle.dump_stream.specs.Forms.{closing}
+use Rattle.dump_stream.specs.Written.{written}
+use Rattle.dump_stream.specs.Parts.{headers}
+use Rattle.dump_stream.proofs.PartLaws.{sections_of}
+use Rattle.dump_stream.proofs.LeftLaws.{begun}
+use Rattle.dump_stream.proofs.writer.Writer.new.Goals as goal
+
+pub returns : goal.returns
+unfolding written
+returns c =
+    let v = c.args.volume in
+    let header_is = c.header-header.ensures in
+    let fields_are : c.fields-fields.result.now ≡ v.header = c.fields-fields.ensures.value ∙ header_is in
+    let part_is : c.put_headers.new.part ≡ headers v.header.id v.header.name c.args.from c.args.to v.header =
+    c.put_headers.ensures ∙ ap (λ (h : HeaderFields). headers h.id h.name c.args.from c.args.to c.header-header.result.now) fields_are
+    ∙ ap (λ (h : HeaderFields). headers v.header.id v.header.name c.args.from c.args.to h) header_is in
+    begun v.vnodes c.args.from c.put_headers.new.part
+    ∙ ap (λ (x : List ℕ). (x ++ sections_of (map (entry_from c.args.from) v.vnodes)) ++ 4 ∷ closing) part_is

@@ -1,0 +1,63 @@
+//! A volume's stream in pieces.
+
+ghost use Rattle.std.specs.Prelude.{◌≡◌, ◌++◌, length, min, take, drop};
+ghost use Rattle.vnode_model.specs.Increments.{selected};
+ghost use Rattle.dump_stream.specs.Written.{written};
+
+use crate::part::Part;
+use crate::places::{Place, give};
+use crate::sections::put_headers;
+use std::marker::Model;
+use vnode_model::Volume;
+
+/// The stream of a volume's increment, given in pieces. It owns the volume. Contracts see it as the bytes that are
+/// left. None of its calls takes memory.
+#[derive(Debug, Drop)]
+pub struct Writer {
+    volume: Volume,
+    from: u32,
+    place: Place,
+}
+
+impl Model for Writer {
+    ghost use Rattle.std.specs.Prelude.{List, ℕ};
+
+    ghost Value = { List ℕ };
+
+    ghost use Rattle.dump_stream.specs.Left.{left};
+
+    ghost view = { λ a. left a.volume.vnodes a.from a.place };
+}
+
+impl Writer {
+    /// The stream of the volume's increment from a time on, in seconds since 1970; from 0 every vnode is whole. `to` is
+    /// the time of the volume's state.
+    pub fn new(volume: Volume, from: u32, to: u32) -> Self
+        ensures { result ≡ written (selected volume from to) }
+    {
+        let mut part = Part::new();
+        let header = volume.header();
+        let fields = header.fields();
+        put_headers(&mut part, fields.id, &fields.name, from, to, header);
+        Writer {
+            volume,
+            from,
+            place: Place {
+                part,
+                step: 0,
+                taken: 0,
+                given: 0,
+            },
+        }
+    }
+
+    /// Fills `into` with the next bytes, and says how many these are: fewer than `into` has room for only where no more
+    /// are left. What stands in `into` behind them stays.
+    pub fn next(&mut self, into: &mut [u8]) -> usize
+        ensures count { result ≡ min (length into.old) (length self.old) }
+        ensures given { into.new ≡ take result self.old ++ drop result into.old }
+        ensures left { self.new ≡ drop result self.old }
+    {
+        give(self.volume.vnodes(), self.from, &mut self.place, into)
+    }
+}

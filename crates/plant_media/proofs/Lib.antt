@@ -1,0 +1,4 @@
+mod Calling
+mod Keeping
+mod Lifting
+mod Showing

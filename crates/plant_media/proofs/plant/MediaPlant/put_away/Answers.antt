@@ -1,0 +1,26 @@
+use Rattle.std.proofs.Common.{ℕ, Some, ◌∙◌, ap}
+use Rattle.plant_media.specs.Slots.{slot_in}
+use Rattle.plant_media.proofs.Lifting.{lift_settle}
+use Rattle.plant_media.proofs.Keeping.{tape_stays}
+use Rattle.plant_media.proofs.Calling.{held_tape}
+use Rattle.plant_media.proofs.plant.MediaPlant.put_away.Goals as goal
+
+pub returns-in-Ok-clause-seen : goal.returns-in-Ok-clause-seen
+returns-in-Ok-clause-seen g c = λ told.
+    let m = g.M.Media in
+    let p = c.args.self.now in
+    tape_stays p.journal p.tape c.in-Some.tape c.settle.new.self c.in-Some.is c.in-Ok.ensures.slot (m.seen p.media) (m.seen c.settle.new.media) (c.in-Ok.ensures.frame told) (c.in-Ok.ensures.tape told)
+
+pub returns-in-Ok-clause-crash : goal.returns-in-Ok-clause-crash
+returns-in-Ok-clause-crash g c = λ told.
+    let m = g.M.Media in
+    let p = c.args.self.now in
+    let held = held_tape m.tells m.time m.seen m.present p c.requires.sound c.in-Some.tape c.in-Some.is in
+    lift_settle m.tells m.time m.seen m.present p _ c.in-Some.tape c.in-Some.is held told c.args.slot (λ same. c.requires.other (ap slot_in c.in-Some.is ∙ ap (λ (n : ℕ). Some n) same)) (c.settle.ensures.crash told)
+
+pub returns-in-Err-clause-crash : goal.returns-in-Err-clause-crash
+returns-in-Err-clause-crash g c = λ told.
+    let m = g.M.Media in
+    let p = c.args.self.now in
+    let held = held_tape m.tells m.time m.seen m.present p c.requires.sound c.in-Some.tape c.in-Some.is in
+    lift_settle m.tells m.time m.seen m.present p _ c.in-Some.tape c.in-Some.is held told c.args.slot (λ same. c.requires.other (ap slot_in c.in-Some.is ∙ ap (λ (n : ℕ). Some n) same)) (c.settle.ensures.crash told)

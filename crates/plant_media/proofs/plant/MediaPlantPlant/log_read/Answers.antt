@@ -1,0 +1,11 @@
+use Rattle.std.proofs.Common.{List, ℕ, length, take, drop, ◌∙◌, ap}
+use Rattle.plant_media.proofs.Calling.{read_sound, log_shown_is}
+use Rattle.plant_media.proofs.plant.MediaPlantPlant.log_read.Goals as goal
+
+pub returns-in-Ok-clause-bytes : goal.returns-in-Ok-clause-bytes
+returns-in-Ok-clause-bytes g c = λ told.
+    let m = g.M.Media in
+    c.in-Ok.ensures.bytes told ∙ ap (λ (l : List ℕ). take (length c.args.into.now) (drop c.args.at l)) (log_shown_is m.tells m.time m.seen m.present c.args.self.now c.requires.sound)
+
+pub returns-in-Ok-clause-sound : goal.returns-in-Ok-clause-sound
+returns-in-Ok-clause-sound g c = let m = g.M.Media in read_sound m.tells m.time m.seen m.present c.args.self.now c.requires.sound c.read.new.media c.in-Ok.ensures.present c.read.ensures.crash c.read.ensures.seen

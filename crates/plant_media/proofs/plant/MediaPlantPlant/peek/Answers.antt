@@ -1,0 +1,22 @@
+use Rattle.std.proofs.Common.{◌+◌, ◌<◌, List, sym, subst, arith}
+use Rattle.plant_core.specs.Records.{Record, ShowsFirst}
+use Rattle.plant_media.specs.Slotting.{shown_tape}
+use Rattle.plant_media.proofs.Calling.{read_sound, file_here}
+use Rattle.plant_media.proofs.plant.MediaPlantPlant.peek.Goals as goal
+
+pub look-requires-clause-slot : goal.look-requires-clause-slot
+look-requires-clause-slot g c =
+    let media = c.args.self.now.media in
+    let below : c.args.slot < 65535 = omega (arith, g.met.M.Media.here_below media (c.args.slot + 1) (file_here (g.M.Media.present media) c.args.slot c.requires.here), g.met.M.Media.few_files media) in
+    below
+
+pub look-requires-clause-here : goal.look-requires-clause-here
+look-requires-clause-here g c = file_here (g.M.Media.present c.args.self.now.media) c.args.slot c.requires.here
+
+pub returns-in-Ok-clause-first : goal.returns-in-Ok-clause-first
+returns-in-Ok-clause-first g c = λ told.
+    let p = c.args.self.now in
+    subst (λ (l : List Record). ShowsFirst l c.in-Ok.shown c.look.new.into) (sym (shown_tape p.journal p.tape (g.M.Media.seen p.media) c.args.slot)) (c.in-Ok.ensures.first told)
+
+pub returns-in-Ok-clause-sound : goal.returns-in-Ok-clause-sound
+returns-in-Ok-clause-sound g c = let m = g.M.Media in read_sound m.tells m.time m.seen m.present c.args.self.now c.requires.sound c.look.new.media c.in-Ok.ensures.present c.look.ensures.crash c.look.ensures.seen

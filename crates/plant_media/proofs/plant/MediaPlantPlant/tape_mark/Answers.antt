@@ -1,0 +1,36 @@
+use Rattle.std.proofs.Common.{◌≡◌, ◌++◌, [], ◌∷◌, refl, subst}
+use Rattle.plant_core.specs.Records.{NoBad, mark}
+use Rattle.plant_media.specs.Loaded.{tape_in}
+use Rattle.plant_media.proofs.Lifting.{lift_mark}
+use Rattle.plant_media.proofs.Keeping.{tape_changed, settled_now}
+use Rattle.plant_media.proofs.Calling.{held_tape, loaded_tape}
+use Rattle.plant_media.proofs.plant.MediaPlantPlant.tape_mark.Goals as goal
+
+pub mark-requires-clause-whole : goal.mark-requires-clause-whole
+mark-requires-clause-whole g c = λ told. subst NoBad (loaded_tape g.M.Media.tells g.M.Media.time g.M.Media.seen g.M.Media.present c.args.self.now c.requires.sound c.in-Some.tape c.in-Some.is) (c.requires.whole told)
+
+pub returns-in-Ok-clause-put : goal.returns-in-Ok-clause-put
+returns-in-Ok-clause-put g c = λ told.
+    let m = g.M.Media in
+    let p = c.args.self.now in
+    tape_changed p.journal p.tape c.in-Some.tape c.mark.new.self c.in-Some.is c.in-Ok.ensures.slot (m.seen p.media) (m.seen c.mark.new.media) (c.in-Ok.ensures.frame told) (λ old new. new ≡ old ++ mark ∷ []) (c.in-Ok.ensures.tape told)
+
+pub returns-in-Ok-clause-settled : goal.returns-in-Ok-clause-settled
+returns-in-Ok-clause-settled g c = λ told.
+    let m = g.M.Media in
+    let p = c.args.self.now in
+    settled_now p.journal p.tape c.in-Some.tape c.mark.new.self c.in-Some.is c.in-Ok.ensures.slot (m.seen p.media) (m.seen c.mark.new.media) (c.in-Ok.ensures.frame told) c.mark.new.self.records c.in-Ok.ensures.settled
+
+pub returns-in-Ok-clause-crash : goal.returns-in-Ok-clause-crash
+returns-in-Ok-clause-crash g c = λ told.
+    let m = g.M.Media in
+    let p = c.args.self.now in
+    let held = held_tape m.tells m.time m.seen m.present p c.requires.sound c.in-Some.tape c.in-Some.is in
+    lift_mark m.tells m.time m.seen m.present p _ c.in-Some.tape c.in-Some.is held told mark (tape_in c.in-Some.tape (m.seen p.media) ++ mark ∷ []) refl (c.mark.ensures.crash told)
+
+pub returns-in-Err-clause-crash : goal.returns-in-Err-clause-crash
+returns-in-Err-clause-crash g c = λ told.
+    let m = g.M.Media in
+    let p = c.args.self.now in
+    let held = held_tape m.tells m.time m.seen m.present p c.requires.sound c.in-Some.tape c.in-Some.is in
+    lift_mark m.tells m.time m.seen m.present p _ c.in-Some.tape c.in-Some.is held told mark (tape_in c.in-Some.tape (m.seen p.media) ++ mark ∷ []) refl (c.mark.ensures.crash told)

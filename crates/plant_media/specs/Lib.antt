@@ -1,0 +1,11 @@
+pub mod Cutting
+pub mod Laws
+pub mod Loaded
+pub mod Opening
+pub mod Records
+pub mod Shown
+pub mod Slots
+pub mod Slotting
+pub mod State
+pub mod Stock
+pub mod Taping

@@ -1,0 +1,48 @@
+-- What the files of a media stand for: file 0 is the journal, file k + 1 the tape of slot k.
+use Rattle.std.specs.Prelude.{◌≡◌, ◌⊎◌, ℕ, ◌+◌, Bool, true, false, List, [], ◌∷◌}
+use Rattle.media_core.specs.Media.{Image}
+use Rattle.crash_log.specs.Log.{log_of, is_damaged}
+use Rattle.plant_core.specs.Records.{Record, bad}
+use Rattle.plant_core.specs.Stock.{Stock}
+use Rattle.plant_media.specs.Records.{records_of}
+
+-- a damaged tape is one bad record, any other one the records of its log
+abbrev pub tape_shown : Bool → List ℕ → List Record
+tape_shown true bytes = bad ∷ []
+tape_shown false bytes = records_of bytes
+
+unfoldable pub tape_of : List ℕ → List Record
+tape_of file = tape_shown (is_damaged file) (log_of file)
+
+-- A damaged journal has no log. 256, which is no byte, stands for it, so that no journal's log is taken for it.
+abbrev pub no_log : List ℕ
+no_log = 256 ∷ []
+
+abbrev pub log_shown : Bool → List ℕ → List ℕ
+log_shown true bytes = no_log
+log_shown false bytes = bytes
+
+unfoldable pub journal_of : List ℕ → List ℕ
+journal_of file = log_shown (is_damaged file) (log_of file)
+
+-- the stock of files and an output
+abbrev pub stock_of : Image → Stock
+stock_of image = record {
+  log = journal_of (image.file 0);
+  tape = λ k. tape_of (image.file (k + 1));
+  told = image.told;
+}
+
+-- a file stands for the same tape, or for this one
+abbrev pub SameTape : List ℕ → List ℕ → Type 0
+SameTape old new = tape_of new ≡ tape_of old
+
+abbrev pub TapeOr : List Record → List ℕ → List ℕ → Type 0
+TapeOr tape old new = (tape_of new ≡ tape_of old) ⊎ (tape_of new ≡ tape)
+
+-- a file stands for the same journal, or for this one
+abbrev pub SameJournal : List ℕ → List ℕ → Type 0
+SameJournal old new = journal_of new ≡ journal_of old
+
+abbrev pub JournalOr : List ℕ → List ℕ → List ℕ → Type 0
+JournalOr log old new = (journal_of new ≡ journal_of old) ⊎ (journal_of new ≡ log)

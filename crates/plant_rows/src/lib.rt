@@ -1,0 +1,6 @@
+//! Tests of plants over files in memory: stopped at each call and opened again as each pick leaves them, and over files that
+//! something else has written.
+#![tactic(auto)]
+
+#[cfg(test)]
+mod rows;

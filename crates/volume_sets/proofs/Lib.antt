@@ -1,0 +1,5 @@
+pub mod ReadLaws
+pub mod RestLaws
+pub mod ParseLaws
+pub mod MatchLaws
+pub mod RowLaws

@@ -1,0 +1,4 @@
+pub mod Reading
+pub mod Matching
+pub mod Parsing
+pub mod Columns
