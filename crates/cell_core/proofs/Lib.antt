@@ -7,4 +7,3 @@ pub mod CellLaws
 pub mod CallLaws
 pub mod FairLaws
 pub mod KeepLaws
-pub mod EntryLaws

@@ -314,13 +314,11 @@ fn fails_at(alloc: Global, call: u64) -> bool {
     if cell.fail_at(call).is_err() {
         return false;
     }
-    let mut number = 0;
-    for (name, step) in script {
-        let answer = answer_of(alloc, &mut cell, name, step);
-        if (answer == Err(CellFault::Failed)) != (number == call) {
+    for (number, (name, step)) in script.iter().enumerate() {
+        let answer = answer_of(alloc, &mut cell, name, *step);
+        if (answer == Err(CellFault::Failed)) != (number as u64 == call) {
             return false;
         }
-        number += 1;
     }
     true
 }
