@@ -93,53 +93,53 @@ named_dump fs h e = there (payload_of 110 fs) (IsWhole forms.Name) (payload_fits
 header_allowed : (fs : List Field) → AreFields header_table [] fs → has 110 fs ≡ true → AllowedHeader (header_of fs)
 header_allowed fs h named =
     let p : (tag : ℕ) → IfSome (payload_of tag fs) IsBytes = payload_bytes header_table [] fs h in record {
-  id = number_small (payload_of 105 fs) 0 (p 105);
-  stamp = number_small (payload_of 118 fs) 0 (p 118);
-  name = name_is fs (named_volume fs h named);
-  in_service = byte_small (payload_of 115 fs) (p 115);
-  blessed = byte_small (payload_of 98 fs) (p 98);
-  uniq = number_small (payload_of 117 fs) 0 (p 117);
-  parent = number_small (payload_of 112 fs) 0 (p 112);
-  clone_id = number_small (payload_of 99 fs) 0 (p 99);
-  max_quota = number_small (payload_of 113 fs) 0 (p 113);
-  min_quota = number_small (payload_of 109 fs) 0 (p 109);
-  disk_used = number_small (payload_of 100 fs) 0 (p 100);
-  file_count = number_small (payload_of 102 fs) 0 (p 102);
-  account = number_small (payload_of 97 fs) 0 (p 97);
-  owner = number_small (payload_of 111 fs) 0 (p 111);
-  created = number_small (payload_of 67 fs) 0 (p 67);
-  accessed = number_small (payload_of 65 fs) 0 (p 65);
-  updated = number_small (payload_of 85 fs) 0 (p 85);
-  expires = number_small (payload_of 69 fs) 0 (p 69);
-  backed_up = number_small (payload_of 66 fs) 0 (p 66);
-  offline = string_bytes_of (payload_of 79 fs) (p 79);
-  message = string_bytes_of (payload_of 77 fs) (p 77);
-  week = week_small (payload_of 87 fs) (p 87);
-  days = refl;
-  day_date = number_small (payload_of 68 fs) 0 (p 68);
-  day_use = number_small (payload_of 90 fs) 0 (p 90);
-  updates = updates_small (payload_of 86 fs) (p 86);
-  limits = header_fits fs h;
-}
+      id = number_small (payload_of 105 fs) 0 (p 105);
+      stamp = number_small (payload_of 118 fs) 0 (p 118);
+      name = name_is fs (named_volume fs h named);
+      in_service = byte_small (payload_of 115 fs) (p 115);
+      blessed = byte_small (payload_of 98 fs) (p 98);
+      uniq = number_small (payload_of 117 fs) 0 (p 117);
+      parent = number_small (payload_of 112 fs) 0 (p 112);
+      clone_id = number_small (payload_of 99 fs) 0 (p 99);
+      max_quota = number_small (payload_of 113 fs) 0 (p 113);
+      min_quota = number_small (payload_of 109 fs) 0 (p 109);
+      disk_used = number_small (payload_of 100 fs) 0 (p 100);
+      file_count = number_small (payload_of 102 fs) 0 (p 102);
+      account = number_small (payload_of 97 fs) 0 (p 97);
+      owner = number_small (payload_of 111 fs) 0 (p 111);
+      created = number_small (payload_of 67 fs) 0 (p 67);
+      accessed = number_small (payload_of 65 fs) 0 (p 65);
+      updated = number_small (payload_of 85 fs) 0 (p 85);
+      expires = number_small (payload_of 69 fs) 0 (p 69);
+      backed_up = number_small (payload_of 66 fs) 0 (p 66);
+      offline = string_bytes_of (payload_of 79 fs) (p 79);
+      message = string_bytes_of (payload_of 77 fs) (p 77);
+      week = week_small (payload_of 87 fs) (p 87);
+      days = refl;
+      day_date = number_small (payload_of 68 fs) 0 (p 68);
+      day_use = number_small (payload_of 90 fs) 0 (p 90);
+      updates = updates_small (payload_of 86 fs) (p 86);
+      limits = header_fits fs h;
+    }
 
 vnode_allowed : (n uniq room : ℕ) (fs : List Field) → AreFields (vnode_table n room) [] fs → IsNumber n → IsNumber uniq → AllowedVnode (vnode_of n uniq fs)
 vnode_allowed n uniq room fs h n_small uniq_small =
     let p : (tag : ℕ) → IfSome (payload_of tag fs) IsBytes = payload_bytes (vnode_table n room) [] fs h in record {
-  number = n_small;
-  uniq = uniq_small;
-  links = short_small (payload_of 108 fs) (p 108);
-  data_version = number_small (payload_of 118 fs) 0 (p 118);
-  modified = number_small (payload_of 109 fs) 0 (p 109);
-  author = number_small (payload_of 97 fs) 0 (p 97);
-  owner = number_small (payload_of 111 fs) 0 (p 111);
-  group = number_small (payload_of 103 fs) 0 (p 103);
-  parent = number_small (payload_of 112 fs) 0 (p 112);
-  server_modified = number_small (payload_of 115 fs) 0 (p 115);
-  mode = short_small (payload_of 98 fs) (p 98);
-  access = access_bytes (payload_of 65 fs) (p 65);
-  access_len = access_length (payload_of 65 fs) (access_whole n room fs h);
-  body = body_bytes (payload_of 102 fs) (payload_of 104 fs) (p 102) (p 104);
-}
+      number = n_small;
+      uniq = uniq_small;
+      links = short_small (payload_of 108 fs) (p 108);
+      data_version = number_small (payload_of 118 fs) 0 (p 118);
+      modified = number_small (payload_of 109 fs) 0 (p 109);
+      author = number_small (payload_of 97 fs) 0 (p 97);
+      owner = number_small (payload_of 111 fs) 0 (p 111);
+      group = number_small (payload_of 103 fs) 0 (p 103);
+      parent = number_small (payload_of 112 fs) 0 (p 112);
+      server_modified = number_small (payload_of 115 fs) 0 (p 115);
+      mode = short_small (payload_of 98 fs) (p 98);
+      access = access_bytes (payload_of 65 fs) (p 65);
+      access_len = access_length (payload_of 65 fs) (access_whole n room fs h);
+      body = body_bytes (payload_of 102 fs) (payload_of 104 fs) (p 102) (p 104);
+    }
 
 entry_allowed : (n uniq room : ℕ) (fs : List Field) → AreFields (vnode_table n room) [] fs → IsNumber n → IsNumber uniq → AllowedEntry (entry_of n uniq fs)
 entry_allowed n uniq room [] h n_small uniq_small = (n_small, uniq_small)
@@ -187,14 +187,14 @@ said_at : (bytes : List ℕ) (i : IncrementFields) (h : Spells bytes i) → Allo
 })
 said_at bytes i h =
     let p : (tag : ℕ) → IfSome (payload_of tag h.dump) IsBytes = payload_bytes dump_table [] h.dump h.dump_listed in record {
-  dump_id = number_small (payload_of 118 h.dump) 0 (p 118);
-  dump_name = name_is h.dump (named_dump h.dump h.dump_listed h.dump_named);
-  from = number_small (payload_of 116 h.dump) 2 (p 116);
-  to = number_small (payload_of 116 h.dump) 6 (p 116);
-  header = header_allowed h.header h.header_listed h.header_named;
-  entries = sections_allowed 0 all_data 0 h.vnodes h.vnodes_listed;
-  fit = sections_fit [] 0 all_data 0 h.vnodes none_fit refl (λ n few after. first_follows n after) h.vnodes_listed;
-}
+      dump_id = number_small (payload_of 118 h.dump) 0 (p 118);
+      dump_name = name_is h.dump (named_dump h.dump h.dump_listed h.dump_named);
+      from = number_small (payload_of 116 h.dump) 2 (p 116);
+      to = number_small (payload_of 116 h.dump) 6 (p 116);
+      header = header_allowed h.header h.header_listed h.header_named;
+      entries = sections_allowed 0 all_data 0 h.vnodes h.vnodes_listed;
+      fit = sections_fit [] 0 all_data 0 h.vnodes none_fit refl (λ n few after. first_follows n after) h.vnodes_listed;
+    }
 
 pub said_allowed : (bytes : List ℕ) (i : IncrementFields) → Spells bytes i → Allowed i
 said_allowed bytes i h = subst Allowed (sym h.says) (said_at bytes i h)

@@ -168,33 +168,82 @@ message_is : (tag : ℕ) (text : List ℕ) → header_table tag ≡ Some forms.T
 message_is tag text at fits h = (forms.Text, at, text_whole text fits h)
 
 header_each : (h : HeaderFields) → AllowedHeader h → Each header_table (header_fields h)
-header_each h k =
-    (number_is 105 h.id refl k.id,
-    (number_is 118 h.stamp refl k.stamp,
-    ((forms.Name, refl, name_whole h.name k.name),
-    (byte_is 115 h.in_service refl k.in_service,
-    (byte_is 98 h.blessed refl k.blessed,
-    (number_is 117 h.uniq refl k.uniq,
-    ((forms.VolumeKind, refl, (one_byte h.kind (omega (arith, k.limits.kind)), (h.kind, refl, k.limits.kind))),
-    (number_is 112 h.parent refl k.parent,
-    (number_is 99 h.clone_id refl k.clone_id,
-    (number_is 113 h.max_quota refl k.max_quota,
-    (number_is 109 h.min_quota refl k.min_quota,
-    (number_is 100 h.disk_used refl k.disk_used,
-    (number_is 102 h.file_count refl k.file_count,
-    (number_is 97 h.account refl k.account,
-    (number_is 111 h.owner refl k.owner,
-    (number_is 67 h.created refl k.created,
-    (number_is 65 h.accessed refl k.accessed,
-    (number_is 85 h.updated refl k.updated,
-    (number_is 69 h.expires refl k.expires,
-    (number_is 66 h.backed_up refl k.backed_up,
-    (message_is 79 h.offline refl k.offline k.limits.offline,
-    (message_is 77 h.message refl k.message k.limits.message,
-    ((forms.Week, refl, week_whole h.week k.week k.days),
-    (number_is 68 h.day_date refl k.day_date,
-    (number_is 90 h.day_use refl k.day_use,
-    updates_each h.updates k.updates)))))))))))))))))))))))))
+header_each h k = (
+  number_is 105 h.id refl k.id,
+  (
+    number_is 118 h.stamp refl k.stamp,
+    (
+      (forms.Name, refl, name_whole h.name k.name),
+      (
+        byte_is 115 h.in_service refl k.in_service,
+        (
+          byte_is 98 h.blessed refl k.blessed,
+          (
+            number_is 117 h.uniq refl k.uniq,
+            (
+              (forms.VolumeKind, refl, (one_byte h.kind (omega (arith, k.limits.kind)), (h.kind, refl, k.limits.kind))),
+              (
+                number_is 112 h.parent refl k.parent,
+                (
+                  number_is 99 h.clone_id refl k.clone_id,
+                  (
+                    number_is 113 h.max_quota refl k.max_quota,
+                    (
+                      number_is 109 h.min_quota refl k.min_quota,
+                      (
+                        number_is 100 h.disk_used refl k.disk_used,
+                        (
+                          number_is 102 h.file_count refl k.file_count,
+                          (
+                            number_is 97 h.account refl k.account,
+                            (
+                              number_is 111 h.owner refl k.owner,
+                              (
+                                number_is 67 h.created refl k.created,
+                                (
+                                  number_is 65 h.accessed refl k.accessed,
+                                  (
+                                    number_is 85 h.updated refl k.updated,
+                                    (
+                                      number_is 69 h.expires refl k.expires,
+                                      (
+                                        number_is 66 h.backed_up refl k.backed_up,
+                                        (
+                                          message_is 79 h.offline refl k.offline k.limits.offline,
+                                          (
+                                            message_is 77 h.message refl k.message k.limits.message,
+                                            (
+                                              (forms.Week, refl, week_whole h.week k.week k.days),
+                                              (
+                                                number_is 68 h.day_date refl k.day_date,
+                                                (
+                                                  number_is 90 h.day_use refl k.day_use,
+                                                  updates_each h.updates k.updates,
+                                                ),
+                                              ),
+                                            ),
+                                          ),
+                                        ),
+                                      ),
+                                    ),
+                                  ),
+                                ),
+                              ),
+                            ),
+                          ),
+                        ),
+                      ),
+                    ),
+                  ),
+                ),
+              ),
+            ),
+          ),
+        ),
+      ),
+    ),
+  ),
+)
 
 header_fresh : (h : HeaderFields) (u : Option ℕ) → h.updates ≡ u → fresh [] (header_fields h) ≡ true
 header_fresh h None e = rw e refl
@@ -275,13 +324,22 @@ vnode_each room v h fit small =
     let second : Each table (short_field 98 v.mode ∷ number_field 112 v.parent ∷ number_field 115 v.server_modified ∷ (access_fields v.kind v.access ++ data_field 102 v.body ∷ [])) =
     (vnode_short n room 98 v.mode refl h.mode, (vnode_number n room 112 v.parent refl h.parent, (vnode_number n room 115 v.server_modified refl h.server_modified, behind))) in
     let third = each_append table (group_fields v.group) (short_field 98 v.mode ∷ number_field 112 v.parent ∷ number_field 115 v.server_modified ∷ (access_fields v.kind v.access ++ data_field 102 v.body ∷ []))
-    (group_each n room v.group h.group) second in
-    ((forms.Kind (eqb (n % 2) 1), refl, kind_whole n v.kind fit.kind),
-    (vnode_short n room 108 v.links refl h.links,
-    (vnode_number n room 118 v.data_version refl h.data_version,
-    (vnode_number n room 109 v.modified refl h.modified,
-    (vnode_number n room 97 v.author refl h.author,
-    (vnode_number n room 111 v.owner refl h.owner, third))))))
+    (group_each n room v.group h.group) second in (
+      (forms.Kind (eqb (n % 2) 1), refl, kind_whole n v.kind fit.kind),
+      (
+        vnode_short n room 108 v.links refl h.links,
+        (
+          vnode_number n room 118 v.data_version refl h.data_version,
+          (
+            vnode_number n room 109 v.modified refl h.modified,
+            (
+              vnode_number n room 97 v.author refl h.author,
+              (vnode_number n room 111 v.owner refl h.owner, third),
+            ),
+          ),
+        ),
+      ),
+    )
 
 vnode_fresh : (v : Vnode) (kind : VnodeKind) (none : Bool) → v.kind ≡ kind → eqb v.group 0 ≡ none → fresh [] (vnode_fields v) ≡ true
 vnode_fresh v File true e d = rw (e, d) refl
@@ -346,20 +404,20 @@ vnode_back v h fit =
     let no_group : payload_of 103 tail ≡ None = past_access v.kind v.access 103 last refl in
     let access_at : payload_of 65 (vnode_fields v) ≡ payload_of 65 (access_fields v.kind v.access ++ last) = past_group v.group 65 tail refl in
     ap Whole (same_vnode
-        (four_back v.number (to_be_bytes w32 v.uniq) h.number)
-        (four_back v.uniq [] h.uniq)
-        (kind_back v.kind)
-        (two_back v.links h.links)
-        (four_back v.data_version [] h.data_version)
-        (four_back v.modified [] h.modified)
-        (four_back v.author [] h.author)
-        (four_back v.owner [] h.owner)
-        (group_back v.group tail h.group no_group)
-        (ap short mode_at ∙ two_back v.mode h.mode)
-        (ap (λ (o : Option (List ℕ)). number o 0) parent_at ∙ four_back v.parent [] h.parent)
-        (ap (λ (o : Option (List ℕ)). number o 0) server_at ∙ four_back v.server_modified [] h.server_modified)
-        (ap (λ (o : Option (List ℕ)). bytes_or o (replicate 192 0)) access_at ∙ access_back v.kind v.access last fit.access refl)
-        (body_back v))
+    (four_back v.number (to_be_bytes w32 v.uniq) h.number)
+    (four_back v.uniq [] h.uniq)
+    (kind_back v.kind)
+    (two_back v.links h.links)
+    (four_back v.data_version [] h.data_version)
+    (four_back v.modified [] h.modified)
+    (four_back v.author [] h.author)
+    (four_back v.owner [] h.owner)
+    (group_back v.group tail h.group no_group)
+    (ap short mode_at ∙ two_back v.mode h.mode)
+    (ap (λ (o : Option (List ℕ)). number o 0) parent_at ∙ four_back v.parent [] h.parent)
+    (ap (λ (o : Option (List ℕ)). number o 0) server_at ∙ four_back v.server_modified [] h.server_modified)
+    (ap (λ (o : Option (List ℕ)). bytes_or o (replicate 192 0)) access_at ∙ access_back v.kind v.access last fit.access refl)
+    (body_back v))
 
 entry_back : (e : Entry) → AllowedEntry e → IsFit e → entry (section_of e) ≡ e
 entry_back (Whole v) h fit = vnode_back v h fit
@@ -421,12 +479,11 @@ sections_are count room last (e ∷ es) few some ordered leads fit h small =
     let fits = All-head IsFit e es fit in
     let sum : sum_by data_len (e ∷ es) ≡ data_len e + sum_by data_len es = sum_by-cons data_len e es in
     let behind = sections_are (count + 1) (room - data_len e) n es (omega arith) (All-tail (λ m. 1 ≤ m) n ns some) (pairs_tail StandsBefore n ns ordered) (inr (pairs_head StandsBefore n ns ordered))
-        (All-tail IsFit e es fit) (All-tail AllowedEntry e es h) (omega (arith, sum)) in
-    (
+    (All-tail IsFit e es fit) (All-tail AllowedEntry e es h) (omega (arith, sum)) in (
       omega arith,
       section_is last room e (comes_after last e es leads (All-head (λ m. 1 ≤ m) n ns some)) here fits (omega (arith, sum)),
       subst (λ (m : ℕ). AreSections (count + 1) (room - length (body_of (section_of e).fields)) m (map section_of es)) (sym (head_number e here))
-      (subst (λ (k : ℕ). AreSections (count + 1) (room - k) n (map section_of es)) (sym (section_data e)) behind),
+          (subst (λ (k : ℕ). AreSections (count + 1) (room - k) n (map section_of es)) (sym (section_data e)) behind),
     )
 
 -- ---- the stream

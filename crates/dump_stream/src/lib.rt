@@ -5,7 +5,6 @@ mod feeding;
 mod fields;
 mod form;
 mod judge;
-
 mod machine;
 mod part;
 mod pieces;

@@ -139,7 +139,7 @@ fn entry_is_allowed(entry: &Entry)
         Entry::Whole(vnode) => vnode_is_allowed(vnode),
         Entry::Kept { number, uniq } => {
             number_is_allowed(*number);
-    number_is_allowed(*uniq);
+            number_is_allowed(*uniq);
         }
     }
 }

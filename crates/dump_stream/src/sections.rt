@@ -10,7 +10,7 @@ ghost use Rattle.dump_stream.specs.Parts.{most, dump_fields_of, first_fields, mi
 
 use crate::part::Part;
 use bk_text::Name;
-use vnode_model::{HeaderFields, VolHeader, Vnode, VnodeKind};
+use vnode_model::{HeaderFields, Vnode, VnodeKind, VolHeader};
 
 /// The first byte of a stream and the two numbers behind it.
 const OPENING: [u8; 9] = [1, 0xb3, 0xa1, 0x13, 0x22, 0, 0, 0, 1];
@@ -95,14 +95,7 @@ fn put_header(part: &mut Part, header: &VolHeader)
 }
 
 /// The bytes of a stream up to its first vnode.
-pub fn put_headers(
-    part: &mut Part,
-    id: u32,
-    name: &Name,
-    from: u32,
-    to: u32,
-    header: &VolHeader,
-)
+pub fn put_headers(part: &mut Part, id: u32, name: &Name, from: u32, to: u32, header: &VolHeader)
     ensures { part.new ≡ headers id name.now from to header.now }
 {
     part.clear();

@@ -67,8 +67,10 @@ fn written_of(alloc: Global, increment: &Increment) -> Result<Bytes, AllocError>
 /// The volume of a stream with no kept entry.
 fn volume_of(alloc: Global, bytes: &[u8]) -> Result<Volume, Fail> {
     let increment = increment_of(alloc, bytes)?;
-    let volume = apply(alloc, None, increment).ok().ok_or("nothing is lacking")?;
-    Ok(volume)
+    match apply(alloc, None, increment) {
+        Ok(volume) => Ok(volume),
+        Err(_) => Err("nothing is lacking".into()),
+    }
 }
 
 /// All that a writer gives, in pieces that are read off from this room, at most 600 of them.
@@ -185,23 +187,34 @@ fn sizes(rt: HostRuntime) -> Result<(), Fail> {
     Ok(())
 }
 
-/// What is written of the volume that applying an increment of this volume to itself gives, the increment having gone
+/// What is written of a volume's increment from a time on.
+fn stream_from(alloc: Global, volume: &Volume, from: u32) -> Result<Bytes, Fail> {
+    let increment = select(alloc, volume, from, 9)?;
+    let bytes = written_of(alloc, &increment)?;
+    Ok(bytes)
+}
+
+fn applied_to(alloc: Global, volume: Volume, increment: Increment) -> Result<Volume, Fail> {
+    match apply(alloc, Some(volume), increment) {
+        Ok(volume) => Ok(volume),
+        Err(_) => Err("the base has all".into()),
+    }
+}
+
+/// What is written of the volume that applying its increment from a time on to it gives, the increment having gone
 /// through its stream.
 fn restored(alloc: Global, bytes: &[u8], from: u32) -> Result<Bytes, Fail> {
     let volume = volume_of(alloc, bytes)?;
-    let since = select(alloc, &volume, from, 9)?;
-    let stream = written_of(alloc, &since)?;
-    let again = increment_of(alloc, stream.as_slice())?;
-    let restored = apply(alloc, Some(volume), again).ok().ok_or("the base has all")?;
-    let whole = select(alloc, &restored, 0, 9)?;
-    Ok(written_of(alloc, &whole)?)
+    let stream = stream_from(alloc, &volume, from)?;
+    let increment = increment_of(alloc, stream.as_slice())?;
+    let restored = applied_to(alloc, volume, increment)?;
+    stream_from(alloc, &restored, 0)
 }
 
 #[test]
 fn restored_from_increments(rt: HostRuntime) -> Result<(), Fail> {
     let volume = volume_of(rt.alloc(), &BOTH)?;
-    let whole = select(rt.alloc(), &volume, 0, 9)?;
-    let wanted = written_of(rt.alloc(), &whole)?;
+    let wanted = stream_from(rt.alloc(), &volume, 0)?;
     for from in [0, 1, 1677721600, 1677721601] {
         let bytes = restored(rt.alloc(), &BOTH, from)?;
         assert_eq!(rt; bytes.as_slice(), wanted.as_slice(), "from {from}");
