@@ -3,7 +3,7 @@ use Rattle.std.proofs.Common.{◌≡◌, inl, ◌↔◌, IsTrue, ℕ, ◌+◌, �
 use Rattle.std.proofs.lemmas.List.{take-take, drop-take, drop-drop}
 use Rattle.crash_moments.specs.Moments.{Moments, Stepped, Leads}
 use Rattle.crash_moments.proofs.Joining.{weakened, stays}
-use Rattle.media_core.specs.Media.{Image, AtFile, Same}
+use Rattle.media_core.specs.Media.{Image, AtFile}
 use Rattle.crash_log.specs.Log.{span, Place, gate_at, is_good, log_of, HasLog}
 use Rattle.crash_log.proofs.Closing.{apart, ready_log}
 use Rattle.crash_log.proofs.Slots.{stands_log, none_good}
@@ -74,10 +74,6 @@ module _ {D : Type 0} (moments : Moments D Image) (seen : D → Image) (log : Lo
 pub fits_kept : {D : Type 0} (moments : Moments D Image) (seen : D → Image) (log : LogState) (old new : D) (R : Image → Image → Type 0) → Fits moments seen log old → ((c : Image) → moments.may_leave new c → Stepped moments old R c)
     → ((a b : Image) → R a b → b.file log.file ≡ a.file log.file) → (seen new).file log.file ≡ (seen old).file log.file → Fits moments seen log new
 fits_kept moments seen log old new R fits now alone same = fits_kept_as moments seen log old new R now alone same log.needs fits
-
--- a read keeps it
-pub fits_read : {D : Type 0} (moments : Moments D Image) (seen : D → Image) (log : LogState) (old new : D) → Fits moments seen log old → Leads moments old new Same → seen new ≡ seen old → Fits moments seen log new
-fits_read moments seen log old new fits leads same = fits_kept moments seen log old new Same fits leads.now (λ a b is. ap (λ (i : Image). i.file log.file) is) (ap (λ (i : Image). i.file log.file) same)
 
 -- each image has the settled log
 pub fits_has_log : {D : Type 0} (needs : Needs) (moments : Moments D Image) (seen : D → Image) (log : LogState) (media : D) → FitsAs needs moments seen log media → (a : Image) → moments.may_leave media a

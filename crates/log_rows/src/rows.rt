@@ -1,7 +1,5 @@
 // Logs in files of a media in memory, stopped at each call.
-ghost use Rattle.std.specs.Prelude.{◌≡◌, ◌+◌, ◌^◌, ◌<◌, ◌≤◌, ℕ, List, length, IfOk, OnOk, IsTrue};
-ghost use Rattle.media_core.specs.Files.{IsFresh};
-ghost use Rattle.crash_log.specs.Fit.{IsStill};
+ghost use Rattle.std.specs.Prelude.{◌≡◌, ◌+◌, ◌^◌, ◌<◌, ◌≤◌, ℕ, List, length, OnOk, IsTrue};
 ghost use Rattle.crash_log.specs.CrashLog.{file_of, FitsIts};
 
 use crash_log::{CrashLog, PutFault};
@@ -17,9 +15,7 @@ fn check(is_here: bool) -> Result<(), Failed>
 }
 
 /// Puts bytes into the log of a file, and commits them where that is asked.
-fn add<M: Media>(media: &mut M, f: u32, bytes: &[u8], commits: bool) -> Result<(), PutFault>
-    requires { M.tells → IsStill M.time M.seen f media.old }
-{
+fn add<M: Media>(media: &mut M, f: u32, bytes: &[u8], commits: bool) -> Result<(), PutFault> {
     if !media.here(f) {
         return Err(PutFault::Failed);
     }
@@ -38,9 +34,7 @@ fn add<M: Media>(media: &mut M, f: u32, bytes: &[u8], commits: bool) -> Result<(
 }
 
 /// The bytes of the log of a file, and whether the file is damaged.
-fn log_in<M: Media>(alloc: Global, media: &mut M, f: u32) -> Result<(Vec<u8>, bool), Fail>
-    requires { M.tells → IsStill M.time M.seen f media.old }
-{
+fn log_in<M: Media>(alloc: Global, media: &mut M, f: u32) -> Result<(Vec<u8>, bool), Fail> {
     check(media.here(f))?;
     let log = CrashLog::open(media, f, 100)?;
     let mut bytes = vec![in alloc; 0; log.len() as usize]?;
@@ -63,7 +57,6 @@ fn fill<M: Media>(media: &mut M, f: u32, bytes: &[u8]) -> Result<(), Failed>
 /// A media of two files, of which the second one has these bytes.
 fn media_with(alloc: Global, bytes: &[u8]) -> Result<MemMedia, Fail>
     requires { length bytes.now < 2 ^ 32 }
-    ensures { IfOk result IsFresh }
 {
     let mut media = MemMedia::new(alloc, 2)?;
     fill(&mut media, 1, bytes)?;
@@ -79,9 +72,7 @@ fn stopped(
     commits: bool,
     call: u64,
     pick: Pick,
-) -> Result<(bool, Vec<u8>, bool), Fail>
-    requires { IsFresh media }
-{
+) -> Result<(bool, Vec<u8>, bool), Fail> {
     media.stop_at(call);
     let done = add(&mut media, 1, bytes, commits).is_ok();
     let mut again = media.reopen(pick)?;
@@ -206,8 +197,8 @@ fn of_two_slots_the_turns_tell(rt: HostRuntime) -> Result<(), Fail> {
 /// The bytes of a log.
 fn bytes_of<M: Media>(alloc: Global, log: &CrashLog, media: &mut M) -> Result<Vec<u8>, Fail>
     requires here { IsTrue (M.present media.old (file_of log.now)) }
-    requires fits { M.tells → FitsIts M.time M.seen log.now media.old }
-    ensures fits { M.tells → FitsIts M.time M.seen log.now media.new }
+    requires fits { M.tells → FitsIts M.seen log.now media.old }
+    ensures fits { M.tells → FitsIts M.seen log.now media.new }
     ensures present { M.present media.new ≡ M.present media.old }
 {
     let mut bytes = vec![in alloc; 0; log.len() as usize]?;
@@ -216,9 +207,7 @@ fn bytes_of<M: Media>(alloc: Global, log: &CrashLog, media: &mut M) -> Result<Ve
 }
 
 /// Cuts what was only put, and replaces the log behind the current range and below it.
-fn changes<M: Media>(alloc: Global, media: &mut M, f: u32) -> Result<Vec<Vec<u8>>, Fail>
-    requires { M.tells → IsStill M.time M.seen f media.old }
-{
+fn changes<M: Media>(alloc: Global, media: &mut M, f: u32) -> Result<Vec<Vec<u8>>, Fail> {
     let mut seen = Vec::new(alloc);
     if !media.here(f) {
         return Ok(seen);
