@@ -1,7 +1,7 @@
 -- The steps of a put, a cut and a replace, one after the other.
 use Rattle.std.proofs.Common.{◌≡◌, inl, ◌↔◌, IsTrue, ℕ, ◌+◌, ◌<◌, ◌≤◌, false, List, ◌++◌, length, take, drop, refl, sym, ◌∙◌, ap, subst, arith}
 use Rattle.std.proofs.lemmas.List.{take-take, drop-take, drop-drop}
-use Rattle.crash_moments.specs.Moments.{Moments, Leads}
+use Rattle.crash_moments.specs.Moments.{Moments, Stepped, Leads}
 use Rattle.crash_moments.proofs.Joining.{weakened, stays}
 use Rattle.media_core.specs.Media.{Image, AtFile, Same}
 use Rattle.crash_log.specs.Log.{span, Place, gate_at, is_good, log_of, HasLog}
@@ -32,10 +32,10 @@ fits_long (Damaged first second) moments seen log media fits some = let none : l
 fits_long Stale moments seen log media fits some = omega (arith, fits.stands.within, fits.none)
 
 -- What reads and images show of the file stays.
-module _ {D : Type 0} (moments : Moments D Image) (seen : D → Image) (log : LogState) (old new : D) (R : Image → Image → Type 0) (leads : Leads moments old new R) (alone : (a b : Image) → R a b → b.file log.file ≡ a.file log.file)
+module _ {D : Type 0} (moments : Moments D Image) (seen : D → Image) (log : LogState) (old new : D) (R : Image → Image → Type 0) (now : (c : Image) → moments.may_leave new c → Stepped moments old R c) (alone : (a b : Image) → R a b → b.file log.file ≡ a.file log.file)
     (same : (seen new).file log.file ≡ (seen old).file log.file) where
   still_kept : IsStill moments seen log.file old → IsStill moments seen log.file new
-  still_kept still c left = let step = leads.now c left in alone step.from c step.step ∙ still step.from step.was ∙ sym same
+  still_kept still c left = let step = now c left in alone step.from c step.step ∙ still step.from step.was ∙ sym same
 
   moved_file : (P : List ℕ → Type 0) → P ((seen old).file log.file) → P ((seen new).file log.file)
   moved_file P p = subst P (sym same) p
@@ -45,10 +45,10 @@ module _ {D : Type 0} (moments : Moments D Image) (seen : D → Image) (log : Lo
   fits_kept_as Nothing fits = record {
     fine = fits.fine;
     put = moved_file (λ (l : List ℕ). log.start + (log.size + log.more) ≤ length l) fits.put;
-    stands = λ c left. let step = leads.now c left in
+    stands = λ c left. let step = now c left in
         moved_file (λ (l : List ℕ). Stands (base_of log) (place_in log) (settled_bytes log l) (c.file log.file))
         (subst (λ (l : List ℕ). Stands (base_of log) (place_in log) (settled_bytes log ((seen old).file log.file)) l) (sym (alone step.from c step.step)) (fits.stands step.from step.was));
-    other = λ c left. let step = leads.now c left in
+    other = λ c left. let step = now c left in
         subst (λ (l : List ℕ). Other log.other_open (other_of log) log.turn l) (sym (alone step.from c step.step)) (fits.other step.from step.was);
   }
   fits_kept_as Blank fits = record { still = still_kept fits.still; short = moved_file (λ (l : List ℕ). length l < 8192) fits.short; empty = fits.empty }
@@ -71,13 +71,13 @@ module _ {D : Type 0} (moments : Moments D Image) (seen : D → Image) (log : Lo
     other_bad = moved_file (λ (l : List ℕ). is_good (other_of log) l ≡ false) fits.other_bad;
   }
 
-pub fits_kept : {D : Type 0} (moments : Moments D Image) (seen : D → Image) (log : LogState) (old new : D) (R : Image → Image → Type 0) → Fits moments seen log old → Leads moments old new R
+pub fits_kept : {D : Type 0} (moments : Moments D Image) (seen : D → Image) (log : LogState) (old new : D) (R : Image → Image → Type 0) → Fits moments seen log old → ((c : Image) → moments.may_leave new c → Stepped moments old R c)
     → ((a b : Image) → R a b → b.file log.file ≡ a.file log.file) → (seen new).file log.file ≡ (seen old).file log.file → Fits moments seen log new
-fits_kept moments seen log old new R fits leads alone same = fits_kept_as moments seen log old new R leads alone same log.needs fits
+fits_kept moments seen log old new R fits now alone same = fits_kept_as moments seen log old new R now alone same log.needs fits
 
 -- a read keeps it
 pub fits_read : {D : Type 0} (moments : Moments D Image) (seen : D → Image) (log : LogState) (old new : D) → Fits moments seen log old → Leads moments old new Same → seen new ≡ seen old → Fits moments seen log new
-fits_read moments seen log old new fits leads same = fits_kept moments seen log old new Same fits leads (λ a b is. ap (λ (i : Image). i.file log.file) is) (ap (λ (i : Image). i.file log.file) same)
+fits_read moments seen log old new fits leads same = fits_kept moments seen log old new Same fits leads.now (λ a b is. ap (λ (i : Image). i.file log.file) is) (ap (λ (i : Image). i.file log.file) same)
 
 -- each image has the settled log
 pub fits_has_log : {D : Type 0} (needs : Needs) (moments : Moments D Image) (seen : D → Image) (log : LogState) (media : D) → FitsAs needs moments seen log media → (a : Image) → moments.may_leave media a

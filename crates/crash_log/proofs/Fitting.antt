@@ -2,12 +2,12 @@
 use Rattle.std.proofs.Common.{◌≡◌, inl, inr, ℕ, ◌+◌, ◌<◌, ◌≤◌, true, false, List, length, take, drop, ◌∙◌, ap, arith, length-drop}
 use Rattle.std.proofs.lemmas.Bool.{cases_lt}
 use Rattle.std.proofs.lemmas.List.{length-take}
-use Rattle.crash_moments.specs.Moments.{Moments, Leads}
+use Rattle.crash_moments.specs.Moments.{Moments, Stepped}
 use Rattle.media_core.specs.Media.{Image}
 use Rattle.crash_log.specs.Log.{log_of, is_damaged}
 use Rattle.crash_log.specs.State.{base_of, other_of, place_in, settled_bytes, needs_mending}
-use Rattle.crash_log.specs.Fit.{FitsAs, IsStill}
-use Rattle.crash_log.specs.CrashLog.{file_of, length_of, settled_of, damaged_of, log_bytes, settled_log, FitsIts}
+use Rattle.crash_log.specs.Fit.{Fits, FitsAs, IsStill, as_read}
+use Rattle.crash_log.specs.CrashLog.{file_of, length_of, settled_of, damaged_of, log_bytes, settled_log, FitsIts, Survives}
 use Rattle.crash_log.specs.declared.log.CrashLog.{CrashLog}
 use Rattle.crash_log.specs.declared.state.LogState.{LogState}
 use Rattle.crash_log.specs.declared.state.Needs.{Needs}
@@ -15,6 +15,7 @@ use Rattle.crash_log.specs.declared.state.Needs.TheVariants.{Nothing, Blank, Dam
 use Rattle.crash_log.proofs.Changing.{fits_kept, fits_long, fits_has_log, span_front}
 use Rattle.crash_log.proofs.Closing.{apart, ready_whole}
 use Rattle.crash_log.proofs.Formatting.{none_damaged}
+use Rattle.crash_log.proofs.Reading.{step_read, fits_still}
 use Rattle.crash_log.proofs.Slots.{stands_whole, short_whole}
 
 whole_as : {D : Type 0} (needs : Needs) (moments : Moments D Image) (seen : D → Image) (log : LogState) (media : D) → FitsAs needs moments seen log media → needs_mending needs ≡ false
@@ -56,7 +57,7 @@ settled_within log = omega arith
 pub damaged_empty : (log : CrashLog) → damaged_of log ≡ true → length_of log ≡ 0
 damaged_empty log damaged = log.bounded.none damaged
 
-module _ {D : Type 0} (moments : Moments D Image) (seen : D → Image) (log : CrashLog) (media : D) (fits : FitsIts moments seen log media) where
+module _ {D : Type 0} (moments : Moments D Image) (seen : D → Image) (log : CrashLog) (media : D) (fits : Fits moments seen log.state media) where
   -- each image has the settled log
   pub log_left : (c : Image) → moments.may_leave media c → log_of (c.file (file_of log)) ≡ settled_log log ((seen media).file (file_of log))
   log_left c left = fits_has_log log.state.needs moments seen log.state media fits c left
@@ -77,6 +78,16 @@ module _ {D : Type 0} (moments : Moments D Image) (seen : D → Image) (log : Cr
   bytes_long = long_span log.state.start (log.state.size + log.state.more) ((seen media).file (file_of log)) (fits_long log.state.needs moments seen log.state media fits)
 
   -- what leaves the file alone keeps the fit
-  pub fits_alone : (new : D) (R : Image → Image → Type 0) → Leads moments media new R → ((a b : Image) → R a b → b.file (file_of log) ≡ a.file (file_of log))
-      → (seen new).file (file_of log) ≡ (seen media).file (file_of log) → FitsIts moments seen log new
-  fits_alone new R leads alone same = fits_kept moments seen log.state media new R fits leads alone same
+  pub fits_alone : (new : D) (R : Image → Image → Type 0) → ((c : Image) → moments.may_leave new c → Stepped moments media R c) → ((a b : Image) → R a b → b.file (file_of log) ≡ a.file (file_of log))
+      → (seen new).file (file_of log) ≡ (seen media).file (file_of log) → Fits moments seen log.state new
+  fits_alone new R now alone same = fits_kept moments seen log.state media new R fits now alone same
+
+-- so does what reads of the file as before
+pub reads_alone : {D : Type 0} (seen : D → Image) (log : CrashLog) (media new : D) → FitsIts seen log media → (seen new).file (file_of log) ≡ (seen media).file (file_of log) → FitsIts seen log new
+reads_alone seen log media new fits same =
+    let Alone = λ (a b : Image). b.file (file_of log) ≡ a.file (file_of log) in
+    fits_alone (as_read seen) seen log media fits new Alone (step_read seen media new Alone same) (λ a b step. step) same
+
+-- where no write to the file waits for a sync, a log that fits survives a crash
+pub survives_still : {D : Type 0} (moments : Moments D Image) (seen : D → Image) (log : CrashLog) (media : D) → IsStill moments seen (file_of log) media → FitsIts seen log media → Survives moments seen log media
+survives_still moments seen log media still fits = fits_still moments seen log.state media still fits

@@ -7,6 +7,7 @@ mod Front
 mod Naming
 mod OpenedLemmas
 mod Opening
+pub mod Reading
 mod Slots
 mod Spans
 mod Stale

@@ -1,14 +1,15 @@
 -- Data is written apart from the slots and the current range.
 use Rattle.std.proofs.Common.{◌≡◌, ◌⊎◌, inl, inr, ℕ, ◌+◌, ◌≤◌, Bool, true, false, List, ◌++◌, length, take, drop, sym, ◌∙◌, ap, subst, arith, slice_index, length-drop, take-add}
 use Rattle.std.proofs.lemmas.List.{length-take, drop-drop}
-use Rattle.crash_moments.specs.Moments.{Moments, Leads}
+use Rattle.crash_moments.specs.Moments.{Moments, Stepped, Leads}
 use Rattle.crash_moments.proofs.Joining.{weakened}
 use Rattle.media_core.specs.Media.{Image, Torn, AtFile, Holds, written}
 use Rattle.media_core.specs.Kept.{written_torn}
 use Rattle.crash_log.specs.Log.{span, Place, place_of, gate_at, place_at, HasLog}
 use Rattle.crash_log.specs.State.{base_of, other_of, place_in, settled_bytes, with_more}
-use Rattle.crash_log.specs.Fit.{Stands, Other, IsReady}
+use Rattle.crash_log.specs.Fit.{Stands, Other, IsReady, as_read}
 use Rattle.crash_log.specs.declared.state.LogState.{LogState}
+use Rattle.crash_log.proofs.Reading.{step_read}
 use Rattle.crash_log.proofs.Spans.{torn_span, written_span}
 use Rattle.crash_log.proofs.Slots.{stands_log, stands_whole, yields_still}
 use Rattle.crash_log.proofs.Closing.{apart, other_low, is_other}
@@ -38,8 +39,7 @@ module _ (base : ℕ) (low : base ≤ 4096) (at m : ℕ) (high : 8192 ≤ at) (o
   other_behind true turn older = yields_still base turn old new (gate_same ∙ older.gate) place_same torn.no_shorter older
   other_behind false turn shut = λ is_one. shut (sym gate_same ∙ is_one)
 
-module _ {D : Type 0} (moments : Moments D Image) (seen : D → Image) (log : LogState) (old mid : D) (at n : ℕ) (high : 8192 ≤ at) (clear : (at + n ≤ log.start) ⊎ (log.start + log.size ≤ at)) (ready : IsReady moments seen log old)
-    (leads : Leads moments old mid (AtFile log.file (Torn at n))) where
+module _ {D : Type 0} (moments : Moments D Image) (seen : D → Image) (log : LogState) (old mid : D) (at n : ℕ) (high : 8192 ≤ at) (clear : (at + n ≤ log.start) ⊎ (log.start + log.size ≤ at)) (ready : IsReady moments seen log old) where
   abbrev before : List ℕ
   before = (seen old).file log.file
 
@@ -55,8 +55,8 @@ module _ {D : Type 0} (moments : Moments D Image) (seen : D → Image) (log : Lo
   other_then : (a c : List ℕ) → Torn at n a c → Other log.other_open (other_of log) log.turn a → Other log.other_open (other_of log) log.turn c
   other_then a c torn other = other_behind (other_of log) (other_low log) at n high a c torn log.other_open log.turn other
 
-  pub writing : Leads moments old mid (AtFile log.file (HasLog settled))
-  writing = weakened moments old mid (AtFile log.file (Torn at n)) (AtFile log.file (HasLog settled)) leads (λ a c was step. record {
+  pub writing : Leads moments old mid (AtFile log.file (Torn at n)) → Leads moments old mid (AtFile log.file (HasLog settled))
+  writing leads = weakened moments old mid (AtFile log.file (Torn at n)) (AtFile log.file (HasLog settled)) leads (λ a c was step. record {
     here = record {
       bytes = stands_log (base_of log) (other_of log) (apart log) (place_in log) settled (c.file log.file) ready.fine
           (stands_then (a.file log.file) (c.file log.file) step.here (ready.stands a was))
@@ -68,7 +68,7 @@ module _ {D : Type 0} (moments : Moments D Image) (seen : D → Image) (log : Lo
   })
 
   module _ (bytes : List ℕ) (size : length bytes ≡ n) (within : at ≤ length before) (holds : Holds at bytes before ((seen mid).file log.file)) where
-    torn : Torn at n before ((seen mid).file log.file)
+    pub torn : Torn at n before ((seen mid).file log.file)
     torn = subst (Torn at n before) (sym holds) (subst (λ (k : ℕ). Torn at k before (written at bytes before)) size (written_torn at bytes before within))
 
     pub wrote_settled : settled_bytes log ((seen mid).file log.file) ≡ settled
@@ -83,14 +83,22 @@ module _ {D : Type 0} (moments : Moments D Image) (seen : D → Image) (log : Lo
     pub wrote_long : at + n ≤ length ((seen mid).file log.file)
     wrote_long = omega (arith, ap length wrote_bytes, size, length-take n (drop at ((seen mid).file log.file)), length-drop at ((seen mid).file log.file), torn.no_shorter, within)
 
-    pub wrote_ready : IsReady moments seen log mid
-    wrote_ready = record {
+    pub wrote_ready : ((c : Image) → moments.may_leave mid c → Stepped moments old (AtFile log.file (Torn at n)) c) → IsReady moments seen log mid
+    wrote_ready now = record {
       fine = ready.fine;
       put = omega (arith, ready.put, torn.no_shorter);
-      stands = λ c left. let step = leads.now c left in
+      stands = λ c left. let step = now c left in
           subst (λ (l : List ℕ). Stands (base_of log) (place_in log) l (c.file log.file)) (sym wrote_settled) (stands_then (step.from.file log.file) (c.file log.file) step.step.here (ready.stands step.from step.was));
-      other = λ c left. let step = leads.now c left in other_then (step.from.file log.file) (c.file log.file) step.step.here (ready.other step.from step.was);
+      other = λ c left. let step = now c left in other_then (step.from.file log.file) (c.file log.file) step.step.here (ready.other step.from step.was);
     }
+
+-- as reads give it
+module _ {D : Type 0} (seen : D → Image) (log : LogState) (old mid : D) (at n : ℕ) (high : 8192 ≤ at) (clear : (at + n ≤ log.start) ⊎ (log.start + log.size ≤ at)) (ready : IsReady (as_read seen) seen log old) where
+  pub wrote_reads : (bytes : List ℕ) (size : length bytes ≡ n) (within : at ≤ length ((seen old).file log.file)) → AtFile log.file (Holds at bytes) (seen old) (seen mid) → IsReady (as_read seen) seen log mid
+  wrote_reads bytes size within written =
+      let here = torn (as_read seen) seen log old mid at n high clear ready bytes size within written.here in
+      wrote_ready (as_read seen) seen log old mid at n high clear ready bytes size within written.here
+      (step_read seen old mid (AtFile log.file (Torn at n)) (record { here = here; others = written.others; told = written.told }))
 
 -- more was put
 pub more_ready : {D : Type 0} (moments : Moments D Image) (seen : D → Image) (log : LogState) (media : D) (n : ℕ) → IsReady moments seen log media → log.start + (log.size + log.more) + n ≤ length ((seen media).file log.file) → IsReady moments seen (with_more log n) media

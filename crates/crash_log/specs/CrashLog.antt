@@ -3,7 +3,7 @@ use Rattle.std.specs.Prelude.{◌≡◌, ℕ, Bool, false, List}
 use Rattle.crash_moments.specs.Moments.{Moments}
 use Rattle.media_core.specs.Media.{Image}
 use Rattle.crash_log.specs.State.{len_of, put_bytes, settled_bytes, needs_mending}
-use Rattle.crash_log.specs.Fit.{Fits}
+use Rattle.crash_log.specs.Fit.{Fits, as_read}
 use Rattle.crash_log.specs.declared.state.LogState.{LogState}
 use Rattle.crash_log.specs.declared.log.CrashLog.{CrashLog}
 
@@ -37,9 +37,13 @@ log_bytes log file = put_bytes log.state file
 abbrev pub settled_log : CrashLog → List ℕ → List ℕ
 settled_log log file = settled_bytes log.state file
 
--- It fits its file: each image that a crash may leave has the settled log, and reads give it with what was put.
-abbrev pub FitsIts : {D : Type 0} → Moments D Image → (D → Image) → CrashLog → D → Type 0
-FitsIts moments seen log media = Fits moments seen log.state media
+-- It fits its file: reads give its bytes, with what was put.
+abbrev pub FitsIts : {D : Type 0} → (D → Image) → CrashLog → D → Type 0
+FitsIts seen log media = Fits (as_read seen) seen log.state media
+
+-- It survives a crash: each image that a crash may leave has its settled log.
+abbrev pub Survives : {D : Type 0} → Moments D Image → (D → Image) → CrashLog → D → Type 0
+Survives moments seen log media = Fits moments seen log.state media
 
 -- it is the log of the same file with the same limit, of this length, of which so much is settled, and isn't damaged
 pub record IsNow (old : CrashLog) (n kept : ℕ) (new : CrashLog) : Type 0 where

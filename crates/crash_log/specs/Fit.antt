@@ -27,14 +27,24 @@ pub record Yields (base turn : ℕ) (file : List ℕ) : Type 0 where
 abbrev pub Other : Bool → ℕ → ℕ → List ℕ → Type 0
 Other is_open base turn file = MatchBool is_open (Yields base turn file) (gate_at base file ≢ 1)
 
--- Nothing has to be done first. Each image that a crash may leave has the settled log, and the file has what was put.
+-- moments of which a crash leaves just what reads give
+abbrev pub as_read : {D : Type 0} → (D → Image) → Moments D Image
+as_read seen = record {
+  moment = λ s. 0;
+  may_leave = λ s c. c ≡ seen s;
+  left_since = λ s t c. c ≡ seen s;
+  counts_now = λ s t c le left. left;
+  only_now = λ s c left. left;
+}
+
+-- Nothing has to be done first. Each image that these moments may leave has the settled log, and the file has what was put.
 pub record IsReady {D : Type 0} (moments : Moments D Image) (seen : D → Image) (log : LogState) (media : D) : Type 0 where
   pub fine : IsFine (place_in log)
   pub put : log.start + (log.size + log.more) ≤ length ((seen media).file log.file)
   pub stands : (c : Image) → moments.may_leave media c → Stands (base_of log) (place_in log) (settled_bytes log ((seen media).file log.file)) (c.file log.file)
   pub other : (c : Image) → moments.may_leave media c → Other log.other_open (other_of log) log.turn (c.file log.file)
 
--- nothing was written yet: in each image the file is as it is read
+-- no write to the file waits for a sync: in each image the file is as it is read
 abbrev pub IsStill : {D : Type 0} → Moments D Image → (D → Image) → ℕ → D → Type 0
 IsStill moments seen f media = (c : Image) → moments.may_leave media c → c.file f ≡ (seen media).file f
 
@@ -70,7 +80,7 @@ FitsAs Blank moments seen log media = IsBlank moments seen log media
 FitsAs (Damaged first second) moments seen log media = IsBad moments seen first second log media
 FitsAs Stale moments seen log media = IsStale moments seen log media
 
--- Each image that a crash may leave has the settled log, and reads give it with what was put.
+-- Each image that these moments may leave has the settled log, and reads give it with what was put.
 abbrev pub Fits : {D : Type 0} → Moments D Image → (D → Image) → LogState → D → Type 0
 Fits moments seen log media = FitsAs log.needs moments seen log media
 

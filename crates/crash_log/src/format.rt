@@ -3,7 +3,7 @@ ghost use Rattle.std.specs.Prelude.{◌≡◌, ◌≢◌, ◌⊎◌, ◌↔◌, 
 ghost use Rattle.crash_moments.specs.Moments.{Leads, HasCause};
 ghost use Rattle.media_core.specs.Media.{Image, AtFile};
 ghost use Rattle.crash_log.specs.Log.{gate_at, HasLog, Any};
-ghost use Rattle.crash_log.specs.Fit.{IsStill};
+ghost use Rattle.crash_log.specs.Fit.{IsStill, as_read};
 ghost use Rattle.crash_log.specs.Format.{IsFront, HasNoGood, IsShut, IsPlaced, IsFormatted, Has};
 
 use crate::settle::settle;
@@ -24,11 +24,11 @@ fn front() -> [u8; 8191]
 /// Writes all but the last byte of the slots. The file stays blank, since it is shorter than they are.
 fn write_front<M: Media>(media: &mut M, f: u32) -> Result<(), Failed>
     requires here { IsTrue (M.present media.old f) }
-    requires still { M.tells → IsStill M.time M.seen f media.old }
     requires short { M.tells → length ((M.seen media.old).file f) < 8192 }
-    ensures front { M.tells → OnOk result (Has M.time M.seen IsFront f media.new) }
+    ensures front { M.tells → OnOk result (Has (as_read M.seen) M.seen IsFront f media.new) }
+    ensures still { M.tells → OnOk result (IsStill M.time M.seen f media.new) }
     ensures frame { M.tells → OnOk result (AtFile f Any (M.seen media.old) (M.seen media.new)) }
-    ensures crash { M.tells → Leads M.time media.old media.new (AtFile f (HasLog [])) }
+    ensures crash { M.tells → IsStill M.time M.seen f media.old → Leads M.time media.old media.new (AtFile f (HasLog [])) }
     ensures count { M.count media.new ≡ M.count media.old }
     ensures present { M.present media.new ≡ M.present media.old }
     ensures cause { HasCause (M.faults media.old) (M.faults media.new) result }
@@ -41,10 +41,11 @@ fn write_front<M: Media>(media: &mut M, f: u32) -> Result<(), Failed>
 /// Writes the last byte of the slots.
 fn write_end<M: Media>(media: &mut M, f: u32) -> Result<(), Failed>
     requires here { IsTrue (M.present media.old f) }
-    requires front { M.tells → Has M.time M.seen IsFront f media.old }
-    ensures formatted { M.tells → OnOk result (Has M.time M.seen IsFormatted f media.new) }
+    requires front { M.tells → Has (as_read M.seen) M.seen IsFront f media.old }
+    ensures formatted { M.tells → OnOk result (Has (as_read M.seen) M.seen IsFormatted f media.new) }
+    ensures still { M.tells → OnOk result (IsStill M.time M.seen f media.new) }
     ensures frame { M.tells → OnOk result (AtFile f Any (M.seen media.old) (M.seen media.new)) }
-    ensures crash { M.tells → Leads M.time media.old media.new (AtFile f (HasLog [])) }
+    ensures crash { M.tells → Has M.time M.seen IsFront f media.old → Leads M.time media.old media.new (AtFile f (HasLog [])) }
     ensures count { M.count media.new ≡ M.count media.old }
     ensures present { M.present media.new ≡ M.present media.old }
     ensures cause { HasCause (M.faults media.old) (M.faults media.new) result }
@@ -57,11 +58,11 @@ fn write_end<M: Media>(media: &mut M, f: u32) -> Result<(), Failed>
 /// Formats a blank file.
 pub fn format_blank<M: Media>(media: &mut M, f: u32) -> Result<(), Failed>
     requires here { IsTrue (M.present media.old f) }
-    requires still { M.tells → IsStill M.time M.seen f media.old }
     requires short { M.tells → length ((M.seen media.old).file f) < 8192 }
-    ensures formatted { M.tells → OnOk result (Has M.time M.seen IsFormatted f media.new) }
+    ensures formatted { M.tells → OnOk result (Has (as_read M.seen) M.seen IsFormatted f media.new) }
+    ensures still { M.tells → OnOk result (IsStill M.time M.seen f media.new) }
     ensures frame { M.tells → OnOk result (AtFile f Any (M.seen media.old) (M.seen media.new)) }
-    ensures crash { M.tells → Leads M.time media.old media.new (AtFile f (HasLog [])) }
+    ensures crash { M.tells → IsStill M.time M.seen f media.old → Leads M.time media.old media.new (AtFile f (HasLog [])) }
     ensures count { M.count media.new ≡ M.count media.old }
     ensures present { M.present media.new ≡ M.present media.old }
     ensures cause { HasCause (M.faults media.old) (M.faults media.new) result }
@@ -76,13 +77,14 @@ pub fn format_blank<M: Media>(media: &mut M, f: u32) -> Result<(), Failed>
 fn close_gate<M: Media>(media: &mut M, f: u32, base: u64, is_open: bool) -> Result<(), Failed>
     requires here { IsTrue (M.present media.old f) }
     requires base { (base ≡ 0) ⊎ (base ≡ 4096) }
-    requires bad { M.tells → Has M.time M.seen HasNoGood f media.old }
+    requires bad { M.tells → Has (as_read M.seen) M.seen HasNoGood f media.old }
     requires gate { M.tells → (IsTrue is_open ↔ (gate_at base ((M.seen media.old).file f) ≡ 1)) }
-    ensures bad { M.tells → OnOk result (Has M.time M.seen HasNoGood f media.new) }
+    ensures bad { M.tells → OnOk result (Has (as_read M.seen) M.seen HasNoGood f media.new) }
+    ensures survives { M.tells → Has M.time M.seen HasNoGood f media.old → OnOk result (Has M.time M.seen HasNoGood f media.new) }
     ensures shut { M.tells → OnOk result (gate_at base ((M.seen media.new).file f) ≢ 1) }
     ensures others { M.tells → OnOk result ((o : ℕ) → (o + 1 ≤ base) ⊎ (base + 1 ≤ o) → gate_at o ((M.seen media.new).file f) ≡ gate_at o ((M.seen media.old).file f)) }
     ensures frame { M.tells → OnOk result (AtFile f Any (M.seen media.old) (M.seen media.new)) }
-    ensures crash { M.tells → Leads M.time media.old media.new (AtFile f (HasLog [])) }
+    ensures crash { M.tells → Has M.time M.seen HasNoGood f media.old → Leads M.time media.old media.new (AtFile f (HasLog [])) }
     ensures count { M.count media.new ≡ M.count media.old }
     ensures present { M.present media.new ≡ M.present media.old }
     ensures cause { HasCause (M.faults media.old) (M.faults media.new) result }
@@ -98,12 +100,13 @@ fn close_gate<M: Media>(media: &mut M, f: u32, base: u64, is_open: bool) -> Resu
 /// Closes both gates of a damaged file, of which it is known which are open.
 fn close_gates<M: Media>(media: &mut M, f: u32, first: bool, second: bool) -> Result<(), Failed>
     requires here { IsTrue (M.present media.old f) }
-    requires bad { M.tells → Has M.time M.seen HasNoGood f media.old }
+    requires bad { M.tells → Has (as_read M.seen) M.seen HasNoGood f media.old }
     requires first { M.tells → (IsTrue first ↔ (gate_at 0 ((M.seen media.old).file f) ≡ 1)) }
     requires second { M.tells → (IsTrue second ↔ (gate_at 4096 ((M.seen media.old).file f) ≡ 1)) }
-    ensures shut { M.tells → OnOk result (Has M.time M.seen IsShut f media.new) }
+    ensures shut { M.tells → OnOk result (Has (as_read M.seen) M.seen IsShut f media.new) }
+    ensures survives { M.tells → Has M.time M.seen HasNoGood f media.old → OnOk result (Has M.time M.seen IsShut f media.new) }
     ensures frame { M.tells → OnOk result (AtFile f Any (M.seen media.old) (M.seen media.new)) }
-    ensures crash { M.tells → Leads M.time media.old media.new (AtFile f (HasLog [])) }
+    ensures crash { M.tells → Has M.time M.seen HasNoGood f media.old → Leads M.time media.old media.new (AtFile f (HasLog [])) }
     ensures count { M.count media.new ≡ M.count media.old }
     ensures present { M.present media.new ≡ M.present media.old }
     ensures cause { HasCause (M.faults media.old) (M.faults media.new) result }
@@ -117,10 +120,11 @@ fn close_gates<M: Media>(media: &mut M, f: u32, first: bool, second: bool) -> Re
 /// Writes the first slot's fields. Its gate is closed.
 fn write_place<M: Media>(media: &mut M, f: u32) -> Result<(), Failed>
     requires here { IsTrue (M.present media.old f) }
-    requires shut { M.tells → Has M.time M.seen IsShut f media.old }
-    ensures placed { M.tells → OnOk result (Has M.time M.seen IsPlaced f media.new) }
+    requires shut { M.tells → Has (as_read M.seen) M.seen IsShut f media.old }
+    ensures placed { M.tells → OnOk result (Has (as_read M.seen) M.seen IsPlaced f media.new) }
+    ensures still { M.tells → OnOk result (IsStill M.time M.seen f media.new) }
     ensures frame { M.tells → OnOk result (AtFile f Any (M.seen media.old) (M.seen media.new)) }
-    ensures crash { M.tells → Leads M.time media.old media.new (AtFile f (HasLog [])) }
+    ensures crash { M.tells → Has M.time M.seen IsShut f media.old → Leads M.time media.old media.new (AtFile f (HasLog [])) }
     ensures count { M.count media.new ≡ M.count media.old }
     ensures present { M.present media.new ≡ M.present media.old }
     ensures cause { HasCause (M.faults media.old) (M.faults media.new) result }
@@ -134,10 +138,11 @@ fn write_place<M: Media>(media: &mut M, f: u32) -> Result<(), Failed>
 /// Opens the first slot, which has its fields.
 fn open_first<M: Media>(media: &mut M, f: u32) -> Result<(), Failed>
     requires here { IsTrue (M.present media.old f) }
-    requires placed { M.tells → Has M.time M.seen IsPlaced f media.old }
-    ensures formatted { M.tells → OnOk result (Has M.time M.seen IsFormatted f media.new) }
+    requires placed { M.tells → Has (as_read M.seen) M.seen IsPlaced f media.old }
+    ensures formatted { M.tells → OnOk result (Has (as_read M.seen) M.seen IsFormatted f media.new) }
+    ensures still { M.tells → OnOk result (IsStill M.time M.seen f media.new) }
     ensures frame { M.tells → OnOk result (AtFile f Any (M.seen media.old) (M.seen media.new)) }
-    ensures crash { M.tells → Leads M.time media.old media.new (AtFile f (HasLog [])) }
+    ensures crash { M.tells → Has M.time M.seen IsPlaced f media.old → Leads M.time media.old media.new (AtFile f (HasLog [])) }
     ensures count { M.count media.new ≡ M.count media.old }
     ensures present { M.present media.new ≡ M.present media.old }
     ensures cause { HasCause (M.faults media.old) (M.faults media.new) result }
@@ -155,12 +160,13 @@ pub fn format_damaged<M: Media>(
     second: bool,
 ) -> Result<(), Failed>
     requires here { IsTrue (M.present media.old f) }
-    requires bad { M.tells → Has M.time M.seen HasNoGood f media.old }
+    requires bad { M.tells → Has (as_read M.seen) M.seen HasNoGood f media.old }
     requires first { M.tells → (IsTrue first ↔ (gate_at 0 ((M.seen media.old).file f) ≡ 1)) }
     requires second { M.tells → (IsTrue second ↔ (gate_at 4096 ((M.seen media.old).file f) ≡ 1)) }
-    ensures formatted { M.tells → OnOk result (Has M.time M.seen IsFormatted f media.new) }
+    ensures formatted { M.tells → OnOk result (Has (as_read M.seen) M.seen IsFormatted f media.new) }
+    ensures still { M.tells → OnOk result (IsStill M.time M.seen f media.new) }
     ensures frame { M.tells → OnOk result (AtFile f Any (M.seen media.old) (M.seen media.new)) }
-    ensures crash { M.tells → Leads M.time media.old media.new (AtFile f (HasLog [])) }
+    ensures crash { M.tells → Has M.time M.seen HasNoGood f media.old → Leads M.time media.old media.new (AtFile f (HasLog [])) }
     ensures count { M.count media.new ≡ M.count media.old }
     ensures present { M.present media.new ≡ M.present media.old }
     ensures cause { HasCause (M.faults media.old) (M.faults media.new) result }

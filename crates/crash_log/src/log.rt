@@ -27,7 +27,8 @@ pub enum PutFault {
 /// log fits its file. `open` gives that, and each call keeps it unless it answers `Failed`. No call takes memory.
 ///
 /// A crash at any moment of a call leaves the settled log from before it or the one after it. The other files and what was
-/// told are as in an image at the call's entry.
+/// told are as in an image at the call's entry. This is said of a log that survives a crash: one at whose opening no write
+/// to the file waited for a sync, and any log from the next commit, cut or replace on.
 #[derive(Drop)]
 pub struct CrashLog {
     state: LogState,
@@ -35,18 +36,19 @@ pub struct CrashLog {
 }
 
 impl CrashLog {
-    ghost use Rattle.crash_log.specs.CrashLog.{file_of, limit_of, length_of, settled_of, damaged_of, log_bytes, settled_log, FitsIts, IsNow};
+    ghost use Rattle.crash_log.specs.CrashLog.{file_of, limit_of, length_of, settled_of, damaged_of, log_bytes, settled_log, FitsIts, Survives, IsNow};
 
-    /// Opens the log of a file. It writes nothing. Its condition beside the file's being here is a limit of at most 2^36
-    /// bytes, and that no write to the file waits for a sync.
+    /// Opens the log of a file. It writes nothing. Its conditions are that the file is here and a limit of at most 2^36
+    /// bytes. Where no write to the file waits for a sync, the log survives a crash. Else it does from the next commit, cut or
+    /// replace on.
     pub fn open<M: Media>(media: &mut M, f: u32, limit: u64) -> Result<CrashLog, Failed>
         requires here { IsTrue (M.present media.old f) }
         requires limit { limit ≤ 2 ^ 36 }
-        requires still { M.tells → IsStill M.time M.seen f media.old }
         ensures file { IfOk result (λ log. file_of log ≡ f) }
         ensures limit { IfOk result (λ log. limit_of log ≡ limit) }
         ensures whole { IfOk result (λ log. settled_of log ≡ length_of log) }
-        ensures fits { M.tells → IfOk result (λ log. FitsIts M.time M.seen log media.new) }
+        ensures fits { M.tells → IfOk result (λ log. FitsIts M.seen log media.new) }
+        ensures survives { M.tells → IsStill M.time M.seen f media.old → IfOk result (λ log. Survives M.time M.seen log media.new) }
         ensures bytes { M.tells → IfOk result (λ log. log_bytes log ((M.seen media.old).file f) ≡ log_of ((M.seen media.old).file f)) }
         ensures settled { M.tells → IfOk result (λ log. settled_log log ((M.seen media.old).file f) ≡ log_of ((M.seen media.old).file f)) }
         ensures damaged { M.tells → IfOk result (λ log. damaged_of log ≡ is_damaged ((M.seen media.old).file f)) }
@@ -84,9 +86,10 @@ impl CrashLog {
     pub fn read<M: Media>(&self, media: &mut M, at: u64, into: &mut [u8]) -> Result<(), Failed>
         requires here { IsTrue (M.present media.old (file_of self.now)) }
         requires within { at + length into.old ≤ length_of self.now }
-        requires fits { M.tells → FitsIts M.time M.seen self.now media.old }
+        requires fits { M.tells → FitsIts M.seen self.now media.old }
         ensures bytes { M.tells → OnOk result (into.new ≡ take (length into.old) (drop at (log_bytes self.now ((M.seen media.old).file (file_of self.now))))) }
-        ensures fits { M.tells → FitsIts M.time M.seen self.now media.new }
+        ensures fits { M.tells → FitsIts M.seen self.now media.new }
+        ensures survives { M.tells → Survives M.time M.seen self.now media.old → Survives M.time M.seen self.now media.new }
         ensures seen { M.tells → M.seen media.new ≡ M.seen media.old }
         ensures crash { M.tells → Leads M.time media.old media.new Same }
         ensures count { M.count media.new ≡ M.count media.old }
@@ -105,15 +108,16 @@ impl CrashLog {
     /// longer than its limit, and nothing is written then.
     pub fn put<M: Media>(&mut self, media: &mut M, piece: &[u8]) -> Result<(), PutFault>
         requires here { IsTrue (M.present media.old (file_of self.old)) }
-        requires fits { M.tells → FitsIts M.time M.seen self.old media.old }
+        requires fits { M.tells → FitsIts M.seen self.old media.old }
         ensures log { OnOk result (IsNow self.old (length_of self.old + length piece.now) (settled_of self.old) self.new) }
         ensures full { (result ≡ Err PutFault.LogFull) ↔ (limit_of self.old < length_of self.old + length piece.now) }
         ensures full_state { result ≡ Err PutFault.LogFull → (self.new ≡ self.old) × (media.new ≡ media.old) }
-        ensures fits { M.tells → OnOk result (FitsIts M.time M.seen self.new media.new) }
+        ensures fits { M.tells → OnOk result (FitsIts M.seen self.new media.new) }
+        ensures survives { M.tells → Survives M.time M.seen self.old media.old → OnOk result (Survives M.time M.seen self.new media.new) }
         ensures bytes { M.tells → OnOk result (log_bytes self.new ((M.seen media.new).file (file_of self.old)) ≡ log_bytes self.old ((M.seen media.old).file (file_of self.old)) ++ piece.now) }
         ensures settled { M.tells → OnOk result (settled_log self.new ((M.seen media.new).file (file_of self.old)) ≡ settled_log self.old ((M.seen media.old).file (file_of self.old))) }
         ensures frame { M.tells → OnOk result (AtFile (file_of self.old) Any (M.seen media.old) (M.seen media.new)) }
-        ensures crash { M.tells → Leads M.time media.old media.new (AtFile (file_of self.old) (HasLog (settled_log self.old ((M.seen media.old).file (file_of self.old))))) }
+        ensures crash { M.tells → Survives M.time M.seen self.old media.old → Leads M.time media.old media.new (AtFile (file_of self.old) (HasLog (settled_log self.old ((M.seen media.old).file (file_of self.old))))) }
         ensures count { M.count media.new ≡ M.count media.old }
         ensures present { M.present media.new ≡ M.present media.old }
         ensures faults { M.faults media.old ≤ M.faults media.new }
@@ -134,13 +138,14 @@ impl CrashLog {
     fn put_within<M: Media>(&mut self, media: &mut M, piece: &[u8]) -> Result<(), Failed>
         requires here { IsTrue (M.present media.old (file_of self.old)) }
         requires room { length_of self.old + length piece.now ≤ limit_of self.old }
-        requires fits { M.tells → FitsIts M.time M.seen self.old media.old }
+        requires fits { M.tells → FitsIts M.seen self.old media.old }
         ensures log { OnOk result (IsNow self.old (length_of self.old + length piece.now) (settled_of self.old) self.new) }
-        ensures fits { M.tells → OnOk result (FitsIts M.time M.seen self.new media.new) }
+        ensures fits { M.tells → OnOk result (FitsIts M.seen self.new media.new) }
+        ensures survives { M.tells → Survives M.time M.seen self.old media.old → OnOk result (Survives M.time M.seen self.new media.new) }
         ensures bytes { M.tells → OnOk result (log_bytes self.new ((M.seen media.new).file (file_of self.old)) ≡ log_bytes self.old ((M.seen media.old).file (file_of self.old)) ++ piece.now) }
         ensures settled { M.tells → OnOk result (settled_log self.new ((M.seen media.new).file (file_of self.old)) ≡ settled_log self.old ((M.seen media.old).file (file_of self.old))) }
         ensures frame { M.tells → OnOk result (AtFile (file_of self.old) Any (M.seen media.old) (M.seen media.new)) }
-        ensures crash { M.tells → Leads M.time media.old media.new (AtFile (file_of self.old) (HasLog (settled_log self.old ((M.seen media.old).file (file_of self.old))))) }
+        ensures crash { M.tells → Survives M.time M.seen self.old media.old → Leads M.time media.old media.new (AtFile (file_of self.old) (HasLog (settled_log self.old ((M.seen media.old).file (file_of self.old))))) }
         ensures count { M.count media.new ≡ M.count media.old }
         ensures present { M.present media.new ≡ M.present media.old }
         ensures cause { HasCause (M.faults media.old) (M.faults media.new) result }
@@ -157,14 +162,15 @@ impl CrashLog {
     /// Settles what was put.
     pub fn commit<M: Media>(&mut self, media: &mut M) -> Result<(), Failed>
         requires here { IsTrue (M.present media.old (file_of self.old)) }
-        requires fits { M.tells → FitsIts M.time M.seen self.old media.old }
+        requires fits { M.tells → FitsIts M.seen self.old media.old }
         ensures log { OnOk result (IsNow self.old (length_of self.old) (length_of self.old) self.new) }
-        ensures fits { M.tells → OnOk result (FitsIts M.time M.seen self.new media.new) }
+        ensures fits { M.tells → OnOk result (FitsIts M.seen self.new media.new) }
+        ensures survives { M.tells → OnOk result (Survives M.time M.seen self.new media.new) }
         ensures bytes { M.tells → OnOk result (log_bytes self.new ((M.seen media.new).file (file_of self.old)) ≡ log_bytes self.old ((M.seen media.old).file (file_of self.old))) }
         ensures durable { M.tells → OnOk result ((c : Image) → M.time.may_leave media.new c → log_of (c.file (file_of self.old)) ≡ log_bytes self.old ((M.seen media.old).file (file_of self.old))) }
         ensures still { M.tells → OnOk result (IsStill M.time M.seen (file_of self.old) media.new) }
         ensures frame { M.tells → OnOk result (AtFile (file_of self.old) Any (M.seen media.old) (M.seen media.new)) }
-        ensures crash { M.tells → Leads M.time media.old media.new (AtFile (file_of self.old) (HasOneOf (settled_log self.old ((M.seen media.old).file (file_of self.old))) (log_bytes self.old ((M.seen media.old).file (file_of self.old))))) }
+        ensures crash { M.tells → Survives M.time M.seen self.old media.old → Leads M.time media.old media.new (AtFile (file_of self.old) (HasOneOf (settled_log self.old ((M.seen media.old).file (file_of self.old))) (log_bytes self.old ((M.seen media.old).file (file_of self.old))))) }
         ensures count { M.count media.new ≡ M.count media.old }
         ensures present { M.present media.new ≡ M.present media.old }
         ensures cause { HasCause (M.faults media.old) (M.faults media.new) result }
@@ -181,14 +187,15 @@ impl CrashLog {
     pub fn cut<M: Media>(&mut self, media: &mut M, n: u64) -> Result<(), Failed>
         requires here { IsTrue (M.present media.old (file_of self.old)) }
         requires within { n ≤ length_of self.old }
-        requires fits { M.tells → FitsIts M.time M.seen self.old media.old }
+        requires fits { M.tells → FitsIts M.seen self.old media.old }
         ensures log { OnOk result (IsNow self.old n n self.new) }
-        ensures fits { M.tells → OnOk result (FitsIts M.time M.seen self.new media.new) }
+        ensures fits { M.tells → OnOk result (FitsIts M.seen self.new media.new) }
+        ensures survives { M.tells → OnOk result (Survives M.time M.seen self.new media.new) }
         ensures bytes { M.tells → OnOk result (log_bytes self.new ((M.seen media.new).file (file_of self.old)) ≡ take n (log_bytes self.old ((M.seen media.old).file (file_of self.old)))) }
         ensures durable { M.tells → OnOk result ((c : Image) → M.time.may_leave media.new c → log_of (c.file (file_of self.old)) ≡ take n (log_bytes self.old ((M.seen media.old).file (file_of self.old)))) }
         ensures still { M.tells → OnOk result (IsStill M.time M.seen (file_of self.old) media.new) }
         ensures frame { M.tells → OnOk result (AtFile (file_of self.old) Any (M.seen media.old) (M.seen media.new)) }
-        ensures crash { M.tells → Leads M.time media.old media.new (AtFile (file_of self.old) (HasOneOf (settled_log self.old ((M.seen media.old).file (file_of self.old))) (take n (log_bytes self.old ((M.seen media.old).file (file_of self.old)))))) }
+        ensures crash { M.tells → Survives M.time M.seen self.old media.old → Leads M.time media.old media.new (AtFile (file_of self.old) (HasOneOf (settled_log self.old ((M.seen media.old).file (file_of self.old))) (take n (log_bytes self.old ((M.seen media.old).file (file_of self.old)))))) }
         ensures count { M.count media.new ≡ M.count media.old }
         ensures present { M.present media.new ≡ M.present media.old }
         ensures cause { HasCause (M.faults media.old) (M.faults media.new) result }
@@ -204,16 +211,17 @@ impl CrashLog {
     /// limit, and nothing is written then.
     pub fn replace<M: Media>(&mut self, media: &mut M, bytes: &[u8]) -> Result<(), PutFault>
         requires here { IsTrue (M.present media.old (file_of self.old)) }
-        requires fits { M.tells → FitsIts M.time M.seen self.old media.old }
+        requires fits { M.tells → FitsIts M.seen self.old media.old }
         ensures log { OnOk result (IsNow self.old (length bytes.now) (length bytes.now) self.new) }
         ensures full { (result ≡ Err PutFault.LogFull) ↔ (limit_of self.old < length bytes.now) }
         ensures full_state { result ≡ Err PutFault.LogFull → (self.new ≡ self.old) × (media.new ≡ media.old) }
-        ensures fits { M.tells → OnOk result (FitsIts M.time M.seen self.new media.new) }
+        ensures fits { M.tells → OnOk result (FitsIts M.seen self.new media.new) }
+        ensures survives { M.tells → OnOk result (Survives M.time M.seen self.new media.new) }
         ensures bytes { M.tells → OnOk result (log_bytes self.new ((M.seen media.new).file (file_of self.old)) ≡ bytes.now) }
         ensures durable { M.tells → OnOk result ((c : Image) → M.time.may_leave media.new c → log_of (c.file (file_of self.old)) ≡ bytes.now) }
         ensures still { M.tells → OnOk result (IsStill M.time M.seen (file_of self.old) media.new) }
         ensures frame { M.tells → OnOk result (AtFile (file_of self.old) Any (M.seen media.old) (M.seen media.new)) }
-        ensures crash { M.tells → Leads M.time media.old media.new (AtFile (file_of self.old) (HasOneOf (settled_log self.old ((M.seen media.old).file (file_of self.old))) bytes.now)) }
+        ensures crash { M.tells → Survives M.time M.seen self.old media.old → Leads M.time media.old media.new (AtFile (file_of self.old) (HasOneOf (settled_log self.old ((M.seen media.old).file (file_of self.old))) bytes.now)) }
         ensures count { M.count media.new ≡ M.count media.old }
         ensures present { M.present media.new ≡ M.present media.old }
         ensures faults { M.faults media.old ≤ M.faults media.new }
@@ -233,14 +241,15 @@ impl CrashLog {
     fn replace_within<M: Media>(&mut self, media: &mut M, bytes: &[u8]) -> Result<(), Failed>
         requires here { IsTrue (M.present media.old (file_of self.old)) }
         requires room { length bytes.now ≤ limit_of self.old }
-        requires fits { M.tells → FitsIts M.time M.seen self.old media.old }
+        requires fits { M.tells → FitsIts M.seen self.old media.old }
         ensures log { OnOk result (IsNow self.old (length bytes.now) (length bytes.now) self.new) }
-        ensures fits { M.tells → OnOk result (FitsIts M.time M.seen self.new media.new) }
+        ensures fits { M.tells → OnOk result (FitsIts M.seen self.new media.new) }
+        ensures survives { M.tells → OnOk result (Survives M.time M.seen self.new media.new) }
         ensures bytes { M.tells → OnOk result (log_bytes self.new ((M.seen media.new).file (file_of self.old)) ≡ bytes.now) }
         ensures durable { M.tells → OnOk result ((c : Image) → M.time.may_leave media.new c → log_of (c.file (file_of self.old)) ≡ bytes.now) }
         ensures still { M.tells → OnOk result (IsStill M.time M.seen (file_of self.old) media.new) }
         ensures frame { M.tells → OnOk result (AtFile (file_of self.old) Any (M.seen media.old) (M.seen media.new)) }
-        ensures crash { M.tells → Leads M.time media.old media.new (AtFile (file_of self.old) (HasOneOf (settled_log self.old ((M.seen media.old).file (file_of self.old))) bytes.now)) }
+        ensures crash { M.tells → Survives M.time M.seen self.old media.old → Leads M.time media.old media.new (AtFile (file_of self.old) (HasOneOf (settled_log self.old ((M.seen media.old).file (file_of self.old))) bytes.now)) }
         ensures count { M.count media.new ≡ M.count media.old }
         ensures present { M.present media.new ≡ M.present media.old }
         ensures cause { HasCause (M.faults media.old) (M.faults media.new) result }

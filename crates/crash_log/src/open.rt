@@ -5,7 +5,7 @@ ghost use Rattle.crash_moments.specs.Moments.{Leads, HasCause};
 ghost use Rattle.media_core.specs.Media.{Image, Same};
 ghost use Rattle.crash_log.specs.Log.{place_of};
 ghost use Rattle.crash_log.specs.State.{IsBounded, empty_state};
-ghost use Rattle.crash_log.specs.Fit.{IsStill};
+ghost use Rattle.crash_log.specs.Fit.{as_read};
 ghost use Rattle.crash_log.specs.Opened.{IsSlot, IsOpened, opened_state, stale_where};
 
 use crate::state::{LogState, Needs, following};
@@ -175,10 +175,9 @@ fn state_of_slots<M: Media>(
 ) -> Result<LogState, Failed>
     requires here { IsTrue (M.present media.old f) }
     requires limit { limit ≤ 2 ^ 36 }
-    requires still { M.tells → IsStill M.time M.seen f media.old }
     requires long { M.tells → long ≡ length ((M.seen media.old).file f) }
     requires slots { 8192 ≤ long }
-    ensures opened { M.tells → IfOk result (λ s. IsOpened M.time M.seen f media.new s) }
+    ensures opened { M.tells → IfOk result (λ s. IsOpened (as_read M.seen) M.seen f media.new s) }
     ensures bounded { IfOk result IsBounded }
     ensures fresh { IfOk result (λ s. s.more ≡ 0) }
     ensures file { IfOk result (λ s. s.file ≡ f) }
@@ -198,8 +197,7 @@ fn state_of_slots<M: Media>(
 pub fn read_state<M: Media>(media: &mut M, f: u32, limit: u64) -> Result<LogState, Failed>
     requires here { IsTrue (M.present media.old f) }
     requires limit { limit ≤ 2 ^ 36 }
-    requires still { M.tells → IsStill M.time M.seen f media.old }
-    ensures opened { M.tells → IfOk result (λ s. IsOpened M.time M.seen f media.new s) }
+    ensures opened { M.tells → IfOk result (λ s. IsOpened (as_read M.seen) M.seen f media.new s) }
     ensures bounded { IfOk result IsBounded }
     ensures fresh { IfOk result (λ s. s.more ≡ 0) }
     ensures file { IfOk result (λ s. s.file ≡ f) }

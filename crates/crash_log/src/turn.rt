@@ -4,7 +4,7 @@ ghost use Rattle.crash_moments.specs.Moments.{Leads, HasCause};
 ghost use Rattle.media_core.specs.Media.{Image, AtFile};
 ghost use Rattle.crash_log.specs.Log.{place_of, span, IsFine, HasLog, HasOneOf, Any, successor};
 ghost use Rattle.crash_log.specs.State.{settled_bytes, place_for, moved_to};
-ghost use Rattle.crash_log.specs.Fit.{IsReady, IsStill, SameBehind};
+ghost use Rattle.crash_log.specs.Fit.{IsReady, IsStill, SameBehind, as_read};
 ghost use Rattle.crash_log.specs.Turn.{IsClosed, IsNext, IsNamed};
 
 use crate::settle::settle;
@@ -27,11 +27,12 @@ pub fn fields(turn: u8, start: u64, size: u64) -> [u8; 23]
 /// Closes the other slot, where it is open. A gate that isn't 1 isn't written again.
 fn close_other<M: Media>(log: &LogState, media: &mut M) -> Result<(), Failed>
     requires here { IsTrue (M.present media.old log.now.file) }
-    requires ready { M.tells → IsReady M.time M.seen log.now media.old }
-    ensures closed { M.tells → OnOk result (IsClosed M.time M.seen log.now media.new) }
+    requires ready { M.tells → IsReady (as_read M.seen) M.seen log.now media.old }
+    ensures closed { M.tells → OnOk result (IsClosed (as_read M.seen) M.seen log.now media.new) }
+    ensures survives { M.tells → IsReady M.time M.seen log.now media.old → OnOk result (IsClosed M.time M.seen log.now media.new) }
     ensures same { M.tells → OnOk result (SameBehind ((M.seen media.old).file log.now.file) ((M.seen media.new).file log.now.file)) }
     ensures frame { M.tells → OnOk result (AtFile log.now.file Any (M.seen media.old) (M.seen media.new)) }
-    ensures crash { M.tells → Leads M.time media.old media.new (AtFile log.now.file (HasLog (settled_bytes log.now ((M.seen media.old).file log.now.file)))) }
+    ensures crash { M.tells → IsReady M.time M.seen log.now media.old → Leads M.time media.old media.new (AtFile log.now.file (HasLog (settled_bytes log.now ((M.seen media.old).file log.now.file)))) }
     ensures count { M.count media.new ≡ M.count media.old }
     ensures present { M.present media.new ≡ M.present media.old }
     ensures cause { HasCause (M.faults media.old) (M.faults media.new) result }
@@ -48,11 +49,12 @@ fn close_other<M: Media>(log: &LogState, media: &mut M) -> Result<(), Failed>
 fn name_place<M: Media>(log: &LogState, media: &mut M, start: u64, size: u64) -> Result<(), Failed>
     requires here { IsTrue (M.present media.old log.now.file) }
     requires turn { log.now.turn ≤ 2 }
-    requires closed { M.tells → IsClosed M.time M.seen log.now media.old }
-    ensures named { M.tells → OnOk result (IsNamed M.time M.seen log.now (place_for log.now start size) media.new) }
+    requires closed { M.tells → IsClosed (as_read M.seen) M.seen log.now media.old }
+    ensures named { M.tells → OnOk result (IsNamed (as_read M.seen) M.seen log.now (place_for log.now start size) media.new) }
+    ensures still { M.tells → OnOk result (IsStill M.time M.seen log.now.file media.new) }
     ensures same { M.tells → OnOk result (SameBehind ((M.seen media.old).file log.now.file) ((M.seen media.new).file log.now.file)) }
     ensures frame { M.tells → OnOk result (AtFile log.now.file Any (M.seen media.old) (M.seen media.new)) }
-    ensures crash { M.tells → Leads M.time media.old media.new (AtFile log.now.file (HasLog (settled_bytes log.now ((M.seen media.old).file log.now.file)))) }
+    ensures crash { M.tells → IsClosed M.time M.seen log.now media.old → Leads M.time media.old media.new (AtFile log.now.file (HasLog (settled_bytes log.now ((M.seen media.old).file log.now.file)))) }
     ensures count { M.count media.new ≡ M.count media.old }
     ensures present { M.present media.new ≡ M.present media.old }
     ensures cause { HasCause (M.faults media.old) (M.faults media.new) result }
@@ -66,13 +68,13 @@ fn name_place<M: Media>(log: &LogState, media: &mut M, start: u64, size: u64) ->
 /// Opens the other slot, which has the next place.
 fn open_other<M: Media>(log: &LogState, media: &mut M, start: u64, size: u64) -> Result<(), Failed>
     requires here { IsTrue (M.present media.old log.now.file) }
-    requires named { M.tells → IsNamed M.time M.seen log.now (place_for log.now start size) media.old }
+    requires named { M.tells → IsNamed (as_read M.seen) M.seen log.now (place_for log.now start size) media.old }
     requires next { M.tells → IsNext log.now (place_for log.now start size) ((M.seen media.old).file log.now.file) }
-    ensures ready { M.tells → OnOk result (IsReady M.time M.seen (moved_to log.now (place_for log.now start size)) media.new) }
+    ensures ready { M.tells → OnOk result (IsReady (as_read M.seen) M.seen (moved_to log.now (place_for log.now start size)) media.new) }
     ensures still { M.tells → OnOk result (IsStill M.time M.seen log.now.file media.new) }
     ensures same { M.tells → OnOk result (SameBehind ((M.seen media.old).file log.now.file) ((M.seen media.new).file log.now.file)) }
     ensures frame { M.tells → OnOk result (AtFile log.now.file Any (M.seen media.old) (M.seen media.new)) }
-    ensures crash { M.tells → Leads M.time media.old media.new (AtFile log.now.file (HasOneOf (settled_bytes log.now ((M.seen media.old).file log.now.file)) (span start size ((M.seen media.old).file log.now.file)))) }
+    ensures crash { M.tells → IsNamed M.time M.seen log.now (place_for log.now start size) media.old → Leads M.time media.old media.new (AtFile log.now.file (HasOneOf (settled_bytes log.now ((M.seen media.old).file log.now.file)) (span start size ((M.seen media.old).file log.now.file)))) }
     ensures count { M.count media.new ≡ M.count media.old }
     ensures present { M.present media.new ≡ M.present media.old }
     ensures cause { HasCause (M.faults media.old) (M.faults media.new) result }
@@ -92,13 +94,13 @@ pub fn turn_over<M: Media>(
     requires here { IsTrue (M.present media.old log.now.file) }
     requires turn { log.now.turn ≤ 2 }
     requires fine { IsFine (place_for log.now start size) }
-    requires ready { M.tells → IsReady M.time M.seen log.now media.old }
+    requires ready { M.tells → IsReady (as_read M.seen) M.seen log.now media.old }
     requires within { M.tells → start + size ≤ length ((M.seen media.old).file log.now.file) }
-    ensures ready { M.tells → OnOk result (IsReady M.time M.seen (moved_to log.now (place_for log.now start size)) media.new) }
+    ensures ready { M.tells → OnOk result (IsReady (as_read M.seen) M.seen (moved_to log.now (place_for log.now start size)) media.new) }
     ensures still { M.tells → OnOk result (IsStill M.time M.seen log.now.file media.new) }
     ensures same { M.tells → OnOk result (SameBehind ((M.seen media.old).file log.now.file) ((M.seen media.new).file log.now.file)) }
     ensures frame { M.tells → OnOk result (AtFile log.now.file Any (M.seen media.old) (M.seen media.new)) }
-    ensures crash { M.tells → Leads M.time media.old media.new (AtFile log.now.file (HasOneOf (settled_bytes log.now ((M.seen media.old).file log.now.file)) (span start size ((M.seen media.old).file log.now.file)))) }
+    ensures crash { M.tells → IsReady M.time M.seen log.now media.old → Leads M.time media.old media.new (AtFile log.now.file (HasOneOf (settled_bytes log.now ((M.seen media.old).file log.now.file)) (span start size ((M.seen media.old).file log.now.file)))) }
     ensures count { M.count media.new ≡ M.count media.old }
     ensures present { M.present media.new ≡ M.present media.old }
     ensures cause { HasCause (M.faults media.old) (M.faults media.new) result }

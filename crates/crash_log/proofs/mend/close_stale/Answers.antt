@@ -1,27 +1,29 @@
 use Rattle.std.proofs.Common.{ℕ, [], ◌∷◌, subst}
 use Rattle.crash_moments.specs.Moments.{Leads}
 use Rattle.media_core.specs.Media.{AtFile, Torn, Holds}
+use Rattle.crash_log.specs.Fit.{as_read}
+use Rattle.crash_log.proofs.Reading.{still_read}
 use Rattle.crash_log.proofs.Stale.{unstaling, unstale_same, unstale_ready}
 use Rattle.crash_log.proofs.mend.close_stale.Goals as goal
 
 pub returns-in_err-settle-clause-crash : goal.returns-in_err-settle-clause-crash
-returns-in_err-settle-clause-crash g c = λ told.
+returns-in_err-settle-clause-crash g c = λ told stale.
     let m = g.M.Media in
-    unstaling m.time m.seen c.args.log.now c.args.media.now c.settle.new.media (c.requires.stale told) (subst (λ (o : ℕ). Leads m.time c.args.media.now c.settle.new.media (AtFile c.args.log.now.file (Torn o 1))) c.other.ensures (c.settle.ensures.crash told))
+    unstaling m.time m.seen c.args.log.now c.args.media.now c.settle.new.media stale (subst (λ (o : ℕ). Leads m.time c.args.media.now c.settle.new.media (AtFile c.args.log.now.file (Torn o 1))) c.other.ensures (c.settle.ensures.crash told))
 
 pub returns-clause-crash : goal.returns-clause-crash
-returns-clause-crash g c = λ told.
+returns-clause-crash g c = λ told stale.
     let m = g.M.Media in
-    unstaling m.time m.seen c.args.log.now c.args.media.now c.settle.new.media (c.requires.stale told) (subst (λ (o : ℕ). Leads m.time c.args.media.now c.settle.new.media (AtFile c.args.log.now.file (Torn o 1))) c.other.ensures (c.settle.ensures.crash told))
+    unstaling m.time m.seen c.args.log.now c.args.media.now c.settle.new.media stale (subst (λ (o : ℕ). Leads m.time c.args.media.now c.settle.new.media (AtFile c.args.log.now.file (Torn o 1))) c.other.ensures (c.settle.ensures.crash told))
 
 pub returns-clause-ready : goal.returns-clause-ready
 returns-clause-ready g c = λ told.
     let m = g.M.Media in
     let f = c.args.log.now.file in
-    unstale_ready m.time m.seen c.args.log.now c.args.media.now c.settle.new.media (c.requires.stale told) (subst (λ (o : ℕ). Holds o (0 ∷ []) ((m.seen c.args.media.now).file f) ((m.seen c.settle.new.media).file f)) c.other.ensures (c.in_ok-settle.ensures.written told).here) (c.in_ok-settle.ensures.durable told)
+    unstale_ready (as_read m.seen) m.seen c.args.log.now c.args.media.now c.settle.new.media (c.requires.stale told) (subst (λ (o : ℕ). Holds o (0 ∷ []) ((m.seen c.args.media.now).file f) ((m.seen c.settle.new.media).file f)) c.other.ensures (c.in_ok-settle.ensures.written told).here) (still_read m.seen f c.settle.new.media)
 
 pub returns-clause-same : goal.returns-clause-same
 returns-clause-same g c = λ told.
     let m = g.M.Media in
     let f = c.args.log.now.file in
-    unstale_same m.time m.seen c.args.log.now c.args.media.now c.settle.new.media (c.requires.stale told) (subst (λ (o : ℕ). Holds o (0 ∷ []) ((m.seen c.args.media.now).file f) ((m.seen c.settle.new.media).file f)) c.other.ensures (c.in_ok-settle.ensures.written told).here)
+    unstale_same (as_read m.seen) m.seen c.args.log.now c.args.media.now c.settle.new.media (c.requires.stale told) (subst (λ (o : ℕ). Holds o (0 ∷ []) ((m.seen c.args.media.now).file f) ((m.seen c.settle.new.media).file f)) c.other.ensures (c.in_ok-settle.ensures.written told).here)

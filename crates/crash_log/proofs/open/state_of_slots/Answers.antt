@@ -3,7 +3,9 @@ use Rattle.media_core.specs.Media.{Image}
 use Rattle.crash_log.specs.Log.{successor}
 use Rattle.crash_log.specs.Opened.{IsSlot, IsOpened, slot_good, opened_state}
 use Rattle.crash_log.specs.declared.state.LogState.{LogState}
-use Rattle.crash_log.proofs.OpenedLemmas.{still_later, opened_slots, state_file, state_limit}
+use Rattle.crash_log.proofs.OpenedLemmas.{opened_slots, state_file, state_limit}
+use Rattle.crash_log.specs.Fit.{as_read}
+use Rattle.crash_log.proofs.Reading.{still_read}
 use Rattle.crash_log.proofs.open.state_of_slots.Goals as goal
 
 pub returns-clause-opened : goal.returns-clause-opened
@@ -16,8 +18,8 @@ returns-clause-opened g c = λ told.
     let seen = c.read_slots.ensures.seen told in
     let file : (m.seen c.args.media.now).file f ≡ (m.seen now).file f = sym (ap (λ (i : Image). i.file f) seen) in
     let long : c.args.long ≡ length ((m.seen now).file f) = c.requires.long told ∙ ap length file in
-    subst (λ (s : LogState). IsOpened m.time m.seen f now s) (sym (c.choose.ensures.state ∙ ap (λ (n : ℕ). opened_state first second f c.args.limit n) long))
-    (opened_slots m.time m.seen now f c.args.limit (still_later m.time m.seen c.args.media.now now f (c.read_slots.ensures.crash told) seen (c.requires.still told)) first second (omega (arith, long, c.requires.slots))
+    subst (λ (s : LogState). IsOpened (as_read m.seen) m.seen f now s) (sym (c.choose.ensures.state ∙ ap (λ (n : ℕ). opened_state first second f c.args.limit n) long))
+    (opened_slots (as_read m.seen) m.seen now f c.args.limit (still_read m.seen f now) first second (omega (arith, long, c.requires.slots))
     (subst (λ (l : List ℕ). IsSlot 0 l first) file (c.in_ok-first.ensures.first told)) (subst (λ (l : List ℕ). IsSlot 4096 l second) file (c.in_ok-first.ensures.second told)))
 
 pub returns-clause-file : goal.returns-clause-file

@@ -1,22 +1,24 @@
-use Rattle.std.proofs.Common.{◌≡◌, ℕ, ◌+◌, ◌∙◌, subst}
+use Rattle.std.proofs.Common.{◌≡◌, ℕ, ◌+◌, ◌∙◌, refl, subst}
 use Rattle.crash_moments.specs.Moments.{Leads}
 use Rattle.media_core.specs.Media.{AtFile, Torn, Holds}
 use Rattle.crash_log.proofs.Naming.{naming, named_same, now_named}
 use Rattle.crash_log.specs.Log.{place_of}
 use Rattle.crash_log.specs.State.{place_for}
+use Rattle.crash_log.specs.Fit.{as_read}
+use Rattle.crash_log.proofs.Reading.{still_read}
 use Rattle.crash_log.proofs.turn.name_place.Goals as goal
 
 pub returns-in_err-settle-clause-crash : goal.returns-in_err-settle-clause-crash
-returns-in_err-settle-clause-crash g c = λ told.
+returns-in_err-settle-clause-crash g c = λ told closed.
     let m = g.M.Media in
-    naming m.time m.seen c.args.log.now c.args.media.now (c.requires.closed told) c.settle.new.media
+    naming m.time m.seen c.args.log.now c.args.media.now closed c.settle.new.media
     (subst (λ (o : ℕ). Leads m.time c.args.media.now c.settle.new.media (AtFile c.args.log.now.file (Torn (o + 1) 23))) c.other.ensures
     (subst (λ (n : ℕ). Leads m.time c.args.media.now c.settle.new.media (AtFile c.args.log.now.file (Torn (c.other.result + 1) n))) c.fields-fields.ensures.length (c.settle.ensures.crash told)))
 
 pub returns-clause-crash : goal.returns-clause-crash
-returns-clause-crash g c = λ told.
+returns-clause-crash g c = λ told closed.
     let m = g.M.Media in
-    naming m.time m.seen c.args.log.now c.args.media.now (c.requires.closed told) c.settle.new.media
+    naming m.time m.seen c.args.log.now c.args.media.now closed c.settle.new.media
     (subst (λ (o : ℕ). Leads m.time c.args.media.now c.settle.new.media (AtFile c.args.log.now.file (Torn (o + 1) 23))) c.other.ensures
     (subst (λ (n : ℕ). Leads m.time c.args.media.now c.settle.new.media (AtFile c.args.log.now.file (Torn (c.other.result + 1) n))) c.fields-fields.ensures.length (c.settle.ensures.crash told)))
 
@@ -27,7 +29,7 @@ returns-clause-named g c = λ told.
     let p = place_for c.args.log.now c.args.start c.args.size in
     let holds = subst (λ (o : ℕ). Holds (o + 1) c.fields-fields.result ((m.seen c.args.media.now).file f) ((m.seen c.settle.new.media).file f)) c.other.ensures (c.in_ok-settle.ensures.written told).here in
     let place : place_of c.fields-fields.result ≡ p = c.fields-fields.ensures.place ∙ (λ i. record { turn = c.following.ensures i; start = c.args.start; size = c.args.size }) in
-    now_named m.time m.seen c.args.log.now c.args.media.now (c.requires.closed told) c.settle.new.media (g.met.M.Media.seen_may_be_left c.args.media.now told) c.fields-fields.result c.fields-fields.ensures.length p place holds (c.in_ok-settle.ensures.durable told)
+    now_named (as_read m.seen) m.seen c.args.log.now c.args.media.now (c.requires.closed told) c.settle.new.media refl c.fields-fields.result c.fields-fields.ensures.length p place holds (still_read m.seen f c.settle.new.media)
 
 pub returns-clause-same : goal.returns-clause-same
 returns-clause-same g c = λ told.
@@ -36,4 +38,4 @@ returns-clause-same g c = λ told.
     let p = place_for c.args.log.now c.args.start c.args.size in
     let holds = subst (λ (o : ℕ). Holds (o + 1) c.fields-fields.result ((m.seen c.args.media.now).file f) ((m.seen c.settle.new.media).file f)) c.other.ensures (c.in_ok-settle.ensures.written told).here in
     let place : place_of c.fields-fields.result ≡ p = c.fields-fields.ensures.place ∙ (λ i. record { turn = c.following.ensures i; start = c.args.start; size = c.args.size }) in
-    named_same m.time m.seen c.args.log.now c.args.media.now (c.requires.closed told) c.settle.new.media (g.met.M.Media.seen_may_be_left c.args.media.now told) c.fields-fields.result c.fields-fields.ensures.length p place holds
+    named_same (as_read m.seen) m.seen c.args.log.now c.args.media.now (c.requires.closed told) c.settle.new.media refl c.fields-fields.result c.fields-fields.ensures.length p place holds

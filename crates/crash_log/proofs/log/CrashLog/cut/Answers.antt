@@ -1,30 +1,33 @@
-use Rattle.std.proofs.Common.{ℕ, ◌+◌, List, take, ◌∙◌, ap}
-use Rattle.crash_log.specs.State.{put_bytes, settled_bytes, place_for}
+use Rattle.std.proofs.Common.{ℕ, ◌+◌, List, take, sym, ◌∙◌, ap, subst}
+use Rattle.crash_log.specs.State.{put_bytes, settled_bytes, place_for, moved_to}
+use Rattle.crash_log.specs.Fit.{Fits}
+use Rattle.crash_log.specs.declared.state.LogState.{LogState}
 use Rattle.crash_log.proofs.Committing.{before_put, either_log}
 use Rattle.crash_log.proofs.Changing.{span_front, moved_bytes}
 use Rattle.crash_log.proofs.Closing.{ready_log}
+use Rattle.crash_log.proofs.Reading.{ready_still}
 use Rattle.crash_log.proofs.log.CrashLog.cut.Goals as goal
 
 pub returns-in_err-mend-clause-crash : goal.returns-in_err-mend-clause-crash
-returns-in_err-mend-clause-crash g c = λ told.
+returns-in_err-mend-clause-crash g c = λ told survives.
     let m = g.M.Media in
     let log = c.args.self.now.state in
     let file = (m.seen c.args.media.now).file log.file in
-    before_put m.time log.file (settled_bytes log file) (take c.args.n (put_bytes log file)) c.args.media.now c.mend.new.media c.mend.new.media (c.mend.ensures.crash told)
+    before_put m.time log.file (settled_bytes log file) (take c.args.n (put_bytes log file)) c.args.media.now c.mend.new.media c.mend.new.media (c.mend.ensures.crash told survives)
 
 pub returns-in_err-turn_over-clause-crash : goal.returns-in_err-turn_over-clause-crash
-returns-in_err-turn_over-clause-crash g c = λ told.
+returns-in_err-turn_over-clause-crash g c = λ told survives.
     let m = g.M.Media in
     let log = c.args.self.now.state in
     let file = (m.seen c.args.media.now).file log.file in
-    either_log m.time log.file (settled_bytes log file) (take c.args.n (put_bytes log file)) c.args.media.now c.mend.new.media c.turn_over.new.media _ _ (c.in_ok-mend.ensures.same told).settled (span_front log.start (log.size + log.more) c.args.n ((m.seen c.mend.new.media).file log.file) c.requires.within ∙ ap (λ (l : List ℕ). take c.args.n l) (c.in_ok-mend.ensures.same told).put) (c.mend.ensures.crash told) (c.turn_over.ensures.crash told)
+    either_log m.time log.file (settled_bytes log file) (take c.args.n (put_bytes log file)) c.args.media.now c.mend.new.media c.turn_over.new.media _ _ (c.in_ok-mend.ensures.same told).settled (span_front log.start (log.size + log.more) c.args.n ((m.seen c.mend.new.media).file log.file) c.requires.within ∙ ap (λ (l : List ℕ). take c.args.n l) (c.in_ok-mend.ensures.same told).put) (c.mend.ensures.crash told survives) (c.turn_over.ensures.crash told (c.in_ok-mend.ensures.survives told survives))
 
 pub returns-clause-crash : goal.returns-clause-crash
-returns-clause-crash g c = λ told.
+returns-clause-crash g c = λ told survives.
     let m = g.M.Media in
     let log = c.args.self.now.state in
     let file = (m.seen c.args.media.now).file log.file in
-    either_log m.time log.file (settled_bytes log file) (take c.args.n (put_bytes log file)) c.args.media.now c.mend.new.media c.turn_over.new.media _ _ (c.in_ok-mend.ensures.same told).settled (span_front log.start (log.size + log.more) c.args.n ((m.seen c.mend.new.media).file log.file) c.requires.within ∙ ap (λ (l : List ℕ). take c.args.n l) (c.in_ok-mend.ensures.same told).put) (c.mend.ensures.crash told) (c.turn_over.ensures.crash told)
+    either_log m.time log.file (settled_bytes log file) (take c.args.n (put_bytes log file)) c.args.media.now c.mend.new.media c.turn_over.new.media _ _ (c.in_ok-mend.ensures.same told).settled (span_front log.start (log.size + log.more) c.args.n ((m.seen c.mend.new.media).file log.file) c.requires.within ∙ ap (λ (l : List ℕ). take c.args.n l) (c.in_ok-mend.ensures.same told).put) (c.mend.ensures.crash told survives) (c.turn_over.ensures.crash told (c.in_ok-mend.ensures.survives told survives))
 
 pub returns-clause-bytes : goal.returns-clause-bytes
 returns-clause-bytes g c = λ told.
@@ -39,4 +42,11 @@ returns-clause-durable g c = λ told.
     let m = g.M.Media in
     let log = c.args.self.now.state in
     let file = (m.seen c.args.media.now).file log.file in
-    λ image left. ready_log m.time m.seen _ c.turn_over.new.media (c.in_ok-turn_over.ensures.ready told) image left ∙ (c.in_ok-turn_over.ensures.same told).bytes log.start c.args.n c.args.self.now.bounded.low ∙ (span_front log.start (log.size + log.more) c.args.n ((m.seen c.mend.new.media).file log.file) c.requires.within ∙ ap (λ (l : List ℕ). take c.args.n l) (c.in_ok-mend.ensures.same told).put)
+    λ image left. ready_log m.time m.seen _ c.turn_over.new.media (ready_still m.time m.seen _ c.turn_over.new.media (c.in_ok-turn_over.ensures.still told) (c.in_ok-turn_over.ensures.ready told)) image left ∙ (c.in_ok-turn_over.ensures.same told).bytes log.start c.args.n c.args.self.now.bounded.low ∙ (span_front log.start (log.size + log.more) c.args.n ((m.seen c.mend.new.media).file log.file) c.requires.within ∙ ap (λ (l : List ℕ). take c.args.n l) (c.in_ok-mend.ensures.same told).put)
+
+pub returns-clause-survives : goal.returns-clause-survives
+returns-clause-survives g c = λ told.
+    let m = g.M.Media in
+    let log = c.args.self.now.state in
+    subst (λ (l : LogState). Fits m.time m.seen l c.turn_over.new.media) (sym c.moved-self.ensures)
+    (ready_still m.time m.seen (moved_to log (place_for log log.start c.args.n)) c.turn_over.new.media (c.in_ok-turn_over.ensures.still told) (c.in_ok-turn_over.ensures.ready told))
