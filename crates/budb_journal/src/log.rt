@@ -15,9 +15,9 @@ use bk_text::{List, Out};
 use plant_core::{Plant, PutFault};
 use std::alloc::Global;
 
-/// Appends changes to the log of a plant, by one put and one commit: a crash leaves the old log, or the old log with all
-/// of them behind it. `LogFull` where the log would have more than 268,435,456 bytes; after that and after `Memory` the
-/// plant is as it was.
+/// Appends changes to the log of a plant, by one put and one commit: a crash that the plant survives leaves the old log, or
+/// the old log with all of them behind it. `LogFull` where the log would have more than 268,435,456 bytes; after that and
+/// after `Memory` the plant is as it was.
 pub fn append<P: Plant>(alloc: Global, plant: &mut P, changes: &[Change]) -> Result<(), AppendFault>
     requires { P.sound plant.old }
     ensures form { OnOk result (AreChanges changes.now) }
@@ -29,10 +29,11 @@ pub fn append<P: Plant>(alloc: Global, plant: &mut P, changes: &[Change]) -> Res
     ensures log_size { OnOk result (P.log_size plant.new ≡ P.log_size plant.old + length (encoded changes.now)) }
     ensures log_settled { OnOk result (P.log_settled plant.new ≡ P.log_size plant.new) }
     ensures sound { OnOk result (P.sound plant.new) }
+    ensures survives { P.tells → P.survives plant.old → OnOk result (P.survives plant.new) }
     ensures loaded { OnOk result (P.loaded plant.new ≡ P.loaded plant.old) }
     ensures records { OnOk result (P.records plant.new ≡ P.records plant.old) }
     ensures settled { P.tells → OnOk result (P.settled plant.new ≡ P.settled plant.old) }
-    ensures crash { P.tells → Leads P.time plant.old plant.new (AtLog (OldOr ((P.seen plant.old).log ++ encoded changes.now))) }
+    ensures crash { P.tells → P.survives plant.old → Leads P.time plant.old plant.new (AtLog (OldOr ((P.seen plant.old).log ++ encoded changes.now))) }
     ensures slots { P.slots plant.new ≡ P.slots plant.old }
     ensures present { P.present plant.new ≡ P.present plant.old }
     ensures cause { result ≡ Err AppendFault.Failed → Rose (P.faults plant.old) (P.faults plant.new) }
@@ -63,6 +64,7 @@ fn read_log<P: Plant>(alloc: Global, plant: &mut P) -> Result<Vec<u8>, ReplayFau
     ensures refused { OnErr result ((result ≡ Err ReplayFault.Memory) ⊎ (result ≡ Err ReplayFault.Failed)) }
     ensures memory_same { result ≡ Err ReplayFault.Memory → plant.new ≡ plant.old }
     ensures sound { OnOk result (P.sound plant.new) }
+    ensures survives { P.tells → P.survives plant.old → OnOk result (P.survives plant.new) }
     ensures seen { P.tells → OnOk result (P.seen plant.new ≡ P.seen plant.old) }
     ensures loaded { OnOk result (P.loaded plant.new ≡ P.loaded plant.old) }
     ensures records { OnOk result (P.records plant.new ≡ P.records plant.old) }
@@ -93,6 +95,7 @@ pub fn replay<P: Plant>(alloc: Global, plant: &mut P) -> Result<List<Change>, Re
     requires { P.sound plant.old }
     ensures changes { P.tells → Replays (P.seen plant.old).log result }
     ensures sound { UnlessFailed result (P.sound plant.new) }
+    ensures survives { P.tells → P.survives plant.old → UnlessFailed result (P.survives plant.new) }
     ensures seen { P.tells → UnlessFailed result (P.seen plant.new ≡ P.seen plant.old) }
     ensures loaded { UnlessFailed result (P.loaded plant.new ≡ P.loaded plant.old) }
     ensures records { UnlessFailed result (P.records plant.new ≡ P.records plant.old) }

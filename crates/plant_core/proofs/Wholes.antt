@@ -40,8 +40,9 @@ pub all_whole : (tape : List Record) (n : ℕ) → length tape ≤ n → NoneBef
 all_whole tape n past none i is = none i (omega (arith, slice_get_within tape i bad is, past)) is
 
 -- what a plant keeps while it is only read
-pub record OnlyRead {P : Type 0} (tells : Type 0) (seen : P → Stock) (time : Moments P Stock) (sound : P → Type 0) (loaded : P → Option ℕ) (records : P → ℕ) (settled : P → ℕ → ℕ) (old new : P) : Type 0 where
+pub record OnlyRead {P : Type 0} (tells : Type 0) (seen : P → Stock) (time : Moments P Stock) (sound survives : P → Type 0) (loaded : P → Option ℕ) (records : P → ℕ) (settled : P → ℕ → ℕ) (old new : P) : Type 0 where
   pub is_sound : sound new
+  pub still_survives : tells → survives old → survives new
   pub same_seen : tells → seen new ≡ seen old
   pub same_loaded : loaded new ≡ loaded old
   pub same_records : records new ≡ records old

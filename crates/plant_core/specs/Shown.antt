@@ -27,6 +27,10 @@ moments_of = history events_of IsLeft
 abbrev pub IsSound : MemPlant → Type 0
 IsSound m = Unit {0}
 
+-- a crash leaves what is settled, in every state
+abbrev pub Survives : MemPlant → Type 0
+Survives m = Unit {0}
+
 abbrev pub slots_of : MemPlant → ℕ
 slots_of m = length m.tapes.items
 

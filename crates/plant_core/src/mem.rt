@@ -53,7 +53,7 @@ pub struct MemPlant {
 
 impl Plant for MemPlant {
     ghost use Rattle.plant_core.specs.Kept.{always_within, settled_is_left, is_below, below_is, records_are};
-    ghost use Rattle.plant_core.specs.Shown.{IsSound, seen_of, moments_of, slots_of, present_of, loaded_of, records_of, settled_of, log_size_of, log_settled_of, loads_of, faults_of, tell_faults_of, IsCounted, IsPutCounted};
+    ghost use Rattle.plant_core.specs.Shown.{IsSound, Survives, seen_of, moments_of, slots_of, present_of, loaded_of, records_of, settled_of, log_size_of, log_settled_of, loads_of, faults_of, tell_faults_of, IsCounted, IsPutCounted};
     ghost use Rattle.std.specs.Prelude.{refl};
 
     ghost tells = { Unit {0} };
@@ -63,6 +63,8 @@ impl Plant for MemPlant {
     ghost time = { moments_of };
 
     ghost sound = { IsSound };
+
+    ghost survives = { Survives };
 
     ghost slots = { slots_of };
 
@@ -98,13 +100,13 @@ impl Plant for MemPlant {
 
     ghost others_settled = { λ m k tells sound. m.others_settled k };
 
-    ghost log_left = { λ m c tells sound left. left.log };
+    ghost log_left = { λ m c tells sound survives left. left.log };
 
-    ghost tapes_left = { λ m c k tells sound left. left.tapes k };
+    ghost tapes_left = { λ m c k tells sound survives left. left.tapes k };
 
-    ghost told_left = { λ m c tells sound left. left.told };
+    ghost told_left = { λ m c tells sound survives left. left.told };
 
-    ghost settled_may_be_left = { λ m tells sound. settled_is_left m.past.items };
+    ghost settled_may_be_left = { λ m tells sound survives. settled_is_left m.past.items };
 
     fn slots(&self) -> u32 {
         self.tapes.len() as u32
@@ -119,6 +121,7 @@ impl Plant for MemPlant {
         requires here { IsTrue (present_of self.old slot) }
         ensures first { IfOk result (λ shown. ShowsFirst ((seen_of self.old).tape slot) shown into.new) }
         ensures sound { OnOk result (IsSound self.new) }
+        ensures survives { OnOk result (Survives self.new) }
         ensures seen { OnOk result (seen_of self.new ≡ seen_of self.old) }
         ensures loaded { OnOk result (loaded_of self.new ≡ loaded_of self.old) }
         ensures records { OnOk result (records_of self.new ≡ records_of self.old) }
@@ -146,6 +149,7 @@ impl Plant for MemPlant {
         ensures counted { OnOk result (loads_of self.new ≡ loads_after (loaded_of self.old) slot (loads_of self.old)) }
         ensures loads { loads_of self.old ≤ loads_of self.new }
         ensures sound { OnOk result (IsSound self.new) }
+        ensures survives { OnOk result (Survives self.new) }
         ensures seen { OnOk result (seen_of self.new ≡ seen_of self.old) }
         ensures log_size { OnOk result (log_size_of self.new ≡ log_size_of self.old) }
         ensures log_settled { OnOk result (log_settled_of self.new ≡ log_settled_of self.old) }
@@ -187,6 +191,7 @@ impl Plant for MemPlant {
         requires within { i < records_of self.old }
         ensures found { IfOk result (λ kind. ShowsAt ((seen_of self.old).tape (slot_of (loaded_of self.old))) i kind into.new) }
         ensures sound { OnOk result (IsSound self.new) }
+        ensures survives { OnOk result (Survives self.new) }
         ensures seen { OnOk result (seen_of self.new ≡ seen_of self.old) }
         ensures loaded { OnOk result (loaded_of self.new ≡ loaded_of self.old) }
         ensures records { OnOk result (records_of self.new ≡ records_of self.old) }
@@ -214,6 +219,7 @@ impl Plant for MemPlant {
         ensures put { OnOk result (Gains (block_with block.now) (slot_of (loaded_of self.old)) (seen_of self.old) (seen_of self.new)) }
         ensures records { OnOk result (records_of self.new ≡ records_of self.old + 1) }
         ensures sound { OnOk result (IsSound self.new) }
+        ensures survives { OnOk result (Survives self.new) }
         ensures loaded { OnOk result (loaded_of self.new ≡ loaded_of self.old) }
         ensures settled { OnOk result (settled_of self.new ≡ settled_of self.old) }
         ensures log_size { OnOk result (log_size_of self.new ≡ log_size_of self.old) }
@@ -257,6 +263,7 @@ impl Plant for MemPlant {
         ensures records { OnOk result (records_of self.new ≡ records_of self.old + 1) }
         ensures settled { OnOk result (SettledAt (slot_of (loaded_of self.old)) (records_of self.new) (settled_of self.old) (settled_of self.new)) }
         ensures sound { OnOk result (IsSound self.new) }
+        ensures survives { OnOk result (Survives self.new) }
         ensures loaded { OnOk result (loaded_of self.new ≡ loaded_of self.old) }
         ensures log_size { OnOk result (log_size_of self.new ≡ log_size_of self.old) }
         ensures log_settled { OnOk result (log_settled_of self.new ≡ log_settled_of self.old) }
@@ -292,6 +299,7 @@ impl Plant for MemPlant {
         ensures records { OnOk result (records_of self.new ≡ n) }
         ensures settled { OnOk result (SettledAt (slot_of (loaded_of self.old)) n (settled_of self.old) (settled_of self.new)) }
         ensures sound { OnOk result (IsSound self.new) }
+        ensures survives { OnOk result (Survives self.new) }
         ensures loaded { OnOk result (loaded_of self.new ≡ loaded_of self.old) }
         ensures log_size { OnOk result (log_size_of self.new ≡ log_size_of self.old) }
         ensures log_settled { OnOk result (log_settled_of self.new ≡ log_settled_of self.old) }
@@ -324,6 +332,7 @@ impl Plant for MemPlant {
         requires within { at + length into.old ≤ log_size_of self.old }
         ensures bytes { OnOk result (into.new ≡ take (length into.old) (drop at (seen_of self.old).log)) }
         ensures sound { OnOk result (IsSound self.new) }
+        ensures survives { OnOk result (Survives self.new) }
         ensures seen { OnOk result (seen_of self.new ≡ seen_of self.old) }
         ensures loaded { OnOk result (loaded_of self.new ≡ loaded_of self.old) }
         ensures records { OnOk result (records_of self.new ≡ records_of self.old) }
@@ -350,6 +359,7 @@ impl Plant for MemPlant {
         ensures put { OnOk result (AtLog (λ old new. new ≡ old ++ piece.now) (seen_of self.old) (seen_of self.new)) }
         ensures log_size { OnOk result (log_size_of self.new ≡ log_size_of self.old + length piece.now) }
         ensures sound { OnOk result (IsSound self.new) }
+        ensures survives { OnOk result (Survives self.new) }
         ensures loaded { OnOk result (loaded_of self.new ≡ loaded_of self.old) }
         ensures records { OnOk result (records_of self.new ≡ records_of self.old) }
         ensures settled { OnOk result (settled_of self.new ≡ settled_of self.old) }
@@ -385,6 +395,7 @@ impl Plant for MemPlant {
         requires sound { IsSound self.old }
         ensures log_settled { OnOk result (log_settled_of self.new ≡ log_size_of self.old) }
         ensures sound { OnOk result (IsSound self.new) }
+        ensures survives { OnOk result (Survives self.new) }
         ensures seen { OnOk result (seen_of self.new ≡ seen_of self.old) }
         ensures loaded { OnOk result (loaded_of self.new ≡ loaded_of self.old) }
         ensures records { OnOk result (records_of self.new ≡ records_of self.old) }
@@ -415,6 +426,7 @@ impl Plant for MemPlant {
         ensures log_size { OnOk result (log_size_of self.new ≡ length bytes.now) }
         ensures log_settled { OnOk result (log_settled_of self.new ≡ length bytes.now) }
         ensures sound { OnOk result (IsSound self.new) }
+        ensures survives { OnOk result (Survives self.new) }
         ensures loaded { OnOk result (loaded_of self.new ≡ loaded_of self.old) }
         ensures records { OnOk result (records_of self.new ≡ records_of self.old) }
         ensures settled { OnOk result (settled_of self.new ≡ settled_of self.old) }
@@ -452,6 +464,7 @@ impl Plant for MemPlant {
         ensures log { OnOk result ((seen_of self.new).log ≡ (seen_of self.old).log) }
         ensures tapes { OnOk result ((seen_of self.new).tape ≡ (seen_of self.old).tape) }
         ensures sound { OnOk result (IsSound self.new) }
+        ensures survives { OnOk result (Survives self.new) }
         ensures loaded { OnOk result (loaded_of self.new ≡ loaded_of self.old) }
         ensures records { OnOk result (records_of self.new ≡ records_of self.old) }
         ensures settled { OnOk result (settled_of self.new ≡ settled_of self.old) }
@@ -477,7 +490,7 @@ impl Plant for MemPlant {
 }
 
 impl MemPlant {
-    ghost use Rattle.plant_core.specs.Shown.{IsSound, IsNew, events_of, seen_of, moments_of, slots_of, present_of, settled_of, log_settled_of, loads_of, faults_of, tell_faults_of, wants_of};
+    ghost use Rattle.plant_core.specs.Shown.{IsSound, Survives, IsNew, events_of, seen_of, moments_of, slots_of, present_of, settled_of, log_settled_of, loads_of, faults_of, tell_faults_of, wants_of};
 
     /// So many blank tapes, all of them here, an empty log, and nothing told. The number of slots is at most 65,535.
     pub fn new(alloc: Global, slots: u32) -> Result<MemPlant, Memory>
@@ -488,6 +501,7 @@ impl MemPlant {
         ensures fresh { IfOk result (λ m. (c : Stock) → moments_of.may_leave m c → IsNothing c) }
         ensures is_new { IfOk result IsNew }
         ensures sound { IfOk result IsSound }
+        ensures survives { IfOk result Survives }
     {
         let tapes = blank_tapes(alloc, slots)?;
         Ok(MemPlant {

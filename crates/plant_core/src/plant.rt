@@ -18,6 +18,9 @@ use crate::record::{Block, Kind};
 /// a call: each image since the call's start is one of its start, changed as the clause `crash` says. This and the counts
 /// are told after a `Failed` too, and all else is owed after an Ok alone.
 ///
+/// What is said of a crash, the clauses `crash` of calls that may write and the laws on images, holds of a plant that
+/// survives one: `survives`. All else holds of each sound plant.
+///
 /// Who calls can test each condition: `here`, `loaded`, `tape_len` and `log_len` are answers of their own, and `tape_get`
 /// shows whether a record is bad.
 pub trait Plant {
@@ -30,8 +33,12 @@ pub trait Plant {
     /// What a crash may leave, now and at the moments before.
     ghost time: { Moments Self Stock };
 
-    /// A state in which calls may be made. Each call keeps it, but for one that answers `Failed`.
+    /// A state in which calls may be made. Each call keeps it, but for one that answers `Failed`. It says nothing of a crash.
     ghost sound: { Self → Type 0 };
+
+    /// A crash leaves what is settled. A plant has it from its opening on where no write waited for a sync then; each call
+    /// keeps it where it holds, but for one that answers `Failed`.
+    ghost survives: { Self → Type 0 };
 
     /// How many slots there are.
     ghost slots: { Self → ℕ };
@@ -80,6 +87,7 @@ pub trait Plant {
         requires here { IsTrue (present self.old slot) }
         ensures first { tells → IfOk result (λ shown. ShowsFirst ((seen self.old).tape slot) shown into.new) }
         ensures sound { OnOk result (sound self.new) }
+        ensures survives { tells → survives self.old → OnOk result (survives self.new) }
         ensures seen { tells → OnOk result (seen self.new ≡ seen self.old) }
         ensures loaded { OnOk result (loaded self.new ≡ loaded self.old) }
         ensures records { OnOk result (records self.new ≡ records self.old) }
@@ -104,10 +112,11 @@ pub trait Plant {
         ensures counted { OnOk result (loads self.new ≡ loads_after (loaded self.old) slot (loads self.old)) }
         ensures loads { loads self.old ≤ loads self.new }
         ensures sound { OnOk result (sound self.new) }
+        ensures survives { tells → survives self.old → OnOk result (survives self.new) }
         ensures seen { tells → OnOk result (seen self.new ≡ seen self.old) }
         ensures log_size { OnOk result (log_size self.new ≡ log_size self.old) }
         ensures log_settled { OnOk result (log_settled self.new ≡ log_settled self.old) }
-        ensures crash { tells → Leads time self.old self.new (MaySettle (loaded self.old) slot (settled self.old) (seen self.old)) }
+        ensures crash { tells → survives self.old → Leads time self.old self.new (MaySettle (loaded self.old) slot (settled self.old) (seen self.old)) }
         ensures slots { slots self.new ≡ slots self.old }
         ensures present { present self.new ≡ present self.old }
         ensures cause { HasCause (faults self.old) (faults self.new) result }
@@ -131,6 +140,7 @@ pub trait Plant {
         requires within { i < records self.old }
         ensures found { tells → IfOk result (λ kind. ShowsAt ((seen self.old).tape (slot_of (loaded self.old))) i kind into.new) }
         ensures sound { OnOk result (sound self.new) }
+        ensures survives { tells → survives self.old → OnOk result (survives self.new) }
         ensures seen { tells → OnOk result (seen self.new ≡ seen self.old) }
         ensures loaded { OnOk result (loaded self.new ≡ loaded self.old) }
         ensures records { OnOk result (records self.new ≡ records self.old) }
@@ -154,11 +164,12 @@ pub trait Plant {
         ensures put { tells → OnOk result (Gains (block_with block.now) (slot_of (loaded self.old)) (seen self.old) (seen self.new)) }
         ensures records { OnOk result (records self.new ≡ records self.old + 1) }
         ensures sound { OnOk result (sound self.new) }
+        ensures survives { tells → survives self.old → OnOk result (survives self.new) }
         ensures loaded { OnOk result (loaded self.new ≡ loaded self.old) }
         ensures settled { tells → OnOk result (settled self.new ≡ settled self.old) }
         ensures log_size { OnOk result (log_size self.new ≡ log_size self.old) }
         ensures log_settled { OnOk result (log_settled self.new ≡ log_settled self.old) }
-        ensures crash { tells → Leads time self.old self.new (MayGain (block_with block.now) (settled self.old) (slot_of (loaded self.old)) (seen self.old)) }
+        ensures crash { tells → survives self.old → Leads time self.old self.new (MayGain (block_with block.now) (settled self.old) (slot_of (loaded self.old)) (seen self.old)) }
         ensures slots { slots self.new ≡ slots self.old }
         ensures present { present self.new ≡ present self.old }
         ensures cause { HasCause (faults self.old) (faults self.new) result }
@@ -175,10 +186,11 @@ pub trait Plant {
         ensures records { OnOk result (records self.new ≡ records self.old + 1) }
         ensures settled { tells → OnOk result (SettledAt (slot_of (loaded self.old)) (records self.new) (settled self.old) (settled self.new)) }
         ensures sound { OnOk result (sound self.new) }
+        ensures survives { tells → survives self.old → OnOk result (survives self.new) }
         ensures loaded { OnOk result (loaded self.new ≡ loaded self.old) }
         ensures log_size { OnOk result (log_size self.new ≡ log_size self.old) }
         ensures log_settled { OnOk result (log_settled self.new ≡ log_settled self.old) }
-        ensures crash { tells → Leads time self.old self.new (MayGain (mark) (settled self.old) (slot_of (loaded self.old)) (seen self.old)) }
+        ensures crash { tells → survives self.old → Leads time self.old self.new (MayGain (mark) (settled self.old) (slot_of (loaded self.old)) (seen self.old)) }
         ensures slots { slots self.new ≡ slots self.old }
         ensures present { present self.new ≡ present self.old }
         ensures cause { HasCause (faults self.old) (faults self.new) result }
@@ -195,10 +207,11 @@ pub trait Plant {
         ensures records { OnOk result (records self.new ≡ n) }
         ensures settled { tells → OnOk result (SettledAt (slot_of (loaded self.old)) n (settled self.old) (settled self.new)) }
         ensures sound { OnOk result (sound self.new) }
+        ensures survives { tells → survives self.old → OnOk result (survives self.new) }
         ensures loaded { OnOk result (loaded self.new ≡ loaded self.old) }
         ensures log_size { OnOk result (log_size self.new ≡ log_size self.old) }
         ensures log_settled { OnOk result (log_settled self.new ≡ log_settled self.old) }
-        ensures crash { tells → Leads time self.old self.new (MayKeep n (settled self.old) (slot_of (loaded self.old)) (seen self.old)) }
+        ensures crash { tells → survives self.old → Leads time self.old self.new (MayKeep n (settled self.old) (slot_of (loaded self.old)) (seen self.old)) }
         ensures slots { slots self.new ≡ slots self.old }
         ensures present { present self.new ≡ present self.old }
         ensures cause { HasCause (faults self.old) (faults self.new) result }
@@ -216,6 +229,7 @@ pub trait Plant {
         requires within { at + length into.old ≤ log_size self.old }
         ensures bytes { tells → OnOk result (into.new ≡ take (length into.old) (drop at (seen self.old).log)) }
         ensures sound { OnOk result (sound self.new) }
+        ensures survives { tells → survives self.old → OnOk result (survives self.new) }
         ensures seen { tells → OnOk result (seen self.new ≡ seen self.old) }
         ensures loaded { OnOk result (loaded self.new ≡ loaded self.old) }
         ensures records { OnOk result (records self.new ≡ records self.old) }
@@ -238,11 +252,12 @@ pub trait Plant {
         ensures put { tells → OnOk result (AtLog (λ old new. new ≡ old ++ piece.now) (seen self.old) (seen self.new)) }
         ensures log_size { OnOk result (log_size self.new ≡ log_size self.old + length piece.now) }
         ensures sound { OnOk result (sound self.new) }
+        ensures survives { tells → survives self.old → OnOk result (survives self.new) }
         ensures loaded { OnOk result (loaded self.new ≡ loaded self.old) }
         ensures records { OnOk result (records self.new ≡ records self.old) }
         ensures settled { tells → OnOk result (settled self.new ≡ settled self.old) }
         ensures log_settled { OnOk result (log_settled self.new ≡ log_settled self.old) }
-        ensures crash { tells → Leads time self.old self.new (Same) }
+        ensures crash { tells → survives self.old → Leads time self.old self.new (Same) }
         ensures slots { slots self.new ≡ slots self.old }
         ensures present { present self.new ≡ present self.old }
         ensures cause { result ≡ Err PutFault.Failed → Rose (faults self.old) (faults self.new) }
@@ -255,12 +270,13 @@ pub trait Plant {
         requires sound { sound self.old }
         ensures log_settled { OnOk result (log_settled self.new ≡ log_size self.old) }
         ensures sound { OnOk result (sound self.new) }
+        ensures survives { tells → survives self.old → OnOk result (survives self.new) }
         ensures seen { tells → OnOk result (seen self.new ≡ seen self.old) }
         ensures loaded { OnOk result (loaded self.new ≡ loaded self.old) }
         ensures records { OnOk result (records self.new ≡ records self.old) }
         ensures settled { tells → OnOk result (settled self.new ≡ settled self.old) }
         ensures log_size { OnOk result (log_size self.new ≡ log_size self.old) }
-        ensures crash { tells → Leads time self.old self.new (AtLog (OldOr (seen self.old).log)) }
+        ensures crash { tells → survives self.old → Leads time self.old self.new (AtLog (OldOr (seen self.old).log)) }
         ensures slots { slots self.new ≡ slots self.old }
         ensures present { present self.new ≡ present self.old }
         ensures cause { HasCause (faults self.old) (faults self.new) result }
@@ -277,10 +293,11 @@ pub trait Plant {
         ensures log_size { OnOk result (log_size self.new ≡ length bytes.now) }
         ensures log_settled { OnOk result (log_settled self.new ≡ length bytes.now) }
         ensures sound { OnOk result (sound self.new) }
+        ensures survives { tells → survives self.old → OnOk result (survives self.new) }
         ensures loaded { OnOk result (loaded self.new ≡ loaded self.old) }
         ensures records { OnOk result (records self.new ≡ records self.old) }
         ensures settled { tells → OnOk result (settled self.new ≡ settled self.old) }
-        ensures crash { tells → Leads time self.old self.new (AtLog (OldOr bytes.now)) }
+        ensures crash { tells → survives self.old → Leads time self.old self.new (AtLog (OldOr bytes.now)) }
         ensures slots { slots self.new ≡ slots self.old }
         ensures present { present self.new ≡ present self.old }
         ensures cause { result ≡ Err PutFault.Failed → Rose (faults self.old) (faults self.new) }
@@ -298,12 +315,13 @@ pub trait Plant {
         ensures log { tells → OnOk result ((seen self.new).log ≡ (seen self.old).log) }
         ensures tapes { tells → OnOk result ((seen self.new).tape ≡ (seen self.old).tape) }
         ensures sound { OnOk result (sound self.new) }
+        ensures survives { tells → survives self.old → OnOk result (survives self.new) }
         ensures loaded { OnOk result (loaded self.new ≡ loaded self.old) }
         ensures records { OnOk result (records self.new ≡ records self.old) }
         ensures settled { tells → OnOk result (settled self.new ≡ settled self.old) }
         ensures log_size { OnOk result (log_size self.new ≡ log_size self.old) }
         ensures log_settled { OnOk result (log_settled self.new ≡ log_settled self.old) }
-        ensures crash { tells → Leads time self.old self.new (TellsTo ((seen self.old).told ++ in_progress result piece.now)) }
+        ensures crash { tells → survives self.old → Leads time self.old self.new (TellsTo ((seen self.old).told ++ in_progress result piece.now)) }
         ensures slots { slots self.new ≡ slots self.old }
         ensures present { present self.new ≡ present self.old }
         ensures cause { HasCause (tell_faults self.old) (tell_faults self.new) result }
@@ -331,14 +349,14 @@ pub trait Plant {
     ghost others_settled: { (s : Self) (k : ℕ) → tells → sound s → loaded s ≢ Some k → settled s k ≡ length ((seen s).tape k) };
 
     /// What an image has of the log is what is settled of it.
-    ghost log_left: { (s : Self) (c : Stock) → tells → sound s → time.may_leave s c → c.log ≡ take (log_settled s) (seen s).log };
+    ghost log_left: { (s : Self) (c : Stock) → tells → sound s → survives s → time.may_leave s c → c.log ≡ take (log_settled s) (seen s).log };
 
     /// What an image has of each tape: its settled records, a front of those put since, and at most one bad one.
-    ghost tapes_left: { (s : Self) (c : Stock) (k : ℕ) → tells → sound s → time.may_leave s c → IsTorn (settled s k) ((seen s).tape k) (c.tape k) };
+    ghost tapes_left: { (s : Self) (c : Stock) (k : ℕ) → tells → sound s → survives s → time.may_leave s c → IsTorn (settled s k) ((seen s).tape k) (c.tape k) };
 
     /// What was told of an image is a front of what was told.
-    ghost told_left: { (s : Self) (c : Stock) → tells → sound s → time.may_leave s c → IsFront c.told (seen s).told };
+    ghost told_left: { (s : Self) (c : Stock) → tells → sound s → survives s → time.may_leave s c → IsFront c.told (seen s).told };
 
     /// What reads give is one of the images, but for what was put since on the log and on the tapes.
-    ghost settled_may_be_left: { (s : Self) → tells → sound s → time.may_leave s (settled_part (log_settled s) (settled s) (seen s)) };
+    ghost settled_may_be_left: { (s : Self) → tells → sound s → survives s → time.may_leave s (settled_part (log_settled s) (settled s) (seen s)) };
 }

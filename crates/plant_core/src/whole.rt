@@ -16,6 +16,7 @@ pub fn is_whole<P: Plant>(plant: &mut P) -> Result<bool, Failed>
     requires loaded { IsSome (P.loaded plant.old) }
     ensures whole { P.tells → IfOk result (λ whole. IsTrue whole ↔ NoBad ((P.seen plant.old).tape (slot_of (P.loaded plant.old)))) }
     ensures sound { OnOk result (P.sound plant.new) }
+    ensures survives { P.tells → P.survives plant.old → OnOk result (P.survives plant.new) }
     ensures seen { P.tells → OnOk result (P.seen plant.new ≡ P.seen plant.old) }
     ensures loaded { OnOk result (P.loaded plant.new ≡ P.loaded plant.old) }
     ensures records { OnOk result (P.records plant.new ≡ P.records plant.old) }

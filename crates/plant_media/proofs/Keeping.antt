@@ -1,6 +1,6 @@
--- Calls on the media keep a plant sound.
+-- Calls on the media keep a plant sound, and one that survives a crash such a one.
 use Rattle.std.proofs.Common.{◌≡◌, ◌≢◌, inl, inr, ℕ, ◌+◌, Bool, List, length, Option, Some, None, IfSome, IsTrue, sym, ◌∙◌, ap, subst, arith}
-use Rattle.crash_moments.specs.Moments.{Moments, Leads}
+use Rattle.crash_moments.specs.Moments.{Moments}
 use Rattle.media_core.specs.Media.{Image, AtFile}
 use Rattle.crash_moments.specs.Telling.{IsFront}
 use Rattle.crash_log.specs.Log.{Any}
@@ -13,10 +13,11 @@ use Rattle.plant_core.specs.Counts.{SettledAt, SettledAway}
 use Rattle.plant_core.specs.Steps.{AtLog, AtTape}
 use Rattle.plant_core.specs.Stock.{Stock, slot_of}
 use Rattle.plant_media.specs.Stock.{tape_of, tape_shown}
-use Rattle.plant_media.specs.Loaded.{tape_in, TapeFits}
+use Rattle.plant_media.specs.Loaded.{tape_in, TapeSuits}
 use Rattle.plant_media.specs.Slots.{slot_in, tape_at, shown, settled_in}
-use Rattle.plant_media.specs.State.{JournalFits}
+use Rattle.plant_media.specs.State.{JournalSuits}
 use Rattle.plant_media.specs.Slotting.{at_loaded, at_other, settled_loaded, settled_other, which, some_is}
+use Rattle.plant_media.specs.Taping.{LeavesNow}
 use Rattle.plant_media.specs.declared.tape.Tape.{Tape}
 
 -- the loaded tape is read the same where its file is
@@ -24,7 +25,7 @@ pub read_same : (tape : Tape) (a b : Image) → b.file (tape.slot + 1) ≡ a.fil
 unfolding tape_in
 read_same tape a b same = ap (λ (l : List ℕ). tape_shown (damaged_of tape.log) (log_bytes tape.log l)) same
 
-module _ {D : Type 0} (tells : Type 0) (moments : Moments D Image) (seen : D → Image) (present : D → ℕ → Bool) (R : Image → Image → Type 0) (old new : D) (here : present new ≡ present old) (leads : tells → Leads moments old new R) where
+module _ {D : Type 0} (tells : Type 0) (moments : Moments D Image) (seen : D → Image) (present : D → ℕ → Bool) (R : Image → Image → Type 0) (old new : D) (here : present new ≡ present old) (now : tells → LeavesNow moments old new R) where
   -- a file that the step leaves alone
   pub record Alone (f : ℕ) : Type 0 where
     pub images : (a b : Image) → R a b → b.file f ≡ a.file f
@@ -32,28 +33,28 @@ module _ {D : Type 0} (tells : Type 0) (moments : Moments D Image) (seen : D →
 
   pub still_alone : (f : ℕ) → Alone f → tells → IsStill moments seen f old → IsStill moments seen f new
   still_alone f alone told still c left =
-      let step = (leads told).now c left in
+      let step = now told c left in
       alone.images step.from c step.step ∙ still step.from step.was ∙ sym (alone.reads told)
 
-  pub journal_alone : (log : CrashLog) → Alone 0 → JournalFits tells moments seen present log old → JournalFits tells moments seen present log new
+  pub journal_alone : (log : CrashLog) → Alone 0 → JournalSuits tells moments seen present log old → JournalSuits tells moments seen present log new
   journal_alone log alone held = record {
     file = held.file;
     limit = held.limit;
     here = subst (λ (h : ℕ → Bool). IsTrue (h 0)) (sym here) held.here;
     whole = held.whole;
-    fits = λ told. fits_alone moments seen log old (held.fits told) new R (leads told)
+    fits = λ told. fits_alone moments seen log old (held.fits told) new R (now told)
         (λ a b step. ap (λ (f : ℕ). b.file f) held.file ∙ alone.images a b step ∙ ap (λ (f : ℕ). a.file f) (sym held.file))
         (ap (λ (f : ℕ). (seen new).file f) held.file ∙ alone.reads told ∙ ap (λ (f : ℕ). (seen old).file f) (sym held.file));
   }
 
-  pub tape_alone : (tape : Tape) → Alone (tape.slot + 1) → TapeFits tells moments seen present tape old → TapeFits tells moments seen present tape new
+  pub tape_alone : (tape : Tape) → Alone (tape.slot + 1) → TapeSuits tells moments seen present tape old → TapeSuits tells moments seen present tape new
   tape_alone tape alone held = record {
     file = held.file;
     limit = held.limit;
     here = subst (λ (h : ℕ → Bool). IsTrue (h (tape.slot + 1))) (sym here) held.here;
     within = held.within;
     room = held.room;
-    fits = λ told. fits_alone moments seen tape.log old (held.fits told) new R (leads told)
+    fits = λ told. fits_alone moments seen tape.log old (held.fits told) new R (now told)
         (λ a b step. ap (λ (f : ℕ). b.file f) held.file ∙ alone.images a b step ∙ ap (λ (f : ℕ). a.file f) (sym held.file))
         (ap (λ (f : ℕ). (seen new).file f) held.file ∙ alone.reads told ∙ ap (λ (f : ℕ). (seen old).file f) (sym held.file));
     counted = λ told. held.counted told ∙ ap length (sym (read_same tape (seen old) (seen new) (alone.reads told)));
@@ -62,7 +63,7 @@ module _ {D : Type 0} (tells : Type 0) (moments : Moments D Image) (seen : D →
     still = λ told is. still_alone (tape.slot + 1) alone told (held.still told is);
   }
 
-  pub loaded_alone : (tape : Option Tape) → ((k : ℕ) → Alone (k + 1)) → IfSome tape (λ t. TapeFits tells moments seen present t old) → IfSome tape (λ t. TapeFits tells moments seen present t new)
+  pub loaded_alone : (tape : Option Tape) → ((k : ℕ) → Alone (k + 1)) → IfSome tape (λ t. TapeSuits tells moments seen present t old) → IfSome tape (λ t. TapeSuits tells moments seen present t new)
   loaded_alone None alone held = held
   loaded_alone (Some t) alone held = tape_alone t (alone t.slot) held
 
@@ -71,13 +72,13 @@ module _ {D : Type 0} (tells : Type 0) (moments : Moments D Image) (seen : D →
 
   pub fronts_alone : ((a b : Image) → R a b → b.told ≡ a.told) → (tells → (seen new).told ≡ (seen old).told) → (tells → (c : Image) → moments.may_leave old c → IsFront c.told (seen old).told) → tells → (c : Image) → moments.may_leave new c → IsFront c.told (seen new).told
   fronts_alone images reads fronts told c left =
-      let step = (leads told).now c left in
+      let step = now told c left in
       subst (λ (l : List ℕ). IsFront l (seen new).told) (sym (images step.from c step.step)) (subst (λ (l : List ℕ). IsFront step.from.told l) (sym (reads told)) (fronts told step.from step.was))
 
 -- one file changes, and this isn't it
-pub alone_at : {D : Type 0} (tells : Type 0) (moments : Moments D Image) (seen : D → Image) (present : D → ℕ → Bool) (g : ℕ) (R : List ℕ → List ℕ → Type 0) (old new : D) (here : present new ≡ present old) (leads : tells → Leads moments old new (AtFile g R))
-    → (tells → AtFile g Any (seen old) (seen new)) → (f : ℕ) → f ≢ g → Alone tells moments seen present (AtFile g R) old new here leads f
-alone_at tells moments seen present g R old new here leads frame f ne = record { images = λ a b step. step.others f ne; reads = λ told. (frame told).others f ne }
+pub alone_at : {D : Type 0} (tells : Type 0) (moments : Moments D Image) (seen : D → Image) (present : D → ℕ → Bool) (g : ℕ) (R : List ℕ → List ℕ → Type 0) (old new : D) (here : present new ≡ present old) (now : tells → LeavesNow moments old new (AtFile g R))
+    → (tells → AtFile g Any (seen old) (seen new)) → (f : ℕ) → f ≢ g → Alone tells moments seen present (AtFile g R) old new here now f
+alone_at tells moments seen present g R old new here now frame f ne = record { images = λ a b step. step.others f ne; reads = λ told. (frame told).others f ne }
 
 -- what is read after one file changed
 module _ (journal : CrashLog) (tape : Option Tape) (old new : Image) where

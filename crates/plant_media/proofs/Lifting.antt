@@ -6,28 +6,28 @@ use Rattle.std.proofs.Math.Nat.{le_refl}
 use Rattle.std.proofs.Math.Seq.{take-append-add}
 use Rattle.crash_moments.specs.Moments.{Moments, Leads}
 use Rattle.crash_moments.proofs.Joining.{mapped_leads, weakened}
-use Rattle.media_core.specs.Media as media
 use Rattle.media_core.specs.Media.{Image, AtFile, Tells}
 use Rattle.crash_moments.specs.Telling.{IsFront}
 use Rattle.crash_log.specs.Log.{HasLog, HasOneOf}
-use Rattle.crash_log.specs.CrashLog.{file_of, damaged_of, settled_log, FitsIts}
+use Rattle.crash_log.specs.CrashLog.{file_of, damaged_of, settled_log, state_of}
+use Rattle.crash_log.specs.Fit.{Fits}
 use Rattle.crash_log.specs.declared.log.CrashLog.{CrashLog}
 use Rattle.crash_log.proofs.Fitting.{log_left, whole_left}
 use Rattle.plant_core.specs.Records.{Record}
 use Rattle.plant_core.specs.Steps.{Same, AtLog, OldOr, AtTape, IsTorn, MayGain, MayKeep, MaySettle, TellsTo}
 use Rattle.plant_core.specs.Stock.{Stock, slot_of}
 use Rattle.plant_media.specs.Stock.{tape_of, journal_of, stock_of, SameTape, TapeOr, SameJournal, JournalOr}
-use Rattle.plant_media.specs.Loaded.{tape_in, TapeFits}
+use Rattle.plant_media.specs.Loaded.{tape_in, TapeSuits}
 use Rattle.plant_media.specs.Slots.{slot_in, tape_at, settled_in}
 use Rattle.plant_media.specs.State.{media_of, moments_of, seen_of, tapes_settled_of, loaded_of}
 use Rattle.plant_media.specs.Shown.{journal_whole}
 use Rattle.plant_media.specs.Slotting.{shown_tape, at_loaded, settled_loaded, some_is}
-use Rattle.plant_media.specs.Taping.{tape_left}
+use Rattle.plant_media.specs.Taping.{LeavesNow, tape_left}
 use Rattle.plant_media.specs.declared.tape.Tape.{Tape}
 use Rattle.plant_media.specs.declared.plant.MediaPlant.{MediaPlant}
 
 -- of the journal's file
-module _ {D : Type 0} (moments : Moments D Image) (seen : D → Image) (log : CrashLog) (old new : D) (fits : FitsIts moments seen log old) (whole : damaged_of log ≡ false) where
+module _ {D : Type 0} (moments : Moments D Image) (seen : D → Image) (log : CrashLog) (old new : D) (fits : Fits moments seen (state_of log) old) (whole : damaged_of log ≡ false) where
   abbrev settled : List ℕ
   settled = settled_log log ((seen old).file (file_of log))
 
@@ -57,10 +57,10 @@ front_behind xs ys zs front = (length xs + front.0, ap (λ (l : List ℕ). xs ++
 front_more : (xs ys zs : List ℕ) → IsFront xs ys → IsFront xs (ys ++ zs)
 front_more xs ys zs front = (min front.0 (length ys), front.1 ∙ sym (take_min front.0 ys) ∙ sym (take-append-le (min front.0 (length ys)) ys zs (omega arith)))
 
-pub fronts_kept : {D : Type 0} (moments : Moments D Image) (old new : D) (taken piece told : List ℕ) → told ≡ taken ++ piece → ((c : Image) → moments.may_leave old c → IsFront c.told taken) → Leads moments old new (Tells taken piece)
+pub fronts_kept : {D : Type 0} (moments : Moments D Image) (old new : D) (taken piece told : List ℕ) → told ≡ taken ++ piece → ((c : Image) → moments.may_leave old c → IsFront c.told taken) → LeavesNow moments old new (Tells taken piece)
     → (c : Image) → moments.may_leave new c → IsFront c.told told
-fronts_kept moments old new taken piece told is fronts leads c left =
-    let step = leads.now c left in
+fronts_kept moments old new taken piece told is fronts now c left =
+    let step = now c left in
     subst (λ (l : List ℕ). IsFront c.told l) (sym is) (⊎_elim
     (λ same. subst (λ (l : List ℕ). IsFront l (taken ++ piece)) (sym same) (front_more step.from.told taken piece (fronts step.from step.was)))
     (λ more. subst (λ (l : List ℕ). IsFront l (taken ++ piece)) (sym more.1.1) (front_behind taken (take more.1.0 piece) piece (more.1.0, refl)))
@@ -75,9 +75,6 @@ module _ {D : Type 0} (moments : Moments D Image) (old new : MediaPlant D) where
 
   lifted : (R : Image → Image → Type 0) (S : Stock → Stock → Type 0) → Leads moments old.media new.media R → ((a b : Image) → moments.may_leave old.media a → R a b → S (stock_of a) (stock_of b)) → Lifts S
   lifted R S = mapped_leads moments media_of stock_of old new R S
-
-  pub lift_same : Leads moments old.media new.media media.Same → Lifts Same
-  lift_same leads = lifted media.Same Same leads (λ a b was is. ap stock_of is)
 
   pub lift_journal_same : Leads moments old.media new.media (AtFile 0 SameJournal) → Lifts Same
   lift_journal_same leads = lifted (AtFile 0 SameJournal) Same leads (λ a b was step. λ i. record {
@@ -136,7 +133,7 @@ torn_by l m c n k same within is front = record { count = k; low = omega arith; 
 torn_all : (m c : List Record) (n : ℕ) → n ≤ length m → c ≡ m → IsTorn n m c
 torn_all m c n within is = record { count = length m; low = within; high = le_refl (length m); is = inl (is ∙ sym (take_all (length m) m (le_refl (length m)))) }
 
-module _ {D : Type 0} (tells : Type 0) (moments : Moments D Image) (seen : D → Image) (present : D → ℕ → Bool) (old new : MediaPlant D) (t : Tape) (is : old.tape ≡ Some t) (held : TapeFits tells moments seen present t old.media) (told : tells) where
+module _ {D : Type 0} (tells : Type 0) (moments : Moments D Image) (seen : D → Image) (present : D → ℕ → Bool) (old new : MediaPlant D) (t : Tape) (is : old.tape ≡ Some t) (held : TapeSuits tells moments seen present t old.media) (told : tells) where
   abbrev image : Image
   image = seen old.media
 

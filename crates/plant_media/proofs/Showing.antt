@@ -9,7 +9,7 @@ use Rattle.plant_core.specs.Records.{Record, block_with, mark, bad, Shows, Shows
 use Rattle.plant_core.specs.declared.record.Kind.{Kind}
 use Rattle.plant_core.specs.declared.record.Kind.TheVariants.{Block, Mark, Bad}
 use Rattle.plant_media.specs.Records.{record_of}
-use Rattle.plant_media.specs.Loaded.{tape_in, TapeFits}
+use Rattle.plant_media.specs.Loaded.{tape_in, TapeSuits}
 use Rattle.plant_media.specs.declared.tape.Tape.{Tape}
 use Rattle.plant_media.specs.Cutting.{records_at, records_count, record_short, record_block, record_mark, record_other}
 use Rattle.plant_media.specs.Shown.{loaded_damaged}
@@ -27,7 +27,7 @@ pub shows_none : (tape : List Record) (into : List ℕ) → length tape ≡ 0 �
 shows_none [] into none = refl
 shows_none (x ∷ tape) into none = absurd (omega arith)
 
-module _ {D : Type 0} (tells : Type 0) (moments : Moments D Image) (seen : D → Image) (present : D → ℕ → Bool) (tape : Tape) (media : D) (held : TapeFits tells moments seen present tape media) (told : tells) (i : ℕ) (within : i < tape.records) (into : List ℕ) where
+module _ {D : Type 0} (tells : Type 0) (moments : Moments D Image) (seen : D → Image) (present : D → ℕ → Bool) (tape : Tape) (media : D) (held : TapeSuits tells moments seen present tape media) (told : tells) (i : ℕ) (within : i < tape.records) (into : List ℕ) where
   abbrev bytes : List ℕ
   bytes = log_bytes tape.log ((seen media).file (file_of tape.log))
 

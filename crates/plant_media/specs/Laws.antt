@@ -8,9 +8,9 @@ use Rattle.crash_log.proofs.Fitting.{settled_front, settled_within, log_left, wh
 use Rattle.plant_core.specs.Steps.{IsTorn}
 use Rattle.plant_core.specs.Stock.{Stock, settled_part}
 use Rattle.plant_media.specs.Stock.{tape_of, journal_of, stock_of}
-use Rattle.plant_media.specs.Loaded.{TapeFits}
+use Rattle.plant_media.specs.Loaded.{TapeSuits}
 use Rattle.plant_media.specs.Slots.{slots_here}
-use Rattle.plant_media.specs.State.{seen_of, moments_of, present_of, loaded_of, records_of_loaded, tapes_settled_of, log_size_of, log_settled_of, IsSound}
+use Rattle.plant_media.specs.State.{seen_of, moments_of, present_of, loaded_of, records_of_loaded, tapes_settled_of, log_size_of, log_settled_of, Suits}
 use Rattle.plant_media.specs.declared.plant.MediaPlant.{MediaPlant}
 use Rattle.plant_media.specs.Shown.{journal_whole}
 use Rattle.plant_media.specs.Slotting.{shown_tape, shown_log, shown_told, one_stock, which, of_loaded, at_other, settled_other, loaded_counted, torn_left, settled_read}
@@ -22,11 +22,11 @@ pub below : (here : ℕ → Bool) (n k : ℕ) → ((f : ℕ) → IsTrue (here f)
 unfolding slots_here
 below here n k within is = omega (arith, within (k + 1) is)
 
-module _ {D : Type 0} (tells : Type 0) (moments : Moments D Image) (seen : D → Image) (present : D → ℕ → Bool) (plant : MediaPlant D) (sound : IsSound tells moments seen present plant) where
+module _ {D : Type 0} (tells : Type 0) (moments : Moments D Image) (seen : D → Image) (present : D → ℕ → Bool) (plant : MediaPlant D) (suits : Suits tells moments seen present plant) where
   pub is_here : (k : ℕ) → loaded_of plant ≡ Some k → IsTrue (present_of present plant k)
   unfolding slots_here
   is_here k loaded = elim (which plant.tape k) [
-    | inl (t, is, slot) ↦ subst (λ (n : ℕ). IsTrue (present plant.media (n + 1))) slot (of_loaded (λ t. TapeFits tells moments seen present t plant.media) plant.tape t is sound.loaded).here
+    | inl (t, is, slot) ↦ subst (λ (n : ℕ). IsTrue (present plant.media (n + 1))) slot (of_loaded (λ t. TapeSuits tells moments seen present t plant.media) plant.tape t is suits.loaded).here
     | inr other ↦ absurd (other loaded)
   ]
 
@@ -38,18 +38,18 @@ module _ {D : Type 0} (tells : Type 0) (moments : Moments D Image) (seen : D →
     image = seen plant.media
 
     pub counted : (k : ℕ) → loaded_of plant ≡ Some k → records_of_loaded plant ≡ length ((seen_of seen plant).tape k)
-    counted k loaded = loaded_counted tells moments seen present plant.tape plant.media told sound.loaded k loaded ∙ ap length (sym (shown_tape plant.journal plant.tape image k))
+    counted k loaded = loaded_counted tells moments seen present plant.tape plant.media told suits.loaded k loaded ∙ ap length (sym (shown_tape plant.journal plant.tape image k))
 
     pub log_counted : log_size_of plant ≡ length (seen_of seen plant).log
-    log_counted = sym (ap length (shown_log plant.journal plant.tape image) ∙ ap (λ (f : ℕ). length (log_bytes plant.journal (image.file f))) (sym sound.journal.file)
-        ∙ bytes_long moments seen plant.journal plant.media (sound.journal.fits told))
+    log_counted = sym (ap length (shown_log plant.journal plant.tape image) ∙ ap (λ (f : ℕ). length (log_bytes plant.journal (image.file f))) (sym suits.journal.file)
+        ∙ bytes_long moments seen plant.journal plant.media (suits.journal.fits told))
 
     pub others_whole : (k : ℕ) → loaded_of plant ≢ Some k → tapes_settled_of seen plant k ≡ length ((seen_of seen plant).tape k)
     others_whole k other = settled_other plant.tape image k other ∙ ap length (sym (shown_tape plant.journal plant.tape image k ∙ at_other plant.tape image k other))
 
     log_front : (c : Image) → moments.may_leave plant.media c → journal_of (c.file 0) ≡ take (log_settled_of plant) (seen_of seen plant).log
     log_front c left =
-        let j = sound.journal in
+        let j = suits.journal in
         ap (λ (f : ℕ). journal_of (c.file f)) (sym j.file) ∙ journal_whole (c.file (file_of plant.journal)) (whole_left moments seen plant.journal plant.media (j.fits told) j.whole c left)
         ∙ log_left moments seen plant.journal plant.media (j.fits told) c left
         ∙ settled_front plant.journal (image.file (file_of plant.journal))
@@ -63,12 +63,12 @@ module _ {D : Type 0} (tells : Type 0) (moments : Moments D Image) (seen : D →
     tapes_are_left c k left =
         subst (IsTorn (tapes_settled_of seen plant k) ((seen_of seen plant).tape k)) (ap (λ (s : Stock). s.tape k) (sym left.is))
         (subst (λ l. IsTorn (tapes_settled_of seen plant k) l (tape_of (left.from.file (k + 1)))) (sym (shown_tape plant.journal plant.tape image k))
-        (torn_left tells moments seen present plant.tape plant.media told sound.loaded (sound.others told) left.from left.was k))
+        (torn_left tells moments seen present plant.tape plant.media told suits.loaded (suits.others told) left.from left.was k))
 
     pub told_is_left : (c : Stock) → (moments_of moments).may_leave plant c → IsFront c.told (seen_of seen plant).told
     told_is_left c left =
         subst (λ (l : List ℕ). IsFront l (seen_of seen plant).told) (ap (λ (s : Stock). s.told) (sym left.is))
-        (subst (λ (l : List ℕ). IsFront left.from.told l) (sym (shown_told plant.journal plant.tape image)) (sound.fronts told left.from left.was))
+        (subst (λ (l : List ℕ). IsFront left.from.told l) (sym (shown_told plant.journal plant.tape image)) (suits.fronts told left.from left.was))
 
     pub settled_is_left : moments.may_leave plant.media image → (moments_of moments).may_leave plant (settled_part (log_settled_of plant) (tapes_settled_of seen plant) (seen_of seen plant))
     settled_is_left reads = record {
@@ -76,6 +76,6 @@ module _ {D : Type 0} (tells : Type 0) (moments : Moments D Image) (seen : D →
       was = reads;
       is = one_stock (settled_part (log_settled_of plant) (tapes_settled_of seen plant) (seen_of seen plant)) (stock_of image)
           (sym (log_front image reads))
-          (λ k. ap (λ l. take (tapes_settled_of seen plant k) l) (shown_tape plant.journal plant.tape image k) ∙ settled_read tells moments seen present plant.tape plant.media told sound.loaded (sound.others told) reads k)
+          (λ k. ap (λ l. take (tapes_settled_of seen plant k) l) (shown_tape plant.journal plant.tape image k) ∙ settled_read tells moments seen present plant.tape plant.media told suits.loaded (suits.others told) reads k)
           (shown_told plant.journal plant.tape image);
     }

@@ -13,7 +13,7 @@ use Rattle.plant_core.specs.Records.{Record}
 use Rattle.plant_core.specs.Steps.{IsTorn}
 use Rattle.plant_core.specs.Stock.{Stock}
 use Rattle.plant_media.specs.Stock.{tape_of}
-use Rattle.plant_media.specs.Loaded.{tape_in, TapeFits}
+use Rattle.plant_media.specs.Loaded.{tape_in, TapeSuits}
 use Rattle.plant_media.specs.Slots.{slot_in, records_in, tape_at, shown, settled_in}
 use Rattle.plant_media.specs.declared.tape.Tape.{Tape}
 use Rattle.plant_media.specs.Taping.{tape_left}
@@ -85,9 +85,9 @@ torn_whole l c n same size = record { count = length l; low = omega arith; high 
 pub torn_front : (l c : List Record) (n m : ℕ) → m ≡ n → n ≤ length l → c ≡ take n l → IsTorn m l c
 torn_front l c n m same within is = record { count = n; low = omega arith; high = within; is = inl is }
 
-module _ {D : Type 0} (tells : Type 0) (moments : Moments D Image) (seen : D → Image) (present : D → ℕ → Bool) (tape : Option Tape) (media : D) (told : tells) (held : IfSome tape (λ t. TapeFits tells moments seen present t media)) where
-  pub held_by : (t : Tape) → tape ≡ Some t → TapeFits tells moments seen present t media
-  held_by t is = of_loaded (λ t. TapeFits tells moments seen present t media) tape t is held
+module _ {D : Type 0} (tells : Type 0) (moments : Moments D Image) (seen : D → Image) (present : D → ℕ → Bool) (tape : Option Tape) (media : D) (told : tells) (held : IfSome tape (λ t. TapeSuits tells moments seen present t media)) where
+  pub held_by : (t : Tape) → tape ≡ Some t → TapeSuits tells moments seen present t media
+  held_by t is = of_loaded (λ t. TapeSuits tells moments seen present t media) tape t is held
 
   pub loaded_counted : (k : ℕ) → slot_in tape ≡ Some k → records_in tape ≡ length (tape_at tape (seen media) k)
   loaded_counted k loaded = elim (which tape k) [

@@ -2,18 +2,18 @@
 use Rattle.std.proofs.Common.{◌≡◌, ◌⊎◌, inl, inr, ⊎_elim, ℕ, ◌+◌, ◌*◌, ◌<◌, min, Bool, true, false, List, [], ◌∷◌, ◌++◌, length, take, refl, sym, ◌∙◌, ap, subst, arith, append_assoc}
 use Rattle.std.proofs.lemmas.Bool.{cases_lt}
 use Rattle.std.proofs.lemmas.List.{take_min, take_all, length-take}
-use Rattle.crash_moments.specs.Moments.{Moments, Leads}
+use Rattle.crash_moments.specs.Moments.{Moments, Stepped, Leads}
 use Rattle.crash_moments.proofs.Joining.{weakened, joined}
 use Rattle.media_core.specs.Media.{Image, AtFile, Same}
 use Rattle.crash_log.specs.Log.{is_damaged, HasLog, HasOneOf}
-use Rattle.crash_log.specs.CrashLog.{file_of, length_of, settled_of, damaged_of, log_bytes, settled_log, FitsIts}
-use Rattle.crash_log.specs.Fit.{IsStill}
+use Rattle.crash_log.specs.CrashLog.{file_of, length_of, settled_of, damaged_of, log_bytes, settled_log, state_of, Survives}
+use Rattle.crash_log.specs.Fit.{IsStill, Fits}
 use Rattle.crash_log.specs.declared.log.CrashLog.{CrashLog}
 use Rattle.crash_log.proofs.Fitting.{settled_front, settled_within, damaged_empty, log_left, whole_left, still_damaged, damaged_is, bytes_long}
 use Rattle.plant_core.specs.Records.{Record, bad, NoBad}
 use Rattle.plant_media.specs.Records.{record_of, records_of}
 use Rattle.plant_media.specs.Stock.{tape_of, SameTape, TapeOr}
-use Rattle.plant_media.specs.Loaded.{tape_in, TapeFits}
+use Rattle.plant_media.specs.Loaded.{tape_in, TapeSuits, TapeFits, TapeSurvives}
 use Rattle.plant_media.specs.declared.tape.Tape.{Tape}
 use Rattle.plant_media.specs.Cutting.{records_take, records_none, records_more, whole_length}
 use Rattle.plant_media.specs.Shown.{either, tape_damaged, tape_whole, loaded_damaged, loaded_whole, bad_is_bad}
@@ -40,17 +40,37 @@ same_or moments f tape old new leads = weakened moments old new (AtFile f SameTa
 pub turn_at : {D : Type 0} (moments : Moments D Image) (f g : ℕ) (S T : List Record) (old new : D) → f ≡ g → S ≡ T → Leads moments old new (AtFile f (TapeOr S)) → Leads moments old new (AtFile g (TapeOr T))
 turn_at moments f g S T old new same is leads = at_file moments f g (TapeOr T) old new same (subst (λ (l : List Record). Leads moments old new (AtFile f (TapeOr l))) is leads)
 
+-- each image that these moments may leave now is one that they might have left before, after this step
+abbrev pub LeavesNow : {D : Type 0} → Moments D Image → D → D → (Image → Image → Type 0) → Type 0
+LeavesNow moments old new R = (c : Image) → moments.may_leave new c → Stepped moments old R c
+
 -- a file to which nothing waits is still so after a read
-pub still_same : {D : Type 0} (moments : Moments D Image) (seen : D → Image) (f : ℕ) (old new : D) → Leads moments old new Same → seen new ≡ seen old → IsStill moments seen f old → IsStill moments seen f new
-still_same moments seen f old new leads same still c left =
-    let step = leads.now c left in
+pub still_same : {D : Type 0} (moments : Moments D Image) (seen : D → Image) (f : ℕ) (old new : D) → LeavesNow moments old new Same → seen new ≡ seen old → IsStill moments seen f old → IsStill moments seen f new
+still_same moments seen f old new now same still c left =
+    let step = now c left in
     ap (λ (i : Image). i.file f) step.step ∙ still step.from step.was ∙ sym (ap (λ (i : Image). i.file f) same)
+
+-- A tape that fits its file survives a crash where its log does, and where its file is as it is read once all is settled.
+pub tape_survives : {D : Type 0} (tells : Type 0) (moments : Moments D Image) (seen : D → Image) (present : D → ℕ → Bool) (tape : Tape) (media : D) → TapeFits tells seen present tape media
+    → (tells → Survives moments seen tape.log media) → (tells → tape.settled ≡ tape.records → IsStill moments seen (tape.slot + 1) media) → TapeSurvives tells moments seen present tape media
+tape_survives tells moments seen present tape media fits log still = record {
+  file = fits.file;
+  limit = fits.limit;
+  here = fits.here;
+  within = fits.within;
+  room = fits.room;
+  fits = log;
+  counted = fits.counted;
+  settled = fits.settled;
+  damaged = fits.damaged;
+  still = still;
+}
 
 no_bytes : (l : List ℕ) → length l ≡ 0 → l ≡ []
 no_bytes [] none = refl
 no_bytes (x ∷ l) none = absurd (omega arith)
 
-module _ {D : Type 0} (moments : Moments D Image) (seen : D → Image) (log : CrashLog) (media : D) (fits : FitsIts moments seen log media) where
+module _ {D : Type 0} (moments : Moments D Image) (seen : D → Image) (log : CrashLog) (media : D) (fits : Fits moments seen (state_of log) media) where
   abbrev settled : List ℕ
   settled = settled_log log ((seen media).file (file_of log))
 
@@ -91,11 +111,11 @@ module _ {D : Type 0} (moments : Moments D Image) (seen : D → Image) (log : Cr
           (λ old. inl (tape_whole (b.file (file_of log)) clear ∙ ap records_of old ∙ sym (whole_tape whole a was)))
           (λ cut. inr (tape_whole (b.file (file_of log)) clear ∙ ap records_of cut ∙ is)) step.bytes
 
-module _ {D : Type 0} (tells : Type 0) (moments : Moments D Image) (seen : D → Image) (present : D → ℕ → Bool) (tape : Tape) (media : D) (held : TapeFits tells moments seen present tape media) (told : tells) where
+module _ {D : Type 0} (tells : Type 0) (moments : Moments D Image) (seen : D → Image) (present : D → ℕ → Bool) (tape : Tape) (media : D) (held : TapeSuits tells moments seen present tape media) (told : tells) where
   abbrev bytes : List ℕ
   bytes = log_bytes tape.log ((seen media).file (file_of tape.log))
 
-  pub fits_now : FitsIts moments seen tape.log media
+  pub fits_now : Fits moments seen (state_of tape.log) media
   fits_now = held.fits told
 
   pub bytes_size : length bytes ≡ length_of tape.log

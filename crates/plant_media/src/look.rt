@@ -2,10 +2,9 @@
 ghost use Rattle.std.specs.Prelude.{◌≡◌, ◌≢◌, ◌+◌, ◌<◌, ◌≤◌, ℕ, Option, Some, None, IfOk, IfSome, IsTrue};
 ghost use Rattle.crash_moments.specs.Moments.{Leads, HasCause};
 ghost use Rattle.media_core.specs.Media.{Image, Same};
-ghost use Rattle.crash_log.specs.Fit.{IsStill};
 ghost use Rattle.plant_core.specs.Records.{ShowsFirst};
 ghost use Rattle.plant_media.specs.Loaded.{TapeFits};
-ghost use Rattle.plant_media.specs.Slots.{slot_in, tape_at};
+ghost use Rattle.plant_media.specs.Slots.{tape_at};
 
 use crate::tape::Tape;
 use media_core::Media;
@@ -20,8 +19,7 @@ pub fn look<M: Media>(
 ) -> Result<Option<Kind>, Failed>
     requires slot { slot < 65535 }
     requires here { IsTrue (M.present media.old (slot + 1)) }
-    requires loaded { IfSome tape.now (λ t. TapeFits M.tells M.time M.seen M.present t media.old) }
-    requires still { M.tells → slot_in tape.now ≢ Some slot → IsStill M.time M.seen (slot + 1) media.old }
+    requires loaded { IfSome tape.now (λ t. TapeFits M.tells M.seen M.present t media.old) }
     ensures first { M.tells → IfOk result (λ kind. ShowsFirst (tape_at tape.now (M.seen media.old) slot) kind into.new) }
     ensures seen { M.tells → M.seen media.new ≡ M.seen media.old }
     ensures crash { M.tells → Leads M.time media.old media.new Same }

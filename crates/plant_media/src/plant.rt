@@ -5,7 +5,7 @@ ghost use Rattle.media_core.specs.Media.{Image, Same};
 ghost use Rattle.crash_moments.specs.Telling.{IsFront};
 ghost use Rattle.crash_log.specs.Log.{is_damaged};
 ghost use Rattle.crash_log.specs.CrashLog.{length_of, settled_of, damaged_of};
-ghost use Rattle.crash_log.specs.Fit.{IsStill};
+ghost use Rattle.crash_log.specs.Fit.{IsStill, as_read};
 ghost use Rattle.plant_core.specs.Steps.{Same as SameStock, MaySettle};
 ghost use Rattle.plant_media.specs.Stock.{stock_of};
 
@@ -29,18 +29,17 @@ pub struct MediaPlant<M: Media> {
 
 impl<M: Media> MediaPlant<M> {
     ghost use Rattle.plant_media.specs.Opening.{media_after, HasCauseIn};
-    ghost use Rattle.plant_media.specs.State.{media_of, seen_of, moments_of, loaded_of, tapes_settled_of, log_size_of, log_settled_of, loads_of, IsSound};
+    ghost use Rattle.plant_media.specs.State.{media_of, seen_of, moments_of, loaded_of, tapes_settled_of, log_size_of, log_settled_of, loads_of, IsSound, Survives};
 
     /// Opens the plant that the files of a media have. Nothing is written: the media reads as before, and a crash leaves what
-    /// it left before. Its condition is that no write to a file waits for a sync, and that what was told of an image is a
-    /// front of what was told: so it is where a program begins.
+    /// it left before. Opening has no condition. The plant survives a crash where no write to a file waits for a sync, and what
+    /// was told of each image is a front of what was told: so it is where a program begins.
     ///
     /// `Failed` comes only where the media's count of faults rose, `BadLog` exactly where the journal's file is damaged. Then
     /// the media is handed back.
     pub fn open(mut media: M) -> Result<MediaPlant<M>, Unopened<M>>
-        requires still { M.tells → (k : ℕ) → IsStill M.time M.seen k media }
-        requires fronts { M.tells → (c : Image) → M.time.may_leave media c → IsFront c.told (M.seen media).told }
-        ensures sound { IfOk result (λ plant. IsSound M.tells M.time M.seen M.present plant) }
+        ensures sound { IfOk result (λ plant. IsSound M.tells M.seen M.present plant) }
+        ensures survives { M.tells → ((k : ℕ) → IsStill M.time M.seen k media) → ((c : Image) → M.time.may_leave media c → IsFront c.told (M.seen media).told) → IfOk result (λ plant. Survives M.tells M.time M.seen M.present plant) }
         ensures stock { M.tells → IfOk result (λ plant. seen_of M.seen plant ≡ stock_of (M.seen media)) }
         ensures loaded { IfOk result (λ plant. loaded_of plant ≡ None) }
         ensures settled { IfOk result (λ plant. log_settled_of plant ≡ log_size_of plant) }
@@ -101,14 +100,15 @@ impl<M: Media> MediaPlant<M> {
 
     /// Settles what was put on the loaded tape, before another one is loaded.
     fn put_away(&mut self, slot: u32) -> Result<(), Failed>
-        requires sound { IsSound M.tells M.time M.seen M.present self.old }
+        requires sound { IsSound M.tells M.seen M.present self.old }
         requires other { loaded_of self.old ≢ Some slot }
-        ensures sound { OnOk result (IsSound M.tells M.time M.seen M.present self.new) }
+        ensures sound { OnOk result (IsSound M.tells M.seen M.present self.new) }
+        ensures survives { M.tells → Survives M.tells M.time M.seen M.present self.old → OnOk result (Survives M.tells M.time M.seen M.present self.new) }
         ensures all { OnOk result (IfSome self.new.tape (λ t. t.settled ≡ t.records)) }
         ensures loaded { OnOk result (loaded_of self.new ≡ loaded_of self.old) }
         ensures journal { self.new.journal ≡ self.old.journal }
         ensures seen { M.tells → OnOk result (seen_of M.seen self.new ≡ seen_of M.seen self.old) }
-        ensures crash { M.tells → Leads (moments_of M.time) self.old self.new (MaySettle (loaded_of self.old) slot (tapes_settled_of M.seen self.old) (seen_of M.seen self.old)) }
+        ensures crash { M.tells → Survives M.tells M.time M.seen M.present self.old → Leads (moments_of M.time) self.old self.new (MaySettle (loaded_of self.old) slot (tapes_settled_of M.seen self.old) (seen_of M.seen self.old)) }
         ensures count { M.count self.new.media ≡ M.count self.old.media }
         ensures present { M.present self.new.media ≡ M.present self.old.media }
         ensures cause { HasCause (M.faults self.old.media) (M.faults self.new.media) result }
@@ -126,12 +126,13 @@ impl<M: Media> MediaPlant<M> {
 
     /// Loads another tape, once all that was put is settled.
     fn take_up(&mut self, slot: u32) -> Result<(), Failed>
-        requires sound { IsSound M.tells M.time M.seen M.present self.old }
+        requires sound { IsSound M.tells M.seen M.present self.old }
         requires other { loaded_of self.old ≢ Some slot }
         requires slot { slot < 65535 }
         requires here { IsTrue (M.present self.old.media (slot + 1)) }
         requires all { IfSome self.old.tape (λ t. t.settled ≡ t.records) }
-        ensures sound { OnOk result (IsSound M.tells M.time M.seen M.present self.new) }
+        ensures sound { OnOk result (IsSound M.tells M.seen M.present self.new) }
+        ensures survives { M.tells → Survives M.tells M.time M.seen M.present self.old → OnOk result (Survives M.tells M.time M.seen M.present self.new) }
         ensures loaded { OnOk result (loaded_of self.new ≡ Some slot) }
         ensures journal { self.new.journal ≡ self.old.journal }
         ensures seen { M.tells → OnOk result (seen_of M.seen self.new ≡ seen_of M.seen self.old) }
@@ -156,7 +157,7 @@ impl<M: Media> MediaPlant<M> {
 }
 
 impl<M: Media> Plant for MediaPlant<M> {
-    ghost use Rattle.plant_media.specs.State.{seen_of, moments_of, slots_of, present_of, loaded_of, records_of_loaded, tapes_settled_of, log_size_of, log_settled_of, loads_of, IsSound};
+    ghost use Rattle.plant_media.specs.State.{seen_of, moments_of, slots_of, present_of, loaded_of, records_of_loaded, tapes_settled_of, log_size_of, log_settled_of, loads_of, IsSound, Survives};
     ghost use Rattle.plant_media.specs.Laws.{few, below, is_here, within, counted, log_counted, others_whole, log_is_left, tapes_are_left, told_is_left, settled_is_left};
 
     ghost tells = { M.tells };
@@ -165,7 +166,9 @@ impl<M: Media> Plant for MediaPlant<M> {
 
     ghost time = { moments_of M.time };
 
-    ghost sound = { IsSound M.tells M.time M.seen M.present };
+    ghost sound = { IsSound M.tells M.seen M.present };
+
+    ghost survives = { Survives M.tells M.time M.seen M.present };
 
     ghost slots = { slots_of M.count };
 
@@ -191,23 +194,23 @@ impl<M: Media> Plant for MediaPlant<M> {
 
     ghost here_below = { λ s k sound is. below (M.present s.media) (M.count s.media) k (M.here_below s.media) is };
 
-    ghost loaded_here = { λ s k sound loaded. is_here M.tells M.time M.seen M.present s sound k loaded };
+    ghost loaded_here = { λ s k sound loaded. is_here M.tells (as_read M.seen) M.seen M.present s sound k loaded };
 
-    ghost records_told = { λ s k told sound loaded. counted M.tells M.time M.seen M.present s sound told k loaded };
+    ghost records_told = { λ s k told sound loaded. counted M.tells (as_read M.seen) M.seen M.present s sound told k loaded };
 
-    ghost log_told = { λ s told sound. log_counted M.tells M.time M.seen M.present s sound told };
+    ghost log_told = { λ s told sound. log_counted M.tells (as_read M.seen) M.seen M.present s sound told };
 
-    ghost log_within = { λ s sound. within M.tells M.time M.seen M.present s sound };
+    ghost log_within = { λ s sound. within M.tells (as_read M.seen) M.seen M.present s sound };
 
-    ghost others_settled = { λ s k told sound other. others_whole M.tells M.time M.seen M.present s sound told k other };
+    ghost others_settled = { λ s k told sound other. others_whole M.tells (as_read M.seen) M.seen M.present s sound told k other };
 
-    ghost log_left = { λ s c told sound left. log_is_left M.tells M.time M.seen M.present s sound told c left };
+    ghost log_left = { λ s c told sound survives left. log_is_left M.tells M.time M.seen M.present s survives told c left };
 
-    ghost tapes_left = { λ s c k told sound left. tapes_are_left M.tells M.time M.seen M.present s sound told c k left };
+    ghost tapes_left = { λ s c k told sound survives left. tapes_are_left M.tells M.time M.seen M.present s survives told c k left };
 
-    ghost told_left = { λ s c told sound left. told_is_left M.tells M.time M.seen M.present s sound told c left };
+    ghost told_left = { λ s c told sound survives left. told_is_left M.tells M.time M.seen M.present s survives told c left };
 
-    ghost settled_may_be_left = { λ s told sound. settled_is_left M.tells M.time M.seen M.present s sound told (M.seen_may_be_left s.media told) };
+    ghost settled_may_be_left = { λ s told sound survives. settled_is_left M.tells M.time M.seen M.present s survives told (M.seen_may_be_left s.media told) };
 
     fn slots(&self) -> u32 {
         self.media.count() - 1

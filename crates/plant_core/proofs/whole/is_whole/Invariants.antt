@@ -7,7 +7,7 @@ abbrev pub invariant-loop-place : goal.invariant-loop-place
 invariant-loop-place g l =
     let p = g.P.Plant in
     record {
-      read : OnlyRead p.tells p.seen p.time p.sound p.loaded p.records p.settled l.fn.plant l.plant;
+      read : OnlyRead p.tells p.seen p.time p.sound p.survives p.loaded p.records p.settled l.fn.plant l.plant;
       none : p.tells → NoneBefore l.place ((p.seen l.fn.plant).tape (slot_of (p.loaded l.fn.plant)));
       log_size : p.log_size l.plant ≡ p.log_size l.fn.plant;
       log_settled : p.log_settled l.plant ≡ p.log_settled l.fn.plant;

@@ -2,7 +2,7 @@ use Rattle.std.proofs.Common.{ℕ, Some, ◌∙◌, ap}
 use Rattle.plant_media.specs.Slots.{slot_in}
 use Rattle.plant_media.proofs.Lifting.{lift_settle}
 use Rattle.plant_media.proofs.Keeping.{tape_stays}
-use Rattle.plant_media.proofs.Calling.{held_tape}
+use Rattle.plant_media.proofs.Calling.{held_tape, tape_sound, tape_suits}
 use Rattle.plant_media.proofs.plant.MediaPlant.put_away.Goals as goal
 
 pub returns-in-Ok-clause-seen : goal.returns-in-Ok-clause-seen
@@ -11,16 +11,30 @@ returns-in-Ok-clause-seen g c = λ told.
     let p = c.args.self.now in
     tape_stays p.journal p.tape c.in-Some.tape c.settle.new.self c.in-Some.is c.in-Ok.ensures.slot (m.seen p.media) (m.seen c.settle.new.media) (c.in-Ok.ensures.frame told) (c.in-Ok.ensures.tape told)
 
-pub returns-in-Ok-clause-crash : goal.returns-in-Ok-clause-crash
-returns-in-Ok-clause-crash g c = λ told.
+pub returns-in-Ok-clause-sound : goal.returns-in-Ok-clause-sound
+returns-in-Ok-clause-sound g c =
+    let m = g.M.Media in
+    let e = c.in-Ok.ensures in
+    tape_sound m.tells m.seen m.present c.args.self.now c.requires.sound c.settle.new.media e.present c.in-Some.tape c.settle.new.self c.in-Some.is e.slot e.frame e.fits
+
+pub returns-in-Ok-clause-survives : goal.returns-in-Ok-clause-survives
+returns-in-Ok-clause-survives g c = λ told survives.
     let m = g.M.Media in
     let p = c.args.self.now in
-    let held = held_tape m.tells m.time m.seen m.present p c.requires.sound c.in-Some.tape c.in-Some.is in
-    lift_settle m.tells m.time m.seen m.present p _ c.in-Some.tape c.in-Some.is held told c.args.slot (λ same. c.requires.other (ap slot_in c.in-Some.is ∙ ap (λ (n : ℕ). Some n) same)) (c.settle.ensures.crash told)
+    let e = c.in-Ok.ensures in
+    let held = held_tape m.tells m.time m.seen m.present p survives c.in-Some.tape c.in-Some.is in
+    tape_suits m.tells m.time m.seen m.present p survives c.settle.new.media c.in-Some.tape c.settle.new.self c.in-Some.is e.slot e.present _ (λ told. (c.settle.ensures.crash told held).now) e.frame (e.survives told held)
+
+pub returns-in-Ok-clause-crash : goal.returns-in-Ok-clause-crash
+returns-in-Ok-clause-crash g c = λ told survives.
+    let m = g.M.Media in
+    let p = c.args.self.now in
+    let held = held_tape m.tells m.time m.seen m.present p survives c.in-Some.tape c.in-Some.is in
+    lift_settle m.tells m.time m.seen m.present p _ c.in-Some.tape c.in-Some.is held told c.args.slot (λ same. c.requires.other (ap slot_in c.in-Some.is ∙ ap (λ (n : ℕ). Some n) same)) (c.settle.ensures.crash told held)
 
 pub returns-in-Err-clause-crash : goal.returns-in-Err-clause-crash
-returns-in-Err-clause-crash g c = λ told.
+returns-in-Err-clause-crash g c = λ told survives.
     let m = g.M.Media in
     let p = c.args.self.now in
-    let held = held_tape m.tells m.time m.seen m.present p c.requires.sound c.in-Some.tape c.in-Some.is in
-    lift_settle m.tells m.time m.seen m.present p _ c.in-Some.tape c.in-Some.is held told c.args.slot (λ same. c.requires.other (ap slot_in c.in-Some.is ∙ ap (λ (n : ℕ). Some n) same)) (c.settle.ensures.crash told)
+    let held = held_tape m.tells m.time m.seen m.present p survives c.in-Some.tape c.in-Some.is in
+    lift_settle m.tells m.time m.seen m.present p _ c.in-Some.tape c.in-Some.is held told c.args.slot (λ same. c.requires.other (ap slot_in c.in-Some.is ∙ ap (λ (n : ℕ). Some n) same)) (c.settle.ensures.crash told held)

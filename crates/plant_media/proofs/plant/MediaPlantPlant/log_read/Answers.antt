@@ -1,11 +1,17 @@
 use Rattle.std.proofs.Common.{List, ℕ, length, take, drop, ◌∙◌, ap}
-use Rattle.plant_media.proofs.Calling.{read_sound, log_shown_is}
+use Rattle.crash_log.specs.Fit.{as_read}
+use Rattle.plant_media.proofs.Calling.{read_sound, read_suits, log_shown_is}
 use Rattle.plant_media.proofs.plant.MediaPlantPlant.log_read.Goals as goal
 
 pub returns-in-Ok-clause-bytes : goal.returns-in-Ok-clause-bytes
 returns-in-Ok-clause-bytes g c = λ told.
     let m = g.M.Media in
-    c.in-Ok.ensures.bytes told ∙ ap (λ (l : List ℕ). take (length c.args.into.now) (drop c.args.at l)) (log_shown_is m.tells m.time m.seen m.present c.args.self.now c.requires.sound)
+    c.in-Ok.ensures.bytes told ∙ ap (λ (l : List ℕ). take (length c.args.into.now) (drop c.args.at l)) (log_shown_is m.tells (as_read m.seen) m.seen m.present c.args.self.now c.requires.sound)
 
 pub returns-in-Ok-clause-sound : goal.returns-in-Ok-clause-sound
-returns-in-Ok-clause-sound g c = let m = g.M.Media in read_sound m.tells m.time m.seen m.present c.args.self.now c.requires.sound c.read.new.media c.in-Ok.ensures.present c.read.ensures.crash c.read.ensures.seen
+returns-in-Ok-clause-sound g c = let m = g.M.Media in read_sound m.tells m.seen m.present c.args.self.now c.requires.sound c.read.new.media c.in-Ok.ensures.present c.read.ensures.seen
+
+pub returns-in-Ok-clause-survives : goal.returns-in-Ok-clause-survives
+returns-in-Ok-clause-survives g c = λ told survives.
+    let m = g.M.Media in
+    read_suits m.tells m.time m.seen m.present c.args.self.now survives c.read.new.media c.in-Ok.ensures.present (λ told. (c.read.ensures.crash told).now) c.read.ensures.seen

@@ -1,7 +1,7 @@
 use Rattle.std.proofs.Common.{◌+◌, ◌<◌, List, sym, subst, arith}
 use Rattle.plant_core.specs.Records.{Record, ShowsFirst}
 use Rattle.plant_media.specs.Slotting.{shown_tape}
-use Rattle.plant_media.proofs.Calling.{read_sound, file_here}
+use Rattle.plant_media.proofs.Calling.{read_sound, read_suits, file_here}
 use Rattle.plant_media.proofs.plant.MediaPlantPlant.peek.Goals as goal
 
 pub look-requires-clause-slot : goal.look-requires-clause-slot
@@ -19,4 +19,9 @@ returns-in-Ok-clause-first g c = λ told.
     subst (λ (l : List Record). ShowsFirst l c.in-Ok.shown c.look.new.into) (sym (shown_tape p.journal p.tape (g.M.Media.seen p.media) c.args.slot)) (c.in-Ok.ensures.first told)
 
 pub returns-in-Ok-clause-sound : goal.returns-in-Ok-clause-sound
-returns-in-Ok-clause-sound g c = let m = g.M.Media in read_sound m.tells m.time m.seen m.present c.args.self.now c.requires.sound c.look.new.media c.in-Ok.ensures.present c.look.ensures.crash c.look.ensures.seen
+returns-in-Ok-clause-sound g c = let m = g.M.Media in read_sound m.tells m.seen m.present c.args.self.now c.requires.sound c.look.new.media c.in-Ok.ensures.present c.look.ensures.seen
+
+pub returns-in-Ok-clause-survives : goal.returns-in-Ok-clause-survives
+returns-in-Ok-clause-survives g c = λ told survives.
+    let m = g.M.Media in
+    read_suits m.tells m.time m.seen m.present c.args.self.now survives c.look.new.media c.in-Ok.ensures.present (λ told. (c.look.ensures.crash told).now) c.look.ensures.seen

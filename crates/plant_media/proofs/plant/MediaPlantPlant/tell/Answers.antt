@@ -7,7 +7,7 @@ use Rattle.plant_media.specs.State.{moments_of}
 use Rattle.plant_media.specs.Slotting.{shown_told, shown_log, shown_tape}
 use Rattle.plant_media.proofs.Lifting.{lift_tell}
 use Rattle.plant_media.proofs.Keeping.{settled_same, tapes_same}
-use Rattle.plant_media.proofs.Calling.{tell_sound}
+use Rattle.plant_media.proofs.Calling.{tell_sound, tell_suits}
 use Rattle.crash_log.specs.CrashLog.{log_bytes}
 use Rattle.plant_media.proofs.plant.MediaPlantPlant.tell.Goals as goal
 
@@ -36,7 +36,14 @@ returns-in-Ok-clause-tapes g c = λ told.
 pub returns-in-Ok-clause-sound : goal.returns-in-Ok-clause-sound
 returns-in-Ok-clause-sound g c =
     let m = g.M.Media in
-    tell_sound m.tells m.time m.seen m.present c.args.self.now c.requires.sound c.tell.new.self (take c.in-Ok.n c.args.piece.now) c.in-Ok.ensures.present c.in-Ok.ensures.crash c.in-Ok.ensures.files c.in-Ok.ensures.told
+    let e = c.in-Ok.ensures in
+    tell_sound m.tells m.seen m.present c.args.self.now c.requires.sound c.tell.new.self e.present (take c.in-Ok.n c.args.piece.now) e.files e.told
+
+pub returns-in-Ok-clause-survives : goal.returns-in-Ok-clause-survives
+returns-in-Ok-clause-survives g c = λ told survives.
+    let m = g.M.Media in
+    let e = c.in-Ok.ensures in
+    tell_suits m.tells m.time m.seen m.present c.args.self.now survives c.tell.new.self (take c.in-Ok.n c.args.piece.now) e.present (λ told. (e.crash told).now) e.files e.told
 
 pub returns-in-Ok-clause-settled : goal.returns-in-Ok-clause-settled
 returns-in-Ok-clause-settled g c = λ told.
@@ -45,12 +52,12 @@ returns-in-Ok-clause-settled g c = λ told.
     settled_same p.journal p.tape (seen p.media) (seen c.tell.new.self) (λ k. ap (λ (h : ℕ → List ℕ). h (k + 1)) (c.in-Ok.ensures.files told))
 
 pub returns-in-Ok-clause-crash : goal.returns-in-Ok-clause-crash
-returns-in-Ok-clause-crash g c = λ told.
+returns-in-Ok-clause-crash g c = λ told survives.
     let m = g.M.Media in
     let p = c.args.self.now in
     let part = take c.in-Ok.n c.args.piece.now in
     subst (λ (l : List ℕ). Leads (moments_of m.time) p (record { media = c.tell.new.self; journal = p.journal; tape = p.tape; loads = p.loads }) (TellsTo (l ++ part))) (sym (shown_told p.journal p.tape (m.seen p.media)))
-    (lift_tell m.time p _ (m.seen p.media).told part part (length part, sym (take_all (length part) part (le_refl (length part)))) (c.requires.sound.fronts told) (c.in-Ok.ensures.crash told))
+    (lift_tell m.time p _ (m.seen p.media).told part part (length part, sym (take_all (length part) part (le_refl (length part)))) (survives.fronts told) (c.in-Ok.ensures.crash told))
 
 pub returns-in-Err-clause-part : goal.returns-in-Err-clause-part
 returns-in-Err-clause-part g c = λ told.
@@ -60,9 +67,9 @@ returns-in-Err-clause-part g c = λ told.
     (part.0, shown_told p.journal p.tape (seen c.tell.new.self) ∙ part.1 ∙ ap (λ (l : List ℕ). l ++ take part.0 c.args.piece.now) (sym (shown_told p.journal p.tape (seen p.media))))
 
 pub returns-in-Err-clause-crash : goal.returns-in-Err-clause-crash
-returns-in-Err-clause-crash g c = λ told.
+returns-in-Err-clause-crash g c = λ told survives.
     let m = g.M.Media in
     let p = c.args.self.now in
     let part = c.args.piece.now in
     subst (λ (l : List ℕ). Leads (moments_of m.time) p (record { media = c.tell.new.self; journal = p.journal; tape = p.tape; loads = p.loads }) (TellsTo (l ++ part))) (sym (shown_told p.journal p.tape (m.seen p.media)))
-    (lift_tell m.time p _ (m.seen p.media).told part part (length part, sym (take_all (length part) part (le_refl (length part)))) (c.requires.sound.fronts told) (c.in-Err.ensures.crash told))
+    (lift_tell m.time p _ (m.seen p.media).told part part (length part, sym (take_all (length part) part (le_refl (length part)))) (survives.fronts told) (c.in-Err.ensures.crash told))
