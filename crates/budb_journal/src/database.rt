@@ -277,7 +277,7 @@ impl Database {
         }
         let id = dump.fields().id;
         self.listed.push(dump)?;
-        self.greatest = self.greatest.max(id);
+        self.begin(id);
         Ok(())
     }
 

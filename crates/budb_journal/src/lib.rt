@@ -27,4 +27,6 @@ pub use records::{DumpRecord, DumpRecordFields, Frag, TapePart, VolRecord, VolRe
 pub use writing::encode;
 
 #[cfg(test)]
+mod fold_tests;
+#[cfg(test)]
 mod tests;
