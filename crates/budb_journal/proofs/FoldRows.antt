@@ -1,10 +1,12 @@
 -- Worked rows of the fold and of the look-ups.
-use Rattle.std.proofs.Common.{◌≡◌, ℕ, Bool, true, false, List, [], ◌∷◌, Some, None, Ok, Err, refl}
+use Rattle.std.proofs.Common.{◌≡◌, ℕ, List, [], ◌∷◌, Some, None, Ok, Err, refl}
 use Rattle.bk_text.specs.declared.expiry.Expiry.TheVariants.{Unset, Never}
+use Rattle.volume_sets.specs.Testing.{is_pattern}
 use Rattle.budb_journal.specs.declared.records.VolRecordFields.{VolRecordFields}
 use Rattle.budb_journal.specs.declared.records.DumpRecordFields.{DumpRecordFields}
 use Rattle.budb_journal.specs.declared.change.Change.TheVariants.{AddSet, DelSet, AddEntry, DelEntry, AddLevel, DelLevel, AddHost, DelHost, Begin, Take, Done, Found}
-use Rattle.budb_journal.specs.Database.{Database, blank, after}
+use Rattle.budb_journal.specs.declared.database.Database.{Database}
+use Rattle.budb_journal.specs.Database.{blank, after}
 use Rattle.budb_journal.specs.Lookups.{parent_of, from_of, latest, chain_of}
 
 -- a volume, and a dump of one volume set; `a` is its set, and the base of its tapes
@@ -16,12 +18,6 @@ dump id initial parent level volumes = record { id = id; initial = initial; pare
 
 abbrev only : ℕ → List DumpRecordFields → Database
 only greatest listed = record { sets = []; levels = []; hosts = []; greatest = greatest; listed = listed }
-
-abbrev any_text : List ℕ → Bool
-any_text text = true
-
-abbrev no_text : List ℕ → Bool
-no_text text = false
 
 -- "/f", "/f/m", "/f/m/t" and "/fu"
 abbrev f : List ℕ
@@ -37,28 +33,34 @@ abbrev fu : List ℕ
 fu = 47 ∷ 102 ∷ 117 ∷ []
 
 -- a set that is there, an entry with a pattern and one without, and an entry that isn't there
-sets_row : after any_text (AddSet (97 ∷ []) ∷ AddSet (97 ∷ []) ∷ AddEntry (98 ∷ []) None None (46 ∷ []) ∷ AddEntry (97 ∷ []) None None (46 ∷ []) ∷ DelEntry (97 ∷ []) 2 ∷ DelEntry (97 ∷ []) 0 ∷ [])
+sets_row : after (AddSet (97 ∷ []) ∷ AddSet (97 ∷ []) ∷ AddEntry (98 ∷ []) None None (46 ∷ []) ∷ AddEntry (97 ∷ []) None None (46 ∷ []) ∷ DelEntry (97 ∷ []) 2 ∷ DelEntry (97 ∷ []) 0 ∷ [])
     ≡ record { sets = record { name = 97 ∷ []; entries = record { server = None; partition = None; pattern = 46 ∷ [] } ∷ [] } ∷ []; levels = []; hosts = []; greatest = 0; listed = [] }
+unfolding is_pattern
 sets_row = refl
 
-no_pattern_row : after no_text (AddSet (97 ∷ []) ∷ AddEntry (97 ∷ []) None None (42 ∷ []) ∷ DelSet (97 ∷ []) ∷ []) ≡ blank
+-- an entry whose bytes are no pattern: "*a"
+no_pattern_row : after (AddSet (97 ∷ []) ∷ AddEntry (97 ∷ []) None None (42 ∷ 97 ∷ []) ∷ []) ≡ after (AddSet (97 ∷ []) ∷ [])
+unfolding is_pattern
 no_pattern_row = refl
 
+gone_row : after (AddSet (97 ∷ []) ∷ DelSet (97 ∷ []) ∷ []) ≡ blank
+gone_row = refl
+
 -- a level without the one above, and a level that goes with all below it, by elements
-levels_row : after any_text (AddLevel m Unset ∷ AddLevel f Unset ∷ AddLevel m Never ∷ AddLevel fu Never ∷ DelLevel f ∷ [])
+levels_row : after (AddLevel m Unset ∷ AddLevel f Unset ∷ AddLevel m Never ∷ AddLevel fu Never ∷ DelLevel f ∷ [])
     ≡ record { sets = []; levels = record { path = fu; expiry = Never } ∷ []; hosts = []; greatest = 0; listed = [] }
 levels_row = refl
 
-hosts_row : after any_text (AddHost (104 ∷ []) 1 ∷ AddHost (105 ∷ []) 1 ∷ DelHost 2 ∷ [])
+hosts_row : after (AddHost (104 ∷ []) 1 ∷ AddHost (105 ∷ []) 1 ∷ DelHost 2 ∷ [])
     ≡ record { sets = []; levels = []; hosts = record { host = 104 ∷ []; port = 1 } ∷ []; greatest = 0; listed = [] }
 hosts_row = refl
 
 -- records that don't fit leave the greatest id as well
-unfit_row : after any_text (Done (dump 0 0 0 f []) ∷ Done (dump 5 5 5 f []) ∷ Found (dump 5 5 0 f (volume (97 ∷ []) 4 3 ∷ [])) ∷ []) ≡ blank
+unfit_row : after (Done (dump 0 0 0 f []) ∷ Done (dump 5 5 5 f []) ∷ Found (dump 5 5 0 f (volume (97 ∷ []) 4 3 ∷ [])) ∷ []) ≡ blank
 unfit_row = refl
 
 -- a taken tape forgets all dumps of its initial dump; a forgotten id may be found again, and is then the last
-take_row : after any_text (Begin 2 ∷ Done (dump 2 2 0 f []) ∷ Done (dump 3 2 2 m []) ∷ Done (dump 4 4 0 f []) ∷ Take 2 ∷ Found (dump 3 2 2 m []) ∷ []) ≡ only 4 (dump 4 4 0 f [] ∷ dump 3 2 2 m [] ∷ [])
+take_row : after (Begin 2 ∷ Done (dump 2 2 0 f []) ∷ Done (dump 3 2 2 m []) ∷ Done (dump 4 4 0 f []) ∷ Take 2 ∷ Found (dump 3 2 2 m []) ∷ []) ≡ only 4 (dump 4 4 0 f [] ∷ dump 3 2 2 m [] ∷ [])
 take_row = refl
 
 -- the closest level above that has a dump, and there the greatest id

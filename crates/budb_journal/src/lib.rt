@@ -4,9 +4,11 @@
 
 mod change;
 mod change_reading;
+mod database;
 mod decoding;
 mod fault;
 mod fields;
+mod fitting;
 mod folding;
 mod log;
 mod pattern_bytes;
@@ -15,13 +17,16 @@ mod records;
 mod writing;
 
 pub use change::Change;
+pub use database::{Database, HostPort};
 pub use decoding::{decode, no_change_begins_another, one_encoding};
 pub use fault::{AppendFault, ChangeFault, ReplayFault};
-pub use folding::fold_of_more;
+pub use folding::{fold, fold_of_more};
 pub use log::{append, replay};
 pub use pattern_bytes::PatternBytes;
 pub use records::{DumpRecord, DumpRecordFields, Frag, TapePart, VolRecord, VolRecordFields};
 pub use writing::encode;
 
+#[cfg(test)]
+mod fold_tests;
 #[cfg(test)]
 mod tests;

@@ -7,7 +7,7 @@ mod patterns;
 mod reading;
 mod sets;
 
-pub use patterns::{Pattern, PatternFault};
+pub use patterns::{Pattern, PatternFault, pattern_test};
 pub use sets::{SetEntry, Sets, SetsFault, VolumeSet};
 
 #[cfg(test)]

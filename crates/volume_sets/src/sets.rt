@@ -12,6 +12,7 @@ use bk_text::{Host, List, Part, SetName};
 use std::alloc::{AllocError, Global};
 use std::marker::Model;
 use std::mem;
+use thiserror::Error;
 use vnode_model::VolEntry;
 
 /// Which volumes a set has: those at this server and in this partition, or at any, whose names match a pattern.
@@ -35,15 +36,19 @@ pub struct VolumeSet {
 }
 
 /// Why a call on the volume sets was refused.
-#[derive(Clone, Copy, Debug, PartialEq, Eq)]
+#[derive(Clone, Copy, Debug, PartialEq, Eq, Drop, Error)]
 pub enum SetsFault {
     /// There is a set of this name.
+    #[error("the volume set exists")]
     SetExists,
     /// There is no set of this name.
+    #[error("there is no such volume set")]
     NoSuchSet,
     /// The set has no entry of this number; entries have the numbers from 1 on.
+    #[error("the volume set has no such entry")]
     NoSuchEntry,
     /// Memory was refused.
+    #[error("memory was refused")]
     Memory,
 }
 
@@ -213,6 +218,11 @@ impl Sets {
         let entries = entries_in(self.sets.as_slice(), at);
         let places = places_in(*self.sets.allocator(), entries, cell)?;
         Ok(places)
+    }
+
+    /// What gives the memory of the sets.
+    pub fn allocator(&self) -> Global {
+        *self.sets.allocator()
     }
 
     /// The number of sets.
