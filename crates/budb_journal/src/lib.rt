@@ -30,4 +30,6 @@ pub use records::{DumpRecord, DumpRecordFields, Frag, TapePart, VolRecord, VolRe
 pub use writing::encode;
 
 #[cfg(test)]
+mod lookup_tests;
+#[cfg(test)]
 mod tests;
