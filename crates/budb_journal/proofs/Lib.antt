@@ -7,3 +7,5 @@ pub mod ChangeKinds
 pub mod Logs
 pub mod Folds
 mod FoldRows
+pub mod Finds
+pub mod ChainLaws
