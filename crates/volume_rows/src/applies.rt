@@ -1,5 +1,4 @@
-//! What is made of a base and an increment. That too much data is refused, and behind an entry that is lacking, isn't
-//! tried here: it would take 256 MiB.
+//! What is made of a base and an increment.
 
 use crate::rows::{Row, has, header_from, name_from, vnode_from, volume_from};
 use bk_text::List;

@@ -8,4 +8,6 @@ mod rows;
 #[cfg(test)]
 mod selects;
 #[cfg(test)]
+mod sums;
+#[cfg(test)]
 mod volumes;
