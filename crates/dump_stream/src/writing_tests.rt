@@ -211,6 +211,77 @@ fn restored(alloc: Global, bytes: &[u8], from: u32) -> Result<Bytes, Fail> {
     stream_from(alloc, &restored, 0)
 }
 
+/// Number, uniquifier, type, server modify time and size of data.
+type Row = (u32, u32, u8, u32, u16);
+
+const VOLUMES: [&[Row]; 9] = [
+    &[],
+    &[(1, 1, 2, 100, 0)],
+    &[(1, 1, 2, 100, 3), (3, 2, 2, 50, 0)],
+    &[(2, 5, 1, 60, 300)],
+    &[(2, 5, 3, 60, 7), (4, 6, 1, 59, 0)],
+    &[
+        (1, 1, 2, 10, 16),
+        (2, 2, 1, 20, 1),
+        (4, 3, 3, 30, 2),
+        (6, 4, 1, 40, 299),
+    ],
+    &[(1, 1, 2, 0, 0), (5, 1, 2, 60, 0), (6, 1, 1, 0, 1)],
+    &[(4294967295, 9, 2, 4294967295, 1), (4294967294, 8, 1, 1, 1)],
+    &[
+        (3, 4294967295, 2, 61, 2),
+        (2, 7, 1, 60, 2),
+        (8, 7, 1, 61, 0),
+    ],
+];
+
+fn put_number(bytes: &mut Bytes, tag: u8, number: u32) -> Result<(), AllocError> {
+    bytes.push(tag)?;
+    bytes.extend_from_slice(&number.to_be_bytes())
+}
+
+fn put_vnode(bytes: &mut Bytes, row: &Row) -> Result<(), AllocError> {
+    put_number(bytes, 3, row.0)?;
+    bytes.extend_from_slice(&row.1.to_be_bytes())?;
+    bytes.extend_from_slice(&[b't', row.2])?;
+    put_number(bytes, b's', row.3)?;
+    put_number(bytes, b'f', u32::from(row.4))?;
+    bytes.extend_from_slice(front(&LETTERS, usize::from(row.4)))
+}
+
+/// A stream with these vnodes, under the headers of the row.
+fn stream_of(alloc: Global, rows: &[Row]) -> Result<Bytes, AllocError> {
+    let mut bytes = Bytes::from_slice(alloc, front(&ROW, 39))?;
+    for row in rows {
+        put_vnode(&mut bytes, row)?;
+    }
+    bytes.extend_from_slice(behind(&ROW, 55))?;
+    Ok(bytes)
+}
+
+/// Whether a volume is restored from its increments from these times on.
+fn is_restored(alloc: Global, rows: &[Row]) -> Result<bool, Fail> {
+    let bytes = stream_of(alloc, rows)?;
+    let volume = volume_of(alloc, bytes.as_slice())?;
+    let wanted = stream_from(alloc, &volume, 0)?;
+    for from in [0, 1, 20, 21, 60, 61, 4294967295] {
+        let given = restored(alloc, bytes.as_slice(), from)?;
+        if given.as_slice() != wanted.as_slice() {
+            return Ok(false);
+        }
+    }
+    Ok(true)
+}
+
+#[test]
+fn a_table_of_volumes_restored(rt: HostRuntime) -> Result<(), Fail> {
+    for (index, rows) in VOLUMES.iter().enumerate() {
+        let is_restored = is_restored(rt.alloc(), rows)?;
+        assert!(rt; is_restored, "volume {index}");
+    }
+    Ok(())
+}
+
 #[test]
 fn restored_from_increments(rt: HostRuntime) -> Result<(), Fail> {
     let volume = volume_of(rt.alloc(), &BOTH)?;
