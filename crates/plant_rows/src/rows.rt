@@ -8,7 +8,7 @@ use plant_media::{MediaPlant, OpenFault};
 use std::alloc::Global;
 use std::test::Fail;
 
-/// Writes the bytes of a file, on the disk.
+/// Writes the bytes of a file. They wait for a sync.
 fn fill<M: Media>(media: &mut M, f: u32, bytes: &[u8]) -> Result<(), media_core::Failed>
     requires { length bytes.now < 2 ^ 32 }
 {
@@ -16,25 +16,30 @@ fn fill<M: Media>(media: &mut M, f: u32, bytes: &[u8]) -> Result<(), media_core:
         return Err(media_core::Failed);
     }
     media.write(f, 0, bytes)?;
-    media.sync(f)?;
     Ok(())
 }
 
-/// A media of three files, of which one has these bytes.
-fn media_with(alloc: Global, f: u32, bytes: &[u8]) -> Result<MemMedia, Fail>
+/// A media of three files, of which one was written with these bytes.
+fn written(alloc: Global, f: u32, bytes: &[u8]) -> Result<MemMedia, Fail>
     requires { length bytes.now < 2 ^ 32 }
-    ensures { IfOk result IsFresh }
 {
     let mut media = MemMedia::new(alloc, 3)?;
     fill(&mut media, f, bytes)?;
-    let media = media.reopen(Pick::New)?;
     Ok(media)
 }
 
-/// The plant of a media.
+/// The same once the bytes are on the disk.
+fn media_with(alloc: Global, f: u32, bytes: &[u8]) -> Result<MemMedia, Fail>
+    requires { length bytes.now < 2 ^ 32 }
+{
+    let media = written(alloc, f, bytes)?.reopen(Pick::New)?;
+    Ok(media)
+}
+
+/// The plant of a media. It survives a crash where nothing was asked of the media yet.
 fn opened(media: MemMedia) -> Result<MediaPlant<MemMedia>, OpenFault>
-    requires { IsFresh media }
-    ensures { IfOk result (λ plant. ⟦<MediaPlant<MemMedia> as Plant>⟧.sound plant) }
+    ensures sound { IfOk result (λ plant. ⟦<MediaPlant<MemMedia> as Plant>⟧.sound plant) }
+    ensures survives { IsFresh media → IfOk result (λ plant. ⟦<MediaPlant<MemMedia> as Plant>⟧.survives plant) }
 {
     match MediaPlant::open(media) {
         Ok(plant) => Ok(plant),
@@ -127,9 +132,7 @@ fn four<P: Plant>(plant: &mut P, slot: u32) -> Result<[u8; 4], Failed>
 
 /// Runs the script stopped at a call, and opens the plant again as the pick leaves it: whether the script was done, the first
 /// records of its tape, and the length of its log.
-fn stopped(mut media: MemMedia, call: u64, pick: Pick) -> Result<(bool, [u8; 4], u64), Fail>
-    requires { IsFresh media }
-{
+fn stopped(mut media: MemMedia, call: u64, pick: Pick) -> Result<(bool, [u8; 4], u64), Fail> {
     media.stop_at(call);
     let (done, media) = match MediaPlant::open(media) {
         Ok(mut plant) => {
@@ -204,14 +207,14 @@ fn file_of(alloc: Global, size: u16) -> Result<Vec<u8>, Fail>
     Ok(file)
 }
 
-/// A media whose second tape has two whole records that begin with these bytes, and a rest.
-fn foreign(alloc: Global, first: u8, second: u8) -> Result<MemMedia, Fail>
-    ensures { IfOk result IsFresh }
+/// The file of a tape with two whole records that begin with these bytes, and a rest.
+fn foreign(alloc: Global, first: u8, second: u8) -> Result<Vec<u8>, Fail>
+    ensures { IfOk result (λ file. length file.items < 2 ^ 32) }
 {
     let mut file = file_of(alloc, 32_870)?;
     file[8192] = first;
     file[24577] = second;
-    media_with(alloc, 2, &file)
+    Ok(file)
 }
 
 #[test]
@@ -221,9 +224,21 @@ fn foreign_bytes_are_bad_records(rt: HostRuntime) -> Result<(), Fail> {
         (0, 2, [9, 0, 0, 255]),
         (1, 0, [1, 9, 0, 255]),
     ] {
-        let media = foreign(rt.alloc(), first, second)?;
-        let mut plant = opened(media)?;
+        let file = foreign(rt.alloc(), first, second)?;
+        let mut plant = opened(media_with(rt.alloc(), 2, &file)?)?;
         assert_eq!(rt; four(&mut plant, 1)?, want);
+    }
+    Ok(())
+}
+
+#[test]
+fn a_plant_is_opened_while_a_write_waits(rt: HostRuntime) -> Result<(), Fail> {
+    for (pick, want) in [(Pick::Old, [255; 4]), (Pick::New, [1, 9, 0, 255])] {
+        let file = foreign(rt.alloc(), 1, 0)?;
+        let mut plant = opened(written(rt.alloc(), 2, &file)?)?;
+        assert_eq!(rt; four(&mut plant, 1)?, [1, 9, 0, 255]);
+        let again = plant.into_media().reopen(pick)?;
+        assert_eq!(rt; four(&mut opened(again)?, 1)?, want);
     }
     Ok(())
 }
