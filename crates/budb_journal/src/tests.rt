@@ -94,6 +94,92 @@ fn refusals(rt: HostRuntime) {
     }
 }
 
+/// A change, and below each of its bytes whether some other byte there is refused at once: the kind `k`, a length `l` that
+/// may not be 0, `s` of a server, `p` of a partition, `h` and `o` of a level or a pattern, a letter `n`, an expiry `e`. Behind
+/// a `.` every byte goes on.
+const KINDS: [(&'static [u8], &'static [u8]); 14] = [
+    (b"\x01\x05users", b"klnnnnn"),
+    (b"\x02\x05users", b"klnnnnn"),
+    (
+        b"\x03\x05users\x03fs1\x06vicepa\0\x02.*",
+        b"klnnnnnsnnnpnnnnnnhlnn",
+    ),
+    (b"\x04\x05users\0\0\0\x01", b"klnnnnn...."),
+    (b"\x05\0\x05/full\0", b"khonnnnne"),
+    (
+        b"\x06\0\x09/full/mon\x03\0\x01\0\x02\0\x03",
+        b"khonnnnnnnnne......",
+    ),
+    (b"\x07\0\x05/full", b"khonnnnn"),
+    (b"\x08\x02th\0\x01", b"klnn.."),
+    (b"\x09\0\x01", b"k.."),
+    (b"\x0a\0\0\x07\xd0", b"k...."),
+    (b"\x0b\0\0\x07\xd0", b"k...."),
+    (
+        b"\x0c\0\0\x07\xd0\0\0\x07\xd0\0\0\0\0\0\0\0\0\x05users\0\x05/full\x0ausers.full\0\x01\0\0\0\x01\0\0\0\x02\0\0\0\x09\0\0\0\x03\0\0\0\x01\x06user.a\x20\0\0\0\x03fs1\x06vicepa\0\0\x07\xd0\0\0\0\0\0\x01\0\0\0\x01\0\0\0\x03",
+        b"k................lnnnnnhonnnnnlnnnnnnnnnn......................lnnnnnn....lnnnlnnnnnn.........l........",
+    ),
+    (b"\x0d\0\0\x07\xd0", b"k...."),
+    (
+        b"\x0e\0\0\0\0\0\0\0\0\0\0\0\0\0\0\0\0\x01a\0\x02/a\x01b\0\0\0\0\0\0",
+        b"k................lnhonnln......",
+    ),
+];
+
+/// A byte that is refused at a place of this sort; `None` where each goes on.
+fn other_at(sort: u8) -> Option<u8> {
+    match sort {
+        b'k' | b'l' => Some(0),
+        b's' => Some(64),
+        b'p' => Some(32),
+        b'h' => Some(2),
+        b'o' => Some(1),
+        b'n' => Some(b' '),
+        b'e' => Some(4),
+        _ => None,
+    }
+}
+
+/// Whether a change is refused wherever another byte is put in by its sorts, at that very byte.
+fn is_refused_at_each(alloc: Global, bytes: &[u8], sorts: &[u8]) -> bool {
+    let mut room = [0; 128];
+    if bytes.len() > 128 || sorts.len() != bytes.len() {
+        return false;
+    }
+    for (at, sort) in sorts.iter().enumerate() {
+        room[..bytes.len()].copy_from_slice(bytes);
+        if let Some(other) = other_at(*sort) {
+            room[at] = other;
+            if place(alloc, &room[..bytes.len()]) != Some(at as u64) {
+                return false;
+            }
+        }
+    }
+    true
+}
+
+/// Whether a change that is cut off anywhere is refused at its end.
+fn is_refused_cut(alloc: Global, bytes: &[u8]) -> bool {
+    for count in 1..bytes.len() {
+        if place(alloc, &bytes[..count]) != Some(count as u64) {
+            return false;
+        }
+    }
+    true
+}
+
+#[test]
+fn each_kind_at_each_byte(rt: HostRuntime) {
+    for (index, (bytes, sorts)) in KINDS.iter().enumerate() {
+        assert_eq!(rt; place(rt.alloc(), bytes), None, "kind {index}");
+        assert!(rt;
+            is_refused_at_each(rt.alloc(), bytes, sorts),
+            "kind {index}"
+        );
+        assert!(rt; is_refused_cut(rt.alloc(), bytes), "kind {index}");
+    }
+}
+
 #[test]
 fn a_begin(rt: HostRuntime) {
     let alloc = rt.alloc();
