@@ -22,8 +22,8 @@ use media_core::{Memory, Plan, Turn};
 use std::alloc::Global;
 use vnode_model::{VolEntry, Volume};
 
-/// A cell in memory. It has no bad images. A call fails exactly where `fail_at` names it, and then changes nothing; calls
-/// are numbered from 0, and `count`, which can't fail, isn't numbered.
+/// A cell in memory. It has no bad images. A call fails exactly where `fail_at` names it, and then changes nothing but the
+/// count of faults, which rises there alone; calls are numbered from 0, and `count`, which can't fail, isn't numbered.
 #[derive(Drop)]
 pub struct CellMem {
     volumes: Vec<Stored>,
@@ -78,6 +78,7 @@ impl Cell for CellMem {
         ensures size { cell_size self.new ≡ cell_size self.old }
         ensures cause { HasCellCause (cell_faults self.old) (cell_faults self.new) result }
         ensures plan { cell_plan self.new ≡ counted (cell_plan self.old) }
+        ensures faults { cell_faults self.new ≡ more_where (is_planned (cell_plan self.old)) (cell_faults self.old) }
         ensures named { (result ≡ Err CellFault.Failed) ↔ IsTrue (is_planned (cell_plan self.old)) }
     {
         if fails(&mut self.plan, &mut self.faults) {
@@ -95,6 +96,7 @@ impl Cell for CellMem {
         ensures size { cell_size self.new ≡ cell_size self.old }
         ensures cause { HasCellCause (cell_faults self.old) (cell_faults self.new) result }
         ensures plan { cell_plan self.new ≡ counted (cell_plan self.old) }
+        ensures faults { cell_faults self.new ≡ more_where (is_planned (cell_plan self.old)) (cell_faults self.old) }
         ensures named { (result ≡ Err CellFault.Failed) ↔ IsTrue (is_planned (cell_plan self.old)) }
     {
         if fails(&mut self.plan, &mut self.faults) {
@@ -109,6 +111,7 @@ impl Cell for CellMem {
         ensures made { (time : ℕ) → AreMadeBy time (cell_list self.old) → volume.header.created ≤ time → AreMadeBy time (cell_list self.new) }
         ensures cause { HasCellCause (cell_faults self.old) (cell_faults self.new) result }
         ensures plan { cell_plan self.new ≡ counted (cell_plan self.old) }
+        ensures faults { cell_faults self.new ≡ more_where (is_planned (cell_plan self.old)) (cell_faults self.old) }
         ensures named { (result ≡ Err CellFault.Failed) ↔ IsTrue (is_planned (cell_plan self.old)) }
     {
         if fails(&mut self.plan, &mut self.faults) {
@@ -129,6 +132,7 @@ impl Cell for CellMem {
         ensures made { (time : ℕ) → AreMadeBy time (cell_list self.old) → now ≤ time → AreMadeBy time (cell_list self.new) }
         ensures cause { HasCellCause (cell_faults self.old) (cell_faults self.new) result }
         ensures plan { cell_plan self.new ≡ counted (cell_plan self.old) }
+        ensures faults { cell_faults self.new ≡ more_where (is_planned (cell_plan self.old)) (cell_faults self.old) }
         ensures named { (result ≡ Err CellFault.Failed) ↔ IsTrue (is_planned (cell_plan self.old)) }
     {
         if fails(&mut self.plan, &mut self.faults) {
@@ -143,6 +147,7 @@ impl Cell for CellMem {
         ensures made { (time : ℕ) → AreMadeBy time (cell_list self.old) → AreMadeBy time (cell_list self.new) }
         ensures cause { HasCellCause (cell_faults self.old) (cell_faults self.new) result }
         ensures plan { cell_plan self.new ≡ counted (cell_plan self.old) }
+        ensures faults { cell_faults self.new ≡ more_where (is_planned (cell_plan self.old)) (cell_faults self.old) }
         ensures named { (result ≡ Err CellFault.Failed) ↔ IsTrue (is_planned (cell_plan self.old)) }
     {
         if fails(&mut self.plan, &mut self.faults) {
@@ -158,6 +163,7 @@ impl Cell for CellMem {
         ensures made { (time : ℕ) → AreMadeBy time (cell_list self.old) → AreMadeBy time (cell_list self.new) }
         ensures cause { HasCellCause (cell_faults self.old) (cell_faults self.new) result }
         ensures plan { cell_plan self.new ≡ counted (cell_plan self.old) }
+        ensures faults { cell_faults self.new ≡ more_where (is_planned (cell_plan self.old)) (cell_faults self.old) }
         ensures named { (result ≡ Err CellFault.Failed) ↔ IsTrue (is_planned (cell_plan self.old)) }
     {
         if fails(&mut self.plan, &mut self.faults) {
@@ -173,6 +179,7 @@ impl Cell for CellMem {
         ensures made { (time : ℕ) → AreMadeBy time (cell_list self.old) → now ≤ time → AreMadeBy time (cell_list self.new) }
         ensures cause { HasCellCause (cell_faults self.old) (cell_faults self.new) result }
         ensures plan { cell_plan self.new ≡ counted (cell_plan self.old) }
+        ensures faults { cell_faults self.new ≡ more_where (is_planned (cell_plan self.old)) (cell_faults self.old) }
         ensures named { (result ≡ Err CellFault.Failed) ↔ IsTrue (is_planned (cell_plan self.old)) }
     {
         if fails(&mut self.plan, &mut self.faults) {
@@ -187,6 +194,7 @@ impl Cell for CellMem {
         ensures made { (time : ℕ) → AreMadeBy time (cell_list self.old) → AreMadeBy time (cell_list self.new) }
         ensures cause { HasCellCause (cell_faults self.old) (cell_faults self.new) result }
         ensures plan { cell_plan self.new ≡ counted (cell_plan self.old) }
+        ensures faults { cell_faults self.new ≡ more_where (is_planned (cell_plan self.old)) (cell_faults self.old) }
         ensures named { (result ≡ Err CellFault.Failed) ↔ IsTrue (is_planned (cell_plan self.old)) }
     {
         if fails(&mut self.plan, &mut self.faults) {
