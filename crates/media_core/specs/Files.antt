@@ -53,10 +53,12 @@ pub record IsNew (m : MemMedia) : Type 0 where
   pub tell_faults : tell_faults_of m ≡ 0
   pub wants : wants_of m ≡ 0
 
--- A call was counted. It failed exactly where that was planned or a growth was refused to it.
+-- A call was counted. It failed exactly where that was planned or a growth was refused to it; else no fault was counted.
 pub record IsCounted {T E : Type 0} (old new : MemMedia) (result : Result T E) : Type 0 where
   pub plan : plan_of new ≡ counted (plan_of old)
   pub ok : OnOk result ((is_planned (plan_of old) ≡ false) × (wants_of new ≡ wants_of old))
+  pub faults : OnOk result (faults_of new ≡ faults_of old)
+  pub tell_faults : OnOk result (tell_faults_of new ≡ tell_faults_of old)
   pub err : OnErr result (IsTrue (is_planned (plan_of old)) ⊎ Rose (wants_of old) (wants_of new))
   pub later : wants_of old ≤ wants_of new
 

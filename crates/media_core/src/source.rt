@@ -1,7 +1,7 @@
 // A source of bytes.
 ghost use Rattle.std.specs.Prelude.{◌≡◌, ◌≢◌, ◌⊎◌, ◌≤◌, ◌-◌, min, [], ℕ, List, length, take, drop, IfOk, OnOk, OnErr, IsOk, IsTrue, vec_len, false};
 ghost use Rattle.crash_moments.specs.Moments.{HasCause};
-ghost use Rattle.media_core.specs.Plan.{counted, is_planned, GainsCall, SamePlan, IsUnplanned};
+ghost use Rattle.media_core.specs.Plan.{counted, is_planned, more_where, GainsCall, SamePlan, IsUnplanned};
 
 use crate::media::{Failed, Memory};
 use crate::plan::{Plan, Turn};
@@ -61,6 +61,7 @@ impl Source for SourceMem {
         ensures failed { OnErr result (left_of self.new ≡ left_of self.old) }
         ensures cause { HasCause (source_faults self.old) (source_faults self.new) result }
         ensures plan { source_plan self.new ≡ counted (source_plan self.old) }
+        ensures faults { source_faults self.new ≡ more_where (is_planned (source_plan self.old)) (source_faults self.old) }
         ensures named { OnErr result (IsTrue (is_planned (source_plan self.old))) }
         ensures not_named { OnOk result (is_planned (source_plan self.old) ≡ false) }
     {
