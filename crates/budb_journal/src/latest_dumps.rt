@@ -12,7 +12,7 @@ use std::alloc::{AllocError, Global};
 use std::marker::Model;
 
 /// A dump, and a volume of its record.
-#[derive(Drop)]
+#[derive(Debug, Drop)]
 pub struct Held<'a> {
     /// The dump.
     pub dump: &'a DumpRecord,
