@@ -9,3 +9,4 @@ pub mod Folds
 mod FoldRows
 pub mod Finds
 pub mod ChainLaws
+pub mod LatestLaws

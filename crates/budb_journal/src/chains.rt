@@ -33,12 +33,8 @@ pub fn chain_of(
     let mut upwards = List::new(alloc);
     let mut next = id;
     for _step in 0..u64::from(id) + 1 {
-        let Some(dump) = record_of(records, next) else {
-            return Err(ChainFault::Missing { id: next });
-        };
-        let Some(volume) = volume_of(dump, name) else {
-            return Err(ChainFault::Missing { id: next });
-        };
+        let dump = record_of(records, next).ok_or(ChainFault::Missing { id: next })?;
+        let volume = volume_of(dump, name).ok_or(ChainFault::Missing { id: next })?;
         upwards.push(next)?;
         if volume.fields().from == 0 {
             return Ok(reversed(upwards));

@@ -1,7 +1,7 @@
 //! The latest dump of a volume among the listed ones. The search is plain and slow: it keeps the list of all pairs that
 //! come into question, and compares each with each.
 
-ghost use Rattle.std.specs.Prelude.{◌≡◌, ◌++◌, [], ◌∷◌, not, IfOk, OnOk};
+ghost use Rattle.std.specs.Prelude.{◌≡◌, ◌++◌, [], ◌∷◌, not, None, IfOk, OnOk};
 ghost use Rattle.std.specs.List.{filter, find, list_any, flat_map};
 ghost use Rattle.budb_journal.specs.Lookups.{volume_of, names_for, held_by, held_of, is_before, beats, latest};
 
@@ -12,7 +12,7 @@ use std::alloc::{AllocError, Global};
 use std::marker::Model;
 
 /// A dump, and a volume of its record.
-#[derive(Drop)]
+#[derive(Debug, Drop)]
 pub struct Held<'a> {
     /// The dump.
     pub dump: &'a DumpRecord,
@@ -158,14 +158,15 @@ fn first_unbeaten<'a>(held: &[Held<'a>], name: &[u8]) -> Option<Held<'a>>
 /// The latest dump of a volume: of the listed pairs of a dump and a volume whose name fits, and whose clone time, in seconds
 /// since 1970, is below the bound where there is one, the one with the greatest clone time. Ties go by the greater id, then
 /// by the name itself before its backup volume's. A base name fits itself and the name of its backup volume; a name that
-/// ends in `.backup` fits itself alone. `None` where there is no such pair.
+/// ends in `.backup` fits itself alone. `None` only where there is no such pair.
 pub fn latest<'a>(
     alloc: Global,
     listed: &'a [DumpRecord],
     name: &[u8],
     before: Option<u32>,
 ) -> Result<Option<Held<'a>>, AllocError>
-    ensures { IfOk result (λ held. held ≡ latest listed.now name.now before) }
+    ensures is { IfOk result (λ held. held ≡ latest listed.now name.now before) }
+    ensures none { IfOk result (λ held. held ≡ None → held_of listed.now name.now before ≡ []) }
 {
     let held = held_of(alloc, listed, name, before)?;
     Ok(first_unbeaten(held.as_slice(), name))
