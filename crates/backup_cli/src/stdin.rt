@@ -1,5 +1,7 @@
 //! Standard input as a source. It is the trusted edge: it tells nothing of contents.
 
+ghost use Rattle.std.specs.Prelude.{◌≡◌};
+
 use crash_moments::raised;
 use media_core::{Failed, Source};
 use std::io::Read;
@@ -12,7 +14,10 @@ pub struct StdSource<R: Read + Drop> {
 }
 
 impl<R: Read + Drop> StdSource<R> {
-    pub fn new(reader: R) -> Self {
+    /// No read was refused so far.
+    pub fn new(reader: R) -> Self
+        ensures { result.faults ≡ 0 }
+    {
         StdSource { reader, faults: 0 }
     }
 }
