@@ -1,12 +1,14 @@
 -- How a piece is told in parts.
-use Rattle.std.proofs.Common.{◌≡◌, ℕ, ◌+◌, ◌-◌, ◌<◌, ◌≤◌, get_or, Bool, List, [], ◌∷◌, ◌++◌, length, take, drop, refl, sym, ◌∙◌, ap, subst, arith, append_assoc}
+use Rattle.std.proofs.Common.{◌≡◌, inl, inr, ℕ, ◌+◌, ◌-◌, ◌<◌, ◌≤◌, get_or, Bool, List, [], ◌∷◌, ◌++◌, length, take, drop, refl, sym, ◌∙◌, ap, subst, arith, append_assoc}
 use Rattle.std.proofs.lemmas.List.{take-append-drop, take_rest, length-drop, drop_more, take_more, append-nil}
 use Rattle.std.proofs.lemmas.List.Concat.{flat_map-append}
 use Rattle.std.specs.List.{flat_map}
 use Rattle.std.proofs.Math.Seq.{take-add}
-use Rattle.crash_moments.specs.Telling.{ToldPart}
-use Rattle.media_core.specs.Media.{Image}
-use Rattle.backup_cli.specs.Tells.{ToldFront, OnlyTells}
+use Rattle.crash_moments.specs.Moments.{Moments, Leads}
+use Rattle.crash_moments.specs.Telling.{Extends, ToldPart}
+use Rattle.crash_moments.proofs.Joining.{stays, joined, weakened}
+use Rattle.media_core.specs.Media.{Image, Tells}
+use Rattle.backup_cli.specs.Tells.{ToldFront, OnlyGrows, OnlyTells}
 
 -- what is behind a place, as the code slices it
 rest_is : (at : ℕ) (p : List ℕ) → take (length p - at) (drop at p) ≡ drop at p
@@ -63,11 +65,44 @@ line_part {X = X} line xs i x before mid after within is first part =
     subst (λ (l : List ℕ). ToldFront l before after) (sym whole)
     (second_told (flat_map line (take i xs)) (line x ++ flat_map line (drop (i + 1) xs)) before mid after first (first_told (line x) (flat_map line (drop (i + 1) xs)) mid after part))
 
+-- nothing was told yet
+same_grows : (old new : Image) → new ≡ old → OnlyGrows old new
+same_grows old new same = record { files = λ k. ap (λ (i : Image). i.file k) same; told = ([], ap (λ (i : Image). i.told) same ∙ sym (append-nil old.told)) }
+
+pub still_grows : {D : Type 0} (time : Moments D Image) (s : D) → Leads time s s OnlyGrows
+still_grows time s = weakened time s s (λ a b. b ≡ a) OnlyGrows (stays time s) (λ a b was same. same_grows a b same)
+
+tells_grows : (taken piece : List ℕ) (old new : Image) → Tells taken piece old new → OnlyGrows old new
+tells_grows taken piece old new step = record {
+  files = step.files;
+  told = elim step.told [
+    | inl same ↦ ([], same ∙ sym (append-nil old.told))
+    | inr (all, (n, more)) ↦ (take n piece, more ∙ ap (λ (l : List ℕ). l ++ take n piece) (sym all))
+  ];
+}
+
+grows_twice : (a b c : Image) → OnlyGrows a b → OnlyGrows b c → OnlyGrows a c
+grows_twice a b c first second = record {
+  files = λ k. second.files k ∙ first.files k;
+  told =
+      let (one, is_one) = first.told in
+      let (two, is_two) = second.told in
+      (one ++ two, is_two ∙ ap (λ (l : List ℕ). l ++ two) is_one ∙ append_assoc a.told one two);
+}
+
+both_grow : {D : Type 0} (time : Moments D Image) (old mid new : D) → Leads time old mid OnlyGrows → Leads time mid new OnlyGrows → Leads time old new OnlyGrows
+both_grow time old mid new first second = joined time old mid new OnlyGrows OnlyGrows OnlyGrows first second (λ a b was step. step) (λ a b c was step left next. grows_twice a b c step next)
+
+-- one piece more
+pub grows_more : {D : Type 0} (time : Moments D Image) (taken piece : List ℕ) (old mid new : D) → Leads time old mid OnlyGrows → Leads time mid new (Tells taken piece) → Leads time old new OnlyGrows
+grows_more time taken piece old mid new first second = both_grow time old mid new first (weakened time mid new (Tells taken piece) OnlyGrows second (λ a b was step. tells_grows taken piece a b step))
+
 -- one call after another
-pub only_more : {D : Type 0} (tells : Type 0) (seen : D → Image) (count : D → ℕ) (present : D → ℕ → Bool) (faults tell_faults : D → ℕ) (old mid new : D)
-    → OnlyTells tells seen count present faults tell_faults old mid → OnlyTells tells seen count present faults tell_faults mid new → OnlyTells tells seen count present faults tell_faults old new
-only_more tells seen count present faults tell_faults old mid new first second = record {
+pub only_more : {D : Type 0} (tells : Type 0) (seen : D → Image) (time : Moments D Image) (count : D → ℕ) (present : D → ℕ → Bool) (faults tell_faults : D → ℕ) (old mid new : D)
+    → OnlyTells tells seen time count present faults tell_faults old mid → OnlyTells tells seen time count present faults tell_faults mid new → OnlyTells tells seen time count present faults tell_faults old new
+only_more tells seen time count present faults tell_faults old mid new first second = record {
   files = λ told. second.files told ∙ first.files told;
+  images = λ told. both_grow time old mid new (first.images told) (second.images told);
   same_count = second.same_count ∙ first.same_count;
   same_present = second.same_present ∙ first.same_present;
   faults_stay = omega (arith, first.faults_stay, second.faults_stay);

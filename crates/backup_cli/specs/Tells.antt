@@ -1,5 +1,7 @@
 -- What telling pieces to a media leaves of it.
 use Rattle.std.specs.Prelude.{◌≡◌, ℕ, ◌≤◌, Bool, List, ◌++◌, Result, OnOk, OnErr}
+use Rattle.crash_moments.specs.Moments.{Moments, Leads}
+use Rattle.crash_moments.specs.Telling.{Extends}
 use Rattle.media_core.specs.Media.{Image}
 
 -- the first bytes of others
@@ -15,9 +17,15 @@ pub record ToldLines {T E : Type 0} (lines old new : List ℕ) (result : Result 
   pub ok : OnOk result (new ≡ old ++ lines)
   pub err : OnErr result (ToldFront lines old new)
 
--- the files stay as they are, and no count of faults falls
-pub record OnlyTells {D : Type 0} (tells : Type 0) (seen : D → Image) (count : D → ℕ) (present : D → ℕ → Bool) (faults tell_faults : D → ℕ) (old new : D) : Type 0 where
+-- nothing but the output changes, and it grows
+pub record OnlyGrows (old new : Image) : Type 0 where
+  pub files : (k : ℕ) → new.file k ≡ old.file k
+  pub told : Extends old.told new.told
+
+-- The files stay as they are, also in each image that a crash might have left since, and no count of faults falls.
+pub record OnlyTells {D : Type 0} (tells : Type 0) (seen : D → Image) (time : Moments D Image) (count : D → ℕ) (present : D → ℕ → Bool) (faults tell_faults : D → ℕ) (old new : D) : Type 0 where
   pub files : tells → (seen new).file ≡ (seen old).file
+  pub images : tells → Leads time old new OnlyGrows
   pub same_count : count new ≡ count old
   pub same_present : present new ≡ present old
   pub faults_stay : faults old ≤ faults new

@@ -29,7 +29,7 @@ pub enum TellStop {
 /// Tells all of a piece.
 pub fn tell_all<M: Media>(media: &mut M, piece: &[u8]) -> Result<(), Failed>
     ensures told { M.tells → ToldLines piece.now (M.seen media.old).told (M.seen media.new).told result }
-    ensures only { OnlyTells M.tells M.seen M.count M.present M.faults M.tell_faults media.old media.new }
+    ensures only { OnlyTells M.tells M.seen M.time M.count M.present M.faults M.tell_faults media.old media.new }
     ensures cause { OnErr result (Rose (M.tell_faults media.old) (M.tell_faults media.new)) }
 {
     let mut at = 0;
@@ -45,7 +45,7 @@ pub fn tell_all<M: Media>(media: &mut M, piece: &[u8]) -> Result<(), Failed>
 /// Tells a line, where memory for it was there.
 fn tell_line<M: Media>(media: &mut M, line: Result<Bytes, AllocError>) -> Result<(), TellStop>
     ensures told { (text : List ℕ) → IfOk line (λ bytes. bytes ≡ text) → M.tells → ToldLines text (M.seen media.old).told (M.seen media.new).told result }
-    ensures only { OnlyTells M.tells M.seen M.count M.present M.faults M.tell_faults media.old media.new }
+    ensures only { OnlyTells M.tells M.seen M.time M.count M.present M.faults M.tell_faults media.old media.new }
     ensures cause { result ≡ Err Refused → Rose (M.tell_faults media.old) (M.tell_faults media.new) }
 {
     match line {
@@ -60,7 +60,7 @@ fn tell_line<M: Media>(media: &mut M, line: Result<Bytes, AllocError>) -> Result
 /// Tells the lines of a stream's entries.
 fn tell_entries<M: Media>(alloc: Global, media: &mut M, entries: &[Entry]) -> Result<(), TellStop>
     ensures told { M.tells → ToldLines (flat_map entry_line entries.now) (M.seen media.old).told (M.seen media.new).told result }
-    ensures only { OnlyTells M.tells M.seen M.count M.present M.faults M.tell_faults media.old media.new }
+    ensures only { OnlyTells M.tells M.seen M.time M.count M.present M.faults M.tell_faults media.old media.new }
     ensures cause { result ≡ Err Refused → Rose (M.tell_faults media.old) (M.tell_faults media.new) }
 {
     for entry in entries {
@@ -79,7 +79,7 @@ fn tell_stream<M: Media>(
     increment: &Increment,
 ) -> Result<(), TellStop>
     ensures told { M.tells → ToldLines (stream_lines increment.now) (M.seen media.old).told (M.seen media.new).told result }
-    ensures only { OnlyTells M.tells M.seen M.count M.present M.faults M.tell_faults media.old media.new }
+    ensures only { OnlyTells M.tells M.seen M.time M.count M.present M.faults M.tell_faults media.old media.new }
     ensures cause { result ≡ Err Refused → Rose (M.tell_faults media.old) (M.tell_faults media.new) }
 {
     match tell_line(media, line_of_volume(alloc, increment)) {
@@ -98,7 +98,7 @@ pub fn tell_examined<M: Media>(
     examined: &Examined,
 ) -> Result<(), TellStop>
     ensures told { M.tells → ToldLines (lines_of examined.now) (M.seen media.old).told (M.seen media.new).told result }
-    ensures only { OnlyTells M.tells M.seen M.count M.present M.faults M.tell_faults media.old media.new }
+    ensures only { OnlyTells M.tells M.seen M.time M.count M.present M.faults M.tell_faults media.old media.new }
     ensures cause { result ≡ Err Refused → Rose (M.tell_faults media.old) (M.tell_faults media.new) }
 {
     match examined {

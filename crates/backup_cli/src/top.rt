@@ -47,7 +47,7 @@ fn status_of(examined: &Examined) -> Status
 /// Reads an input and tells what it is.
 fn examine<M: Media, S: Source>(alloc: Global, media: &mut M, source: &mut S) -> Status
     ensures told { S.tells → M.tells → Examines (S.left source.old) (S.left source.new) (M.seen media.old).told (M.seen media.new).told result }
-    ensures only { OnlyTells M.tells M.seen M.count M.present M.faults M.tell_faults media.old media.new }
+    ensures only { OnlyTells M.tells M.seen M.time M.count M.present M.faults M.tell_faults media.old media.new }
     ensures read_fault { result ≡ ReadFault → Rose (S.faults source.old) (S.faults source.new) }
     ensures output_fault { result ≡ OutputFault → Rose (M.tell_faults media.old) (M.tell_faults media.new) }
     ensures later { S.faults source.old ≤ S.faults source.new }
@@ -68,7 +68,7 @@ fn examine<M: Media, S: Source>(alloc: Global, media: &mut M, source: &mut S) ->
 /// Tells the usage line.
 fn tell_usage<M: Media>(media: &mut M) -> Status
     ensures told { M.tells → TellsUsage (M.seen media.old).told (M.seen media.new).told result }
-    ensures only { OnlyTells M.tells M.seen M.count M.present M.faults M.tell_faults media.old media.new }
+    ensures only { OnlyTells M.tells M.seen M.time M.count M.present M.faults M.tell_faults media.old media.new }
     ensures output_fault { result ≡ OutputFault → Rose (M.tell_faults media.old) (M.tell_faults media.new) }
     ensures usage { (result ≡ Usage) ⊎ (result ≡ OutputFault) }
 {
@@ -96,7 +96,7 @@ pub fn run<M: Media, S: Source>(
     // An input is told by its lines.
     ensures examine { IsExamine words.now.items → S.tells → M.tells → Examines (S.left source.old) (S.left source.new) (M.seen media).told (M.seen result.1).told result.0 }
     // The files stay, and no count of faults falls.
-    ensures only { OnlyTells M.tells M.seen M.count M.present M.faults M.tell_faults media result.1 }
+    ensures only { OnlyTells M.tells M.seen M.time M.count M.present M.faults M.tell_faults media result.1 }
     ensures source_faults { S.faults source.old ≤ S.faults source.new }
     // Each fault has its cause.
     ensures read_fault { result.0 ≡ ReadFault → Rose (S.faults source.old) (S.faults source.new) }

@@ -11,5 +11,8 @@ returns-in-Err-clause-told g c = λ told. record {
 pub loop-entry-preserved : goal.loop-entry-preserved
 loop-entry-preserved g c = (
   λ told. line_more entry_line c.args.entries.now c.loop-entry.entry-index c.entry-item.result _ _ _ c.loop-entry-test.true c.entry-item.is (c.loop-entry.invariant.0 told) (c.in-Ok.ensures.told _ c.line_of_entry.ensures told).ok,
-  only_more _ _ _ _ _ _ _ _ _ c.loop-entry.invariant.1 c.in-Ok.ensures.only,
+  only_more _ _ _ _ _ _ _ _ _ _ c.loop-entry.invariant.1 c.in-Ok.ensures.only,
 )
+
+pub returns-in-Err-clause-only : goal.returns-in-Err-clause-only
+returns-in-Err-clause-only g c = only_more _ _ _ _ _ _ _ _ _ _ c.loop-entry.invariant.1 c.in-Err.ensures.only

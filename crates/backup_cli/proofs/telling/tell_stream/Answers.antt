@@ -4,7 +4,7 @@ use Rattle.vnode_model.specs.declared.increments.IncrementFields.{IncrementField
 use Rattle.vnode_model.specs.declared.increments.Entry.{Entry}
 use Rattle.backup_cli.specs.Tells.{ToldFront}
 use Rattle.backup_cli.specs.Replies.{entry_line, volume_line}
-use Rattle.backup_cli.proofs.TellLaws.{first_told, second_told, both_told}
+use Rattle.backup_cli.proofs.TellLaws.{first_told, second_told, both_told, only_more}
 use Rattle.backup_cli.proofs.telling.tell_stream.Goals as goal
 
 pub returns-in-Err-clause-told : goal.returns-in-Err-clause-told
@@ -28,3 +28,9 @@ returns-in-Ok-tell_entries-clause-told g c = λ told. record {
       (c.in-Ok-tell_entries.ensures.told told).ok ∙ ap (λ (es : List Entry). (g.M.Media.seen c.tell_line.new.media).told ++ flat_map entry_line es) same);
   err = tt;
 }
+
+pub returns-in-Err-tell_entries-clause-only : goal.returns-in-Err-tell_entries-clause-only
+returns-in-Err-tell_entries-clause-only g c = only_more _ _ _ _ _ _ _ _ _ _ c.in-Ok.ensures.only c.in-Err-tell_entries.ensures.only
+
+pub returns-in-Ok-tell_entries-clause-only : goal.returns-in-Ok-tell_entries-clause-only
+returns-in-Ok-tell_entries-clause-only g c = only_more _ _ _ _ _ _ _ _ _ _ c.in-Ok.ensures.only c.in-Ok-tell_entries.ensures.only
