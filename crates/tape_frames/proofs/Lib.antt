@@ -2,6 +2,7 @@ mod Writes
 mod Forms
 mod Numbers
 mod Zeros
+mod Stated
 mod Words
 mod Rests
 mod Heads

@@ -1,7 +1,7 @@
 -- What the reading of a field answers.
-use Rattle.std.specs.Prelude.{◌≡◌, ◌≢◌, ℕ, ◌+◌, ◌<◌, ◌≤◌, ◌⊎◌, List, ◌++◌, length, take, replicate, slice_index, Result, Ok, Err, ⊤}
-use Rattle.bk_text.specs.Alphabets.{IsNameByte, IsSetNameByte, IsNoDash}
-use Rattle.bk_text.specs.LevelPaths.{IsLevelPath}
+use Rattle.std.specs.Prelude.{◌≡◌, ◌≢◌, ℕ, ◌+◌, ◌<◌, ◌≤◌, List, ◌++◌, length, take, replicate, slice_index, Result, Ok, Err}
+use Rattle.bk_text.specs.declared.words.Alphabet.{Alphabet}
+use Rattle.bk_text.specs.declared.words.Alphabet.TheVariants as alphabets
 use Rattle.tape_frames.specs.declared.column.Text.{Text}
 use Rattle.tape_frames.specs.declared.column.Text.TheVariants as texts
 use Rattle.tape_frames.specs.declared.column.Form.{Form}
@@ -9,47 +9,19 @@ use Rattle.tape_frames.specs.declared.column.Form.TheVariants as forms
 use Rattle.tape_frames.specs.declared.item.Item.{Item}
 use Rattle.tape_frames.specs.Fields.{Field, Number, spelled}
 use Rattle.tape_frames.specs.Items.{field_of}
-use Rattle.tape_frames.specs.Columns.{IsTextOf, IsOf}
+use Rattle.tape_frames.specs.Columns.{IsOf}
 
 -- the first byte that isn't 0
 abbrev pub IsFirstSet : List ℕ → ℕ → Type 0
 IsFirstSet bytes at = (at < length bytes) × (take at bytes ≡ replicate at 0) × (slice_index bytes at ≢ 0)
 
--- the first byte of a name
-abbrev pub MayBegin : Text → ℕ → Type 0
-MayBegin texts.Name b = IsNoDash b
-MayBegin texts.Host b = IsNoDash b
-MayBegin texts.SetName b = IsNoDash b
-MayBegin texts.TapeName b = ⊤
-MayBegin texts.Base b = ⊤
-
--- a byte of a name
-abbrev pub IsByteOf : Text → ℕ → Type 0
-IsByteOf texts.Name = IsNameByte
-IsByteOf texts.Host = IsNameByte
-IsByteOf texts.SetName = IsSetNameByte
-IsByteOf texts.TapeName = IsNameByte
-IsByteOf texts.Base = IsNameByte
-
--- a byte that a name may have at this place
-abbrev pub MayStand : Text → ℕ → ℕ → Type 0
-MayStand text at b = IsByteOf text b × (at ≡ 0 → MayBegin text b)
-
--- names of this length begin with the bytes before this place, and none with its byte too
-pub record WordSticks (text : Text) (bytes : List ℕ) (at : ℕ) : Type 0 where
-  pub within : at < length bytes
-  pub before : (word : List ℕ) × (rest : List ℕ) × IsTextOf text word × (length word ≡ length bytes) × (word ≡ take at bytes ++ rest)
-  pub here : MayStand text at (slice_index bytes at) → ⊥
-
--- a byte that a path may have where its element has so many bytes so far and so many bytes stand behind it
-abbrev pub MayFollow : ℕ → ℕ → ℕ → Type 0
-MayFollow count left b = ((b ≡ 47) × (0 < count) × (0 < left)) ⊎ (IsNameByte b × (count < 28) × (count ≡ 27 → left ≡ 1 → ⊥))
-
--- paths of this length begin with the bytes before this place, and none with its byte too
-pub record PathSticks (bytes : List ℕ) (at : ℕ) : Type 0 where
-  pub within : at < length bytes
-  pub before : (path : List ℕ) × (rest : List ℕ) × IsLevelPath path × (length path ≡ length bytes) × (path ≡ take at bytes ++ rest)
-  pub here : (path rest : List ℕ) → IsLevelPath path → length path ≡ length bytes → take (at + 1) bytes ++ rest ≡ path → ⊥
+-- which bytes a text may have
+abbrev pub alphabet : Text → Alphabet
+alphabet texts.Name = alphabets.Plain
+alphabet texts.Host = alphabets.Plain
+alphabet texts.SetName = alphabets.NoPeriod
+alphabet texts.TapeName = alphabets.AnyFirst
+alphabet texts.Base = alphabets.AnyFirst
 
 -- numbers have bounds, the lower one of four bytes and at most the upper one
 abbrev pub IsBounded : Form → Type 0

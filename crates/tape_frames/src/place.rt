@@ -1,12 +1,12 @@
 //! The first byte of a field that isn't of its form.
 
 ghost use Rattle.std.specs.Prelude.{◌≡◌, ◌↔◌, ◌+◌, ◌<◌, ◌≤◌, length, replicate, IsTrue, MatchOption};
-ghost use Rattle.bk_text.specs.LevelPaths.{IsLevelPath};
-ghost use Rattle.tape_frames.specs.Columns.{IsTextOf, most, form_size};
-ghost use Rattle.tape_frames.specs.Sticks.{MayBegin, IsByteOf, MayStand, MayFollow, WordSticks, PathSticks, IsFirstSet, ReadsNumber, ReadsItem, IsBounded};
+ghost use Rattle.tape_frames.specs.Columns.{most, form_size};
+ghost use Rattle.tape_frames.specs.Sticks.{alphabet, IsFirstSet, ReadsNumber, ReadsItem, IsBounded};
 
 use crate::column::{Form, Text};
 use crate::item::Item;
+use bk_text::{Alphabet, fault_in_stated, fault_in_stated_path};
 
 /// The place of the first byte that isn't 0.
 pub fn first_set(bytes: &[u8]) -> Option<usize>
@@ -75,46 +75,15 @@ fn most_of(text: Text) -> usize
     }
 }
 
-/// Whether it is a byte of a name.
-fn is_byte(text: Text, byte: u8) -> bool
-    ensures { IsTrue result ↔ IsByteOf text byte }
-{
-    let plain = 32 < byte && byte < 127 && byte != b'/';
-    match text {
-        Text::SetName => plain && byte != b'.',
-        Text::Name | Text::Host | Text::TapeName | Text::Base => plain,
-    }
-}
-
-/// Whether a name may begin with this byte.
-fn may_begin(text: Text, byte: u8) -> bool
-    ensures { IsTrue result ↔ MayBegin text byte }
+/// Which bytes a text may have.
+fn alphabet_of(text: Text) -> Alphabet
+    ensures { result ≡ alphabet text }
 {
     match text {
-        Text::Name | Text::Host | Text::SetName => byte != b'-',
-        Text::TapeName | Text::Base => true,
+        Text::Name | Text::Host => Alphabet::Plain,
+        Text::SetName => Alphabet::NoPeriod,
+        Text::TapeName | Text::Base => Alphabet::AnyFirst,
     }
-}
-
-/// Whether a byte may stand at this place of a name.
-fn may_stand(text: Text, at: usize, byte: u8) -> bool
-    ensures { IsTrue result ↔ MayStand text at byte }
-{
-    is_byte(text, byte) && (at > 0 || may_begin(text, byte))
-}
-
-/// The first byte of a text that no name of this length has there.
-fn word_place(text: Text, bytes: &[u8]) -> Option<usize>
-    requires some { 0 < length bytes.now }
-    requires short { length bytes.now ≤ most text }
-    ensures { MatchOption result (IsTextOf text bytes.now) (λ at. WordSticks text bytes.now at) }
-{
-    for (at, byte) in bytes.iter().enumerate() {
-        if !may_stand(text, at, *byte) {
-            return Some(at);
-        }
-    }
-    None
 }
 
 /// The field at the front, if it is of this form; else the first byte after which none that begins so is.
@@ -145,45 +114,15 @@ fn read_word<'a>(text: Text, may_be_empty: bool, rest: &'a [u8]) -> Result<Item<
             Err(0)
         };
     }
-    if len > most_of(text) {
+    let most = most_of(text);
+    if len > most {
         return Err(0);
     }
     let bytes = &rest[1..1 + len];
-    match word_place(text, bytes) {
+    match fault_in_stated(alphabet_of(text), most, len, bytes) {
         Some(at) => Err(1 + at),
         None => Ok(Item::Word(bytes)),
     }
-}
-
-/// Whether a byte may stand in a path where its element has so many bytes so far and so many bytes stand behind it.
-fn may_follow(count: usize, left: usize, byte: u8) -> bool
-    ensures { IsTrue result ↔ MayFollow count left byte }
-{
-    if byte == b'/' {
-        count > 0 && left > 0
-    } else {
-        is_byte(Text::Name, byte) && count < 28 && (count != 27 || left != 1)
-    }
-}
-
-/// The first byte of a text that no path of this length has there.
-fn path_place(bytes: &[u8]) -> Option<usize>
-    requires some { 1 < length bytes.now }
-    requires short { length bytes.now ≤ 256 }
-    ensures { MatchOption result (IsLevelPath bytes.now) (λ at. PathSticks bytes.now at) }
-{
-    if bytes[0] != b'/' {
-        return Some(0);
-    }
-    let mut count = 0;
-    for at in 1..bytes.len() {
-        let byte = bytes[at];
-        if !may_follow(count, bytes.len() - at - 1, byte) {
-            return Some(at);
-        }
-        count = if byte == b'/' { 0 } else { count + 1 };
-    }
-    None
 }
 
 /// The path of a level at the front behind its length.
@@ -200,7 +139,7 @@ fn read_level<'a>(rest: &'a [u8]) -> Result<Item<'a>, usize>
         return Err(1);
     }
     let bytes = &rest[2..2 + len];
-    match path_place(bytes) {
+    match fault_in_stated_path(len, bytes) {
         Some(at) => Err(2 + at),
         None => Ok(Item::Path(bytes)),
     }
