@@ -1,3 +1,4 @@
 mod TellLaws
 mod IntakeLaws
 mod InputLaws
+pub mod ImageLaws

@@ -5,10 +5,10 @@ use Rattle.std.proofs.lemmas.List.Concat.{flat_map-append}
 use Rattle.std.specs.List.{flat_map}
 use Rattle.std.proofs.Math.Seq.{take-add}
 use Rattle.crash_moments.specs.Moments.{Moments, Leads}
-use Rattle.crash_moments.specs.Telling.{Extends, ToldPart}
+use Rattle.crash_moments.specs.Telling.{ToldPart}
 use Rattle.crash_moments.proofs.Joining.{stays, joined, weakened}
 use Rattle.media_core.specs.Media.{Image, Tells}
-use Rattle.backup_cli.specs.Tells.{ToldFront, OnlyGrows, OnlyTells}
+use Rattle.backup_cli.specs.Tells.{ToldFront, TellsOn, OnlyGrows, OnlyTells}
 
 -- what is behind a place, as the code slices it
 rest_is : (at : ℕ) (p : List ℕ) → take (length p - at) (drop at p) ≡ drop at p
@@ -25,10 +25,18 @@ part_told at p before mid after first (n, second) = (take (at + n) p, (drop (at 
 pub rest_length : (at : ℕ) (p : List ℕ) → length (take (length p - at) (drop at p)) ≡ length p - at
 rest_length at p = ap length (rest_is at p) ∙ length-drop at p
 
+-- the part of a piece that was told, and what of the rest is taken now
+pub part_taken : (at n : ℕ) (p : List ℕ) → take at p ++ take n (take (length p - at) (drop at p)) ≡ take (at + n) p
+part_taken at n p = ap (λ (l : List ℕ). take at p ++ take n l) (rest_is at p) ∙ sym (take-add at n p)
+
+pub part_rest : (at : ℕ) (p : List ℕ) → take at p ++ take (length p - at) (drop at p) ≡ p
+part_rest at p = ap (λ (l : List ℕ). take at p ++ l) (rest_is at p) ∙ take-append-drop at p
+
 -- what was told so far of a piece
-pub record TellingAt {D : Type 0} (tells : Type 0) (seen : D → Image) (at : ℕ) (piece : List ℕ) (old new : D) : Type 0 where
+pub record TellingAt {D : Type 0} (tells : Type 0) (seen : D → Image) (time : Moments D Image) (at : ℕ) (piece : List ℕ) (old new : D) : Type 0 where
   pub within : at ≤ length piece
   pub told : tells → (seen new).told ≡ (seen old).told ++ take at piece
+  pub images : tells → Leads time old new (TellsOn (take at piece) (seen old).told)
 
 -- nothing is a front
 pub none_told : (lines told : List ℕ) → ToldFront lines told told
@@ -49,6 +57,17 @@ pub lines_split : {X : Type 0} (line : X → List ℕ) (xs : List X) (i : ℕ) (
 lines_split {X = X} line xs i d within =
     ap (flat_map line) (sym (take-append-drop i xs) ∙ ap (λ (l : List X). take i xs ++ l) (drop_more xs i d within))
     ∙ flat_map-append line (take i xs) (get_or xs i d ∷ drop (i + 1) xs)
+
+-- the lines so far and that of the element there are those up to it; with those behind it they are all
+pub lines_upto : {X : Type 0} (line : X → List ℕ) (xs : List X) (i : ℕ) (x : X) → i < length xs → x ≡ get_or xs i x → flat_map line (take i xs) ++ line x ≡ flat_map line (take (i + 1) xs)
+lines_upto {X = X} line xs i x within is =
+    sym (ap (flat_map line) (take_more xs i x within ∙ ap (λ (y : X). take i xs ++ y ∷ []) (sym is)) ∙ flat_map-append line (take i xs) (x ∷ []) ∙ ap (λ (l : List ℕ). flat_map line (take i xs) ++ l) (append-nil (line x)))
+
+pub lines_through : {X : Type 0} (line : X → List ℕ) (xs : List X) (i : ℕ) (x : X) → i < length xs → x ≡ get_or xs i x
+    → (flat_map line (take i xs) ++ line x) ++ flat_map line (drop (i + 1) xs) ≡ flat_map line xs
+lines_through {X = X} line xs i x within is =
+    append_assoc (flat_map line (take i xs)) (line x) (flat_map line (drop (i + 1) xs))
+    ∙ sym (lines_split line xs i x within ∙ ap (λ (y : X). flat_map line (take i xs) ++ (line y ++ flat_map line (drop (i + 1) xs))) (sym is))
 
 -- one element's line more
 pub line_more : {X : Type 0} (line : X → List ℕ) (xs : List X) (i : ℕ) (x : X) (before mid after : List ℕ) → i < length xs → x ≡ get_or xs i x

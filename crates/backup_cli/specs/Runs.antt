@@ -21,37 +21,40 @@ told_status (Stream i) = statuses.Done
 told_status (Cut length) = statuses.SomeRefused
 told_status (Bad at) = statuses.SomeRefused
 
--- the input was read to its end, it is this, and its lines were told
-pub record ToldInput (input rest before after : List ℕ) (status : Status) : Type 0 where
+-- The input was read to its end, it is this, and its lines were told. `Images` says of lines that images were told them so.
+pub record ToldInput (Images : List ℕ → Type 0) (input rest before after : List ℕ) (status : Status) : Type 0 where
   pub examined : Examined
   pub is : IsExamined input examined
   pub few : length input ≤ most_input
   pub all_read : rest ≡ []
   pub told : after ≡ before ++ lines_of examined
+  pub images : Images (lines_of examined)
   pub status_is : status ≡ told_status examined
 
 -- the input was read to its end, it is this, and a front of its lines was told
-pub record ToldInPart (input rest before after : List ℕ) : Type 0 where
+pub record ToldInPart (Images : List ℕ → Type 0) (input rest before after : List ℕ) : Type 0 where
   pub examined : Examined
   pub is : IsExamined input examined
   pub few : length input ≤ most_input
   pub all_read : rest ≡ []
   pub told : ToldFront (lines_of examined) before after
+  pub images : Images (lines_of examined)
 
 -- nothing was told, and at most one byte more was read than an input may have
-pub record ToldNothing (input rest before after : List ℕ) : Type 0 where
+pub record ToldNothing (Images : List ℕ → Type 0) (input rest before after : List ℕ) : Type 0 where
   pub taken : TookUpTo (most_input + 1) input rest
   pub told : after ≡ before
+  pub images : Images []
 
 -- what examine does with an input, by its status
-abbrev pub Examines : List ℕ → List ℕ → List ℕ → List ℕ → Status → Type 0
-Examines input rest before after statuses.Done = ToldInput input rest before after statuses.Done
-Examines input rest before after statuses.SomeRefused = ToldInput input rest before after statuses.SomeRefused
-Examines input rest before after statuses.Usage = ⊥
-Examines input rest before after statuses.ReadFault = ToldNothing input rest before after
-Examines input rest before after statuses.Memory = ToldNothing input rest before after ⊎ ToldInPart input rest before after
-Examines input rest before after statuses.OutputFault = ToldInPart input rest before after
-Examines input rest before after statuses.ScriptTooLong = (most_input < length input) × ToldNothing input rest before after
+abbrev pub Examines : (List ℕ → Type 0) → List ℕ → List ℕ → List ℕ → List ℕ → Status → Type 0
+Examines Images input rest before after statuses.Done = ToldInput Images input rest before after statuses.Done
+Examines Images input rest before after statuses.SomeRefused = ToldInput Images input rest before after statuses.SomeRefused
+Examines Images input rest before after statuses.Usage = ⊥
+Examines Images input rest before after statuses.ReadFault = ToldNothing Images input rest before after
+Examines Images input rest before after statuses.Memory = ToldNothing Images input rest before after ⊎ ToldInPart Images input rest before after
+Examines Images input rest before after statuses.OutputFault = ToldInPart Images input rest before after
+Examines Images input rest before after statuses.ScriptTooLong = (most_input < length input) × ToldNothing Images input rest before after
 
 -- the usage line was told, or a front of it
 abbrev pub TellsUsage : List ℕ → List ℕ → Status → Type 0

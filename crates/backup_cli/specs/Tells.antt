@@ -1,5 +1,5 @@
 -- What telling pieces to a media leaves of it.
-use Rattle.std.specs.Prelude.{◌≡◌, ℕ, ◌≤◌, Bool, List, ◌++◌, Result, OnOk, OnErr}
+use Rattle.std.specs.Prelude.{◌≡◌, ◌⊎◌, ℕ, ◌≤◌, Bool, List, ◌++◌, Result, OnOk, OnErr}
 use Rattle.crash_moments.specs.Moments.{Moments, Leads}
 use Rattle.crash_moments.specs.Telling.{Extends}
 use Rattle.media_core.specs.Media.{Image}
@@ -16,6 +16,10 @@ ToldFront lines old new = (front : List ℕ) × Heads front lines × (new ≡ ol
 pub record ToldLines {T E : Type 0} (lines old new : List ℕ) (result : Result T E) : Type 0 where
   pub ok : OnOk result (new ≡ old ++ lines)
   pub err : OnErr result (ToldFront lines old new)
+
+-- What an image was told stays, or it was a front of these lines behind what was told before them, and is one now.
+abbrev pub TellsOn : List ℕ → List ℕ → Image → Image → Type 0
+TellsOn lines taken old new = (new.told ≡ old.told) ⊎ (ToldFront lines taken old.told × ToldFront lines taken new.told)
 
 -- nothing but the output changes, and it grows
 pub record OnlyGrows (old new : Image) : Type 0 where

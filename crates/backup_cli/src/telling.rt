@@ -2,8 +2,8 @@
 
 ghost use Rattle.std.specs.Prelude.{◌≡◌, ◌++◌, ℕ, List, length, IfOk, OnErr, Err};
 ghost use Rattle.std.specs.List.{flat_map};
-ghost use Rattle.crash_moments.specs.Moments.{Rose};
-ghost use Rattle.backup_cli.specs.Tells.{ToldLines, OnlyTells};
+ghost use Rattle.crash_moments.specs.Moments.{Leads, Rose};
+ghost use Rattle.backup_cli.specs.Tells.{ToldLines, TellsOn, OnlyTells};
 ghost use Rattle.backup_cli.specs.Replies.{entry_line, stream_lines, lines_of};
 ghost use Rattle.backup_cli.specs.declared.telling.TellStop.TheVariants.{Refused};
 
@@ -29,6 +29,7 @@ pub enum TellStop {
 /// Tells all of a piece.
 pub fn tell_all<M: Media>(media: &mut M, piece: &[u8]) -> Result<(), Failed>
     ensures told { M.tells → ToldLines piece.now (M.seen media.old).told (M.seen media.new).told result }
+    ensures images { M.tells → Leads M.time media.old media.new (TellsOn piece.now (M.seen media.old).told) }
     ensures only { OnlyTells M.tells M.seen M.time M.count M.present M.faults M.tell_faults media.old media.new }
     ensures cause { OnErr result (Rose (M.tell_faults media.old) (M.tell_faults media.new)) }
 {
@@ -45,6 +46,7 @@ pub fn tell_all<M: Media>(media: &mut M, piece: &[u8]) -> Result<(), Failed>
 /// Tells a line, where memory for it was there.
 fn tell_line<M: Media>(media: &mut M, line: Result<Bytes, AllocError>) -> Result<(), TellStop>
     ensures told { (text : List ℕ) → IfOk line (λ bytes. bytes ≡ text) → M.tells → ToldLines text (M.seen media.old).told (M.seen media.new).told result }
+    ensures images { (text : List ℕ) → IfOk line (λ bytes. bytes ≡ text) → M.tells → Leads M.time media.old media.new (TellsOn text (M.seen media.old).told) }
     ensures only { OnlyTells M.tells M.seen M.time M.count M.present M.faults M.tell_faults media.old media.new }
     ensures cause { result ≡ Err Refused → Rose (M.tell_faults media.old) (M.tell_faults media.new) }
 {
@@ -60,6 +62,7 @@ fn tell_line<M: Media>(media: &mut M, line: Result<Bytes, AllocError>) -> Result
 /// Tells the lines of a stream's entries.
 fn tell_entries<M: Media>(alloc: Global, media: &mut M, entries: &[Entry]) -> Result<(), TellStop>
     ensures told { M.tells → ToldLines (flat_map entry_line entries.now) (M.seen media.old).told (M.seen media.new).told result }
+    ensures images { M.tells → Leads M.time media.old media.new (TellsOn (flat_map entry_line entries.now) (M.seen media.old).told) }
     ensures only { OnlyTells M.tells M.seen M.time M.count M.present M.faults M.tell_faults media.old media.new }
     ensures cause { result ≡ Err Refused → Rose (M.tell_faults media.old) (M.tell_faults media.new) }
 {
@@ -79,6 +82,7 @@ fn tell_stream<M: Media>(
     increment: &Increment,
 ) -> Result<(), TellStop>
     ensures told { M.tells → ToldLines (stream_lines increment.now) (M.seen media.old).told (M.seen media.new).told result }
+    ensures images { M.tells → Leads M.time media.old media.new (TellsOn (stream_lines increment.now) (M.seen media.old).told) }
     ensures only { OnlyTells M.tells M.seen M.time M.count M.present M.faults M.tell_faults media.old media.new }
     ensures cause { result ≡ Err Refused → Rose (M.tell_faults media.old) (M.tell_faults media.new) }
 {
@@ -98,6 +102,7 @@ pub fn tell_examined<M: Media>(
     examined: &Examined,
 ) -> Result<(), TellStop>
     ensures told { M.tells → ToldLines (lines_of examined.now) (M.seen media.old).told (M.seen media.new).told result }
+    ensures images { M.tells → Leads M.time media.old media.new (TellsOn (lines_of examined.now) (M.seen media.old).told) }
     ensures only { OnlyTells M.tells M.seen M.time M.count M.present M.faults M.tell_faults media.old media.new }
     ensures cause { result ≡ Err Refused → Rose (M.tell_faults media.old) (M.tell_faults media.new) }
 {

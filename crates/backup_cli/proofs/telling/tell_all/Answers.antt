@@ -1,5 +1,7 @@
-use Rattle.std.proofs.Common.{◌∙◌, arith}
-use Rattle.backup_cli.proofs.TellLaws.{more_told, part_told, rest_length, grows_more}
+use Rattle.std.proofs.Common.{◌∙◌, arith, take}
+use Rattle.std.proofs.lemmas.List.{take_all}
+use Rattle.backup_cli.proofs.TellLaws.{more_told, part_told, rest_length, grows_more, part_taken, part_rest}
+use Rattle.backup_cli.proofs.ImageLaws.{on_piece, on_same}
 use Rattle.backup_cli.proofs.telling.tell_all.Goals as goal
 
 pub loop-at-preserved : goal.loop-at-preserved
@@ -9,6 +11,7 @@ loop-at-preserved g c =
       record {
         within = omega (arith, c.in-Ok.ensures.front, rest_length c.loop-at.at c.args.piece.now, so_far.within);
         told = λ told. more_told c.loop-at.at c.in-Ok.count c.args.piece.now _ _ _ (so_far.told told) (c.in-Ok.ensures.told told);
+        images = λ told. on_same g.M.Media.time _ _ _ _ _ (part_taken c.loop-at.at c.in-Ok.count c.args.piece.now) (on_piece g.M.Media.time (take c.loop-at.at c.args.piece.now) _ _ _ c.args.media.now _ _ (so_far.told told) (so_far.images told) (c.in-Ok.ensures.crash told));
       },
       record {
         files = λ told. c.in-Ok.ensures.files told ∙ only.files told;
@@ -37,3 +40,13 @@ returns-in-Err-clause-only g c =
       faults_stay = omega (arith, c.in-Err.ensures.faults, only.faults_stay);
       tell_faults_stay = omega (arith, c.in-Err.ensures.cause.later, only.tell_faults_stay);
     }
+
+pub returns-in-Err-clause-images : goal.returns-in-Err-clause-images
+returns-in-Err-clause-images g c = λ told.
+    let so_far = c.loop-at.invariant.0 in
+    on_same g.M.Media.time _ _ _ _ _ (part_rest c.loop-at.at c.args.piece.now) (on_piece g.M.Media.time (take c.loop-at.at c.args.piece.now) _ _ _ c.args.media.now _ _ (so_far.told told) (so_far.images told) (c.in-Err.ensures.crash told))
+
+pub returns-clause-images : goal.returns-clause-images
+returns-clause-images g c = λ told.
+    let so_far = c.loop-at.invariant.0 in
+    on_same g.M.Media.time _ _ _ _ _ (take_all c.loop-at.at c.args.piece.now (omega (arith, c.loop-at-test.false))) (so_far.images told)

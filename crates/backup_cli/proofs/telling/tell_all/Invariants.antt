@@ -4,7 +4,7 @@ use Rattle.backup_cli.proofs.TellLaws.{TellingAt}
 use Rattle.backup_cli.proofs.telling.tell_all.Given as goal
 
 abbrev pub invariant-loop-at : goal.invariant-loop-at
-invariant-loop-at g l = TellingAt g.M.Media.tells g.M.Media.seen l.at l.piece l.fn.media l.media
+invariant-loop-at g l = TellingAt g.M.Media.tells g.M.Media.seen g.M.Media.time l.at l.piece l.fn.media l.media
     × OnlyTells g.M.Media.tells g.M.Media.seen g.M.Media.time g.M.Media.count g.M.Media.present g.M.Media.faults g.M.Media.tell_faults l.fn.media l.media
 
 abbrev pub decreases-loop-at : goal.decreases-loop-at
