@@ -32,7 +32,7 @@ fn write_front<M: Media>(media: &mut M, f: u32) -> Result<(), Failed>
     ensures count { M.count media.new ≡ M.count media.old }
     ensures present { M.present media.new ≡ M.present media.old }
     ensures cause { HasCause (M.faults media.old) (M.faults media.new) result }
-    ensures tell_faults { M.tell_faults media.old ≤ M.tell_faults media.new }
+    ensures tell_faults { M.tell_faults media.new ≡ M.tell_faults media.old }
 {
     settle(media, f, 0, &front())?;
     Ok(())
@@ -49,7 +49,7 @@ fn write_end<M: Media>(media: &mut M, f: u32) -> Result<(), Failed>
     ensures count { M.count media.new ≡ M.count media.old }
     ensures present { M.present media.new ≡ M.present media.old }
     ensures cause { HasCause (M.faults media.old) (M.faults media.new) result }
-    ensures tell_faults { M.tell_faults media.old ≤ M.tell_faults media.new }
+    ensures tell_faults { M.tell_faults media.new ≡ M.tell_faults media.old }
 {
     settle(media, f, 8191, &[0])?;
     Ok(())
@@ -66,7 +66,7 @@ pub fn format_blank<M: Media>(media: &mut M, f: u32) -> Result<(), Failed>
     ensures count { M.count media.new ≡ M.count media.old }
     ensures present { M.present media.new ≡ M.present media.old }
     ensures cause { HasCause (M.faults media.old) (M.faults media.new) result }
-    ensures tell_faults { M.tell_faults media.old ≤ M.tell_faults media.new }
+    ensures tell_faults { M.tell_faults media.new ≡ M.tell_faults media.old }
 {
     write_front(media, f)?;
     write_end(media, f)?;
@@ -88,7 +88,7 @@ fn close_gate<M: Media>(media: &mut M, f: u32, base: u64, is_open: bool) -> Resu
     ensures count { M.count media.new ≡ M.count media.old }
     ensures present { M.present media.new ≡ M.present media.old }
     ensures cause { HasCause (M.faults media.old) (M.faults media.new) result }
-    ensures tell_faults { M.tell_faults media.old ≤ M.tell_faults media.new }
+    ensures tell_faults { M.tell_faults media.new ≡ M.tell_faults media.old }
 {
     if is_open {
         settle(media, f, base, &[0])?;
@@ -110,7 +110,7 @@ fn close_gates<M: Media>(media: &mut M, f: u32, first: bool, second: bool) -> Re
     ensures count { M.count media.new ≡ M.count media.old }
     ensures present { M.present media.new ≡ M.present media.old }
     ensures cause { HasCause (M.faults media.old) (M.faults media.new) result }
-    ensures tell_faults { M.tell_faults media.old ≤ M.tell_faults media.new }
+    ensures tell_faults { M.tell_faults media.new ≡ M.tell_faults media.old }
 {
     close_gate(media, f, 0, first)?;
     close_gate(media, f, 4096, second)?;
@@ -128,7 +128,7 @@ fn write_place<M: Media>(media: &mut M, f: u32) -> Result<(), Failed>
     ensures count { M.count media.new ≡ M.count media.old }
     ensures present { M.present media.new ≡ M.present media.old }
     ensures cause { HasCause (M.faults media.old) (M.faults media.new) result }
-    ensures tell_faults { M.tell_faults media.old ≤ M.tell_faults media.new }
+    ensures tell_faults { M.tell_faults media.new ≡ M.tell_faults media.old }
 {
     let fields = fields(0, 8192, 0);
     settle(media, f, 1, &fields)?;
@@ -146,7 +146,7 @@ fn open_first<M: Media>(media: &mut M, f: u32) -> Result<(), Failed>
     ensures count { M.count media.new ≡ M.count media.old }
     ensures present { M.present media.new ≡ M.present media.old }
     ensures cause { HasCause (M.faults media.old) (M.faults media.new) result }
-    ensures tell_faults { M.tell_faults media.old ≤ M.tell_faults media.new }
+    ensures tell_faults { M.tell_faults media.new ≡ M.tell_faults media.old }
 {
     settle(media, f, 0, &[1])?;
     Ok(())
@@ -170,7 +170,7 @@ pub fn format_damaged<M: Media>(
     ensures count { M.count media.new ≡ M.count media.old }
     ensures present { M.present media.new ≡ M.present media.old }
     ensures cause { HasCause (M.faults media.old) (M.faults media.new) result }
-    ensures tell_faults { M.tell_faults media.old ≤ M.tell_faults media.new }
+    ensures tell_faults { M.tell_faults media.new ≡ M.tell_faults media.old }
 {
     close_gates(media, f, first, second)?;
     write_place(media, f)?;

@@ -1,6 +1,6 @@
 // A log in a file of a media.
 ghost use Rattle.std.specs.Prelude.{◌≡◌, ◌+◌, ◌^◌, ◌<◌, ◌≤◌, ◌++◌, ◌⊎◌, ◌↔◌, List, ℕ, length, take, drop, OnOk, OnErr, IfOk, IsTrue, Err};
-ghost use Rattle.crash_moments.specs.Moments.{Leads, HasCause, Rose};
+ghost use Rattle.crash_moments.specs.Moments.{Leads, HasCause, HasCauseAt};
 ghost use Rattle.media_core.specs.Media.{Image, AtFile, Same};
 ghost use Rattle.crash_log.specs.Log.{is_damaged, log_of, HasLog, HasOneOf, Any};
 ghost use Rattle.crash_log.specs.State.{IsBounded};
@@ -57,7 +57,7 @@ impl CrashLog {
         ensures count { M.count media.new ≡ M.count media.old }
         ensures present { M.present media.new ≡ M.present media.old }
         ensures cause { HasCause (M.faults media.old) (M.faults media.new) result }
-        ensures tell_faults { M.tell_faults media.old ≤ M.tell_faults media.new }
+        ensures tell_faults { M.tell_faults media.new ≡ M.tell_faults media.old }
     {
         let state = read_state(media, f, limit)?;
         Ok(CrashLog { state })
@@ -95,7 +95,7 @@ impl CrashLog {
         ensures count { M.count media.new ≡ M.count media.old }
         ensures present { M.present media.new ≡ M.present media.old }
         ensures cause { HasCause (M.faults media.old) (M.faults media.new) result }
-        ensures tell_faults { M.tell_faults media.old ≤ M.tell_faults media.new }
+        ensures tell_faults { M.tell_faults media.new ≡ M.tell_faults media.old }
     {
         if into.len() == 0 {
             return Ok(());
@@ -120,9 +120,8 @@ impl CrashLog {
         ensures crash { M.tells → Survives M.time M.seen self.old media.old → Leads M.time media.old media.new (AtFile (file_of self.old) (HasLog (settled_log self.old ((M.seen media.old).file (file_of self.old))))) }
         ensures count { M.count media.new ≡ M.count media.old }
         ensures present { M.present media.new ≡ M.present media.old }
-        ensures faults { M.faults media.old ≤ M.faults media.new }
-        ensures cause { result ≡ Err PutFault.Failed → Rose (M.faults media.old) (M.faults media.new) }
-        ensures tell_faults { M.tell_faults media.old ≤ M.tell_faults media.new }
+        ensures cause { HasCauseAt PutFault.Failed (M.faults media.old) (M.faults media.new) result }
+        ensures tell_faults { M.tell_faults media.new ≡ M.tell_faults media.old }
     {
         let used = self.state.size + self.state.more;
         if used > self.state.limit || piece.len() as u64 > self.state.limit - used {
@@ -149,7 +148,7 @@ impl CrashLog {
         ensures count { M.count media.new ≡ M.count media.old }
         ensures present { M.present media.new ≡ M.present media.old }
         ensures cause { HasCause (M.faults media.old) (M.faults media.new) result }
-        ensures tell_faults { M.tell_faults media.old ≤ M.tell_faults media.new }
+        ensures tell_faults { M.tell_faults media.new ≡ M.tell_faults media.old }
     {
         mend(&self.state, media)?;
         let at = self.state.start + (self.state.size + self.state.more);
@@ -174,7 +173,7 @@ impl CrashLog {
         ensures count { M.count media.new ≡ M.count media.old }
         ensures present { M.present media.new ≡ M.present media.old }
         ensures cause { HasCause (M.faults media.old) (M.faults media.new) result }
-        ensures tell_faults { M.tell_faults media.old ≤ M.tell_faults media.new }
+        ensures tell_faults { M.tell_faults media.new ≡ M.tell_faults media.old }
     {
         let all = self.state.size + self.state.more;
         match self.cut(media, all) {
@@ -199,7 +198,7 @@ impl CrashLog {
         ensures count { M.count media.new ≡ M.count media.old }
         ensures present { M.present media.new ≡ M.present media.old }
         ensures cause { HasCause (M.faults media.old) (M.faults media.new) result }
-        ensures tell_faults { M.tell_faults media.old ≤ M.tell_faults media.new }
+        ensures tell_faults { M.tell_faults media.new ≡ M.tell_faults media.old }
     {
         mend(&self.state, media)?;
         turn_over(&self.state, media, self.state.start, n)?;
@@ -224,9 +223,8 @@ impl CrashLog {
         ensures crash { M.tells → Survives M.time M.seen self.old media.old → Leads M.time media.old media.new (AtFile (file_of self.old) (HasOneOf (settled_log self.old ((M.seen media.old).file (file_of self.old))) bytes.now)) }
         ensures count { M.count media.new ≡ M.count media.old }
         ensures present { M.present media.new ≡ M.present media.old }
-        ensures faults { M.faults media.old ≤ M.faults media.new }
-        ensures cause { result ≡ Err PutFault.Failed → Rose (M.faults media.old) (M.faults media.new) }
-        ensures tell_faults { M.tell_faults media.old ≤ M.tell_faults media.new }
+        ensures cause { HasCauseAt PutFault.Failed (M.faults media.old) (M.faults media.new) result }
+        ensures tell_faults { M.tell_faults media.new ≡ M.tell_faults media.old }
     {
         if bytes.len() as u64 > self.state.limit {
             return Err(PutFault::LogFull);
@@ -253,7 +251,7 @@ impl CrashLog {
         ensures count { M.count media.new ≡ M.count media.old }
         ensures present { M.present media.new ≡ M.present media.old }
         ensures cause { HasCause (M.faults media.old) (M.faults media.new) result }
-        ensures tell_faults { M.tell_faults media.old ≤ M.tell_faults media.new }
+        ensures tell_faults { M.tell_faults media.new ≡ M.tell_faults media.old }
     {
         mend(&self.state, media)?;
         let at = self.free_start(bytes.len() as u64);

@@ -23,7 +23,7 @@ fn close_stale<M: Media>(log: &LogState, media: &mut M) -> Result<(), Failed>
     ensures count { M.count media.new ≡ M.count media.old }
     ensures present { M.present media.new ≡ M.present media.old }
     ensures cause { HasCause (M.faults media.old) (M.faults media.new) result }
-    ensures tell_faults { M.tell_faults media.old ≤ M.tell_faults media.new }
+    ensures tell_faults { M.tell_faults media.new ≡ M.tell_faults media.old }
 {
     settle(media, log.file, log.other(), &[0])?;
     Ok(())
@@ -41,7 +41,7 @@ pub fn mend<M: Media>(log: &LogState, media: &mut M) -> Result<(), Failed>
     ensures count { M.count media.new ≡ M.count media.old }
     ensures present { M.present media.new ≡ M.present media.old }
     ensures cause { HasCause (M.faults media.old) (M.faults media.new) result }
-    ensures tell_faults { M.tell_faults media.old ≤ M.tell_faults media.new }
+    ensures tell_faults { M.tell_faults media.new ≡ M.tell_faults media.old }
 {
     match log.needs {
         Needs::Nothing => Ok(()),

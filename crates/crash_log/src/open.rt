@@ -141,7 +141,7 @@ fn read_slot<M: Media>(media: &mut M, f: u32, base: u64) -> Result<Slot, Failed>
     ensures count { M.count media.new ≡ M.count media.old }
     ensures present { M.present media.new ≡ M.present media.old }
     ensures cause { HasCause (M.faults media.old) (M.faults media.new) result }
-    ensures tell_faults { M.tell_faults media.old ≤ M.tell_faults media.new }
+    ensures tell_faults { M.tell_faults media.new ≡ M.tell_faults media.old }
 {
     let mut bytes = [0; 24];
     media.read(f, base, &mut bytes)?;
@@ -159,7 +159,7 @@ fn read_slots<M: Media>(media: &mut M, f: u32) -> Result<(Slot, Slot), Failed>
     ensures count { M.count media.new ≡ M.count media.old }
     ensures present { M.present media.new ≡ M.present media.old }
     ensures cause { HasCause (M.faults media.old) (M.faults media.new) result }
-    ensures tell_faults { M.tell_faults media.old ≤ M.tell_faults media.new }
+    ensures tell_faults { M.tell_faults media.new ≡ M.tell_faults media.old }
 {
     let first = read_slot(media, f, 0)?;
     let second = read_slot(media, f, 4096)?;
@@ -187,7 +187,7 @@ fn state_of_slots<M: Media>(
     ensures count { M.count media.new ≡ M.count media.old }
     ensures present { M.present media.new ≡ M.present media.old }
     ensures cause { HasCause (M.faults media.old) (M.faults media.new) result }
-    ensures tell_faults { M.tell_faults media.old ≤ M.tell_faults media.new }
+    ensures tell_faults { M.tell_faults media.new ≡ M.tell_faults media.old }
 {
     let (first, second) = read_slots(media, f)?;
     Ok(choose(&first, &second, f, limit, long))
@@ -207,7 +207,7 @@ pub fn read_state<M: Media>(media: &mut M, f: u32, limit: u64) -> Result<LogStat
     ensures count { M.count media.new ≡ M.count media.old }
     ensures present { M.present media.new ≡ M.present media.old }
     ensures cause { HasCause (M.faults media.old) (M.faults media.new) result }
-    ensures tell_faults { M.tell_faults media.old ≤ M.tell_faults media.new }
+    ensures tell_faults { M.tell_faults media.new ≡ M.tell_faults media.old }
 {
     let long = media.len(f)?;
     if long < 8192 {

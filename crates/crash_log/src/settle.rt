@@ -16,7 +16,7 @@ pub fn settle<M: Media>(media: &mut M, f: u32, at: u64, bytes: &[u8]) -> Result<
     ensures count { M.count media.new ≡ M.count media.old }
     ensures present { M.present media.new ≡ M.present media.old }
     ensures cause { HasCause (M.faults media.old) (M.faults media.new) result }
-    ensures tell_faults { M.tell_faults media.old ≤ M.tell_faults media.new }
+    ensures tell_faults { M.tell_faults media.new ≡ M.tell_faults media.old }
 {
     media.write(f, at, bytes)?;
     media.sync(f)

@@ -36,7 +36,7 @@ fn close_other<M: Media>(log: &LogState, media: &mut M) -> Result<(), Failed>
     ensures count { M.count media.new ≡ M.count media.old }
     ensures present { M.present media.new ≡ M.present media.old }
     ensures cause { HasCause (M.faults media.old) (M.faults media.new) result }
-    ensures tell_faults { M.tell_faults media.old ≤ M.tell_faults media.new }
+    ensures tell_faults { M.tell_faults media.new ≡ M.tell_faults media.old }
 {
     if log.other_open {
         settle(media, log.file, log.other(), &[0])?;
@@ -58,7 +58,7 @@ fn name_place<M: Media>(log: &LogState, media: &mut M, start: u64, size: u64) ->
     ensures count { M.count media.new ≡ M.count media.old }
     ensures present { M.present media.new ≡ M.present media.old }
     ensures cause { HasCause (M.faults media.old) (M.faults media.new) result }
-    ensures tell_faults { M.tell_faults media.old ≤ M.tell_faults media.new }
+    ensures tell_faults { M.tell_faults media.new ≡ M.tell_faults media.old }
 {
     let fields = fields(following(log.turn), start, size);
     settle(media, log.file, log.other() + 1, &fields)?;
@@ -78,7 +78,7 @@ fn open_other<M: Media>(log: &LogState, media: &mut M, start: u64, size: u64) ->
     ensures count { M.count media.new ≡ M.count media.old }
     ensures present { M.present media.new ≡ M.present media.old }
     ensures cause { HasCause (M.faults media.old) (M.faults media.new) result }
-    ensures tell_faults { M.tell_faults media.old ≤ M.tell_faults media.new }
+    ensures tell_faults { M.tell_faults media.new ≡ M.tell_faults media.old }
 {
     settle(media, log.file, log.other(), &[1])?;
     Ok(())
@@ -104,7 +104,7 @@ pub fn turn_over<M: Media>(
     ensures count { M.count media.new ≡ M.count media.old }
     ensures present { M.present media.new ≡ M.present media.old }
     ensures cause { HasCause (M.faults media.old) (M.faults media.new) result }
-    ensures tell_faults { M.tell_faults media.old ≤ M.tell_faults media.new }
+    ensures tell_faults { M.tell_faults media.new ≡ M.tell_faults media.old }
 {
     close_other(log, media)?;
     name_place(log, media, start, size)?;

@@ -1,6 +1,6 @@
 -- What a crash may leave, moment by moment. A state D may leave images I: an image is all that is found after a crash.
 -- Moments inside a call count as well: a promise on a call speaks of each image that might have been left since its start.
-use Rattle.std.specs.Prelude.{◌≡◌, ◌⊎◌, ℕ, ◌+◌, ◌-◌, ◌^◌, ◌≤◌, min, List, length, take, Result, OnErr}
+use Rattle.std.specs.Prelude.{◌≡◌, ◌≢◌, ◌⊎◌, ℕ, ◌+◌, ◌-◌, ◌^◌, ◌≤◌, min, List, length, take, Result, Err, OnOk, OnErr}
 use Rattle.std.proofs.Common.{sym, subst}
 use Rattle.std.proofs.Math.Nat.{le_refl}
 use Rattle.std.proofs.lemmas.List.{take_all}
@@ -31,10 +31,19 @@ pub record Leads {D I : Type 0} (moments : Moments D I) (old new : D) (Step : I 
 abbrev pub Rose : ℕ → ℕ → Type 0
 Rose before now = min (before + 1) (2 ^ 64 - 1) ≤ now
 
--- a count that doesn't fall, and has risen where an error is told
+-- The count of a fault at a call whose error is that fault alone. It doesn't fall. It has risen where the fault is told,
+-- and is exactly as before where the call went well.
 pub record HasCause {T E : Type 0} (before now : ℕ) (result : Result T E) : Type 0 where
   pub later : before ≤ now
   pub failed : OnErr result (Rose before now)
+  pub stays : OnOk result (now ≡ before)
+
+-- The count of a fault at a call that has other errors too. It doesn't fall. It has risen where the fault is told, and is
+-- exactly as before at every other answer.
+pub record HasCauseAt {T E : Type 0} (fault : E) (before now : ℕ) (result : Result T E) : Type 0 where
+  pub later : before ≤ now
+  pub failed : result ≡ Err fault → Rose before now
+  pub stays : result ≢ Err fault → now ≡ before
 
 -- what a part leaves, as it is seen from outside
 pub record Seen {I J : Type 0} (view : I → J) (left : I → Type 0) (c : J) : Type 0 where

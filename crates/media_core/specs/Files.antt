@@ -1,12 +1,12 @@
 -- What files in memory show: their bytes, what was asked of them, which are here, what is planned and what failed.
-use Rattle.std.specs.Prelude.{◌≡◌, ◌⊎◌, ℕ, ◌≤◌, List, IsTrue, Bool, false, Result, OnOk, OnErr, length}
-use Rattle.crash_moments.specs.Moments.{Moments, history, Rose}
+use Rattle.std.specs.Prelude.{◌≡◌, ◌⊎◌, ℕ, List, IsTrue, Bool, false, Result, OnOk, OnErr, length}
+use Rattle.crash_moments.specs.Moments.{Moments, history}
 use Rattle.media_core.specs.declared.event.Event.{Event}
 use Rattle.media_core.specs.declared.mem.MemMedia.{MemMedia}
 use Rattle.media_core.specs.declared.plan.Plan.{Plan}
 use Rattle.media_core.specs.Media.{Image}
 use Rattle.media_core.specs.Events.{seen_after, IsLeft, is_here}
-use Rattle.media_core.specs.Plan.{counted, is_planned, is_stopped, IsUnplanned}
+use Rattle.media_core.specs.Plan.{counted, one_more, is_planned, is_stopped, IsUnplanned}
 
 -- what was asked, the first first
 abbrev pub events_of : MemMedia → List Event
@@ -53,19 +53,23 @@ pub record IsNew (m : MemMedia) : Type 0 where
   pub tell_faults : tell_faults_of m ≡ 0
   pub wants : wants_of m ≡ 0
 
--- A call was counted. It failed exactly where that was planned or a growth was refused to it; else no fault was counted.
+-- A call that takes no memory was counted. It failed exactly where that was planned, and no growth was refused to it.
+pub record FailsAsPlanned {T E : Type 0} (old new : MemMedia) (result : Result T E) : Type 0 where
+  pub plan : plan_of new ≡ counted (plan_of old)
+  pub ok : OnOk result (is_planned (plan_of old) ≡ false)
+  pub err : OnErr result (IsTrue (is_planned (plan_of old)))
+  pub wants : wants_of new ≡ wants_of old
+
+-- A call was counted. It failed exactly where that was planned or a growth was refused to it, which is counted on its own.
 pub record IsCounted {T E : Type 0} (old new : MemMedia) (result : Result T E) : Type 0 where
   pub plan : plan_of new ≡ counted (plan_of old)
   pub ok : OnOk result ((is_planned (plan_of old) ≡ false) × (wants_of new ≡ wants_of old))
-  pub faults : OnOk result (faults_of new ≡ faults_of old)
-  pub tell_faults : OnOk result (tell_faults_of new ≡ tell_faults_of old)
-  pub err : OnErr result (IsTrue (is_planned (plan_of old)) ⊎ Rose (wants_of old) (wants_of new))
-  pub later : wants_of old ≤ wants_of new
+  pub err : OnErr result ((IsTrue (is_planned (plan_of old)) × (wants_of new ≡ wants_of old)) ⊎ (wants_of new ≡ one_more (wants_of old)))
 
 -- nothing was asked; where the call was stopped, a growth was refused to it
 pub record IsPassedOver (old new : MemMedia) : Type 0 where
   pub same : events_of new ≡ events_of old
-  pub stopped : IsTrue (is_stopped (plan_of old)) → Rose (wants_of old) (wants_of new)
+  pub stopped : IsTrue (is_stopped (plan_of old)) → wants_of new ≡ one_more (wants_of old)
 
 -- It was asked after Ok, and where the call was stopped, which leaves it in progress. Else nothing was.
 pub record IsAsked {T E : Type 0} (Asked : Type 0) (old new : MemMedia) (result : Result T E) : Type 0 where

@@ -59,7 +59,7 @@ pub trait Media {
         ensures count { count self.new ≡ count self.old }
         ensures present { present self.new ≡ present self.old }
         ensures cause { HasCause (faults self.old) (faults self.new) result }
-        ensures tell_faults { tell_faults self.old ≤ tell_faults self.new };
+        ensures tell_faults { tell_faults self.new ≡ tell_faults self.old };
 
     /// Fills `into` with the bytes of a file from `at` on.
     fn read(&mut self, f: u32, at: u64, into: &mut [u8]) -> Result<(), Failed>
@@ -71,7 +71,7 @@ pub trait Media {
         ensures count { count self.new ≡ count self.old }
         ensures present { present self.new ≡ present self.old }
         ensures cause { HasCause (faults self.old) (faults self.new) result }
-        ensures tell_faults { tell_faults self.old ≤ tell_faults self.new };
+        ensures tell_faults { tell_faults self.new ≡ tell_faults self.old };
 
     /// Writes over what is there from `at` on, and past the end. Until the next sync of the file a crash may leave any
     /// bytes in the range and past the old end, and any length between.
@@ -84,7 +84,7 @@ pub trait Media {
         ensures count { count self.new ≡ count self.old }
         ensures present { present self.new ≡ present self.old }
         ensures cause { HasCause (faults self.old) (faults self.new) result }
-        ensures tell_faults { tell_faults self.old ≤ tell_faults self.new };
+        ensures tell_faults { tell_faults self.new ≡ tell_faults self.old };
 
     /// Waits until a file is on the disk: from then on a crash leaves of it what a read gives.
     fn sync(&mut self, f: u32) -> Result<(), Failed>
@@ -95,7 +95,7 @@ pub trait Media {
         ensures count { count self.new ≡ count self.old }
         ensures present { present self.new ≡ present self.old }
         ensures cause { HasCause (faults self.old) (faults self.new) result }
-        ensures tell_faults { tell_faults self.old ≤ tell_faults self.new };
+        ensures tell_faults { tell_faults self.new ≡ tell_faults self.old };
 
     /// Takes a front of a piece for the output, and says how many bytes of it. It takes none only where the piece is empty.
     fn tell(&mut self, piece: &[u8]) -> Result<usize, Failed>
@@ -108,7 +108,7 @@ pub trait Media {
         ensures count { count self.new ≡ count self.old }
         ensures present { present self.new ≡ present self.old }
         ensures cause { HasCause (tell_faults self.old) (tell_faults self.new) result }
-        ensures faults { faults self.old ≤ faults self.new };
+        ensures faults { faults self.new ≡ faults self.old };
 
     /// There are 1 to 65,536 files.
     ghost some_files: { (s : Self) → 1 ≤ count s };

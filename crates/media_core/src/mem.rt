@@ -38,7 +38,7 @@ pub struct MemMedia {
 
 impl Media for MemMedia {
     ghost use Rattle.media_core.specs.Kept.{seen_is_left, here_below};
-    ghost use Rattle.media_core.specs.Files.{seen_of, events_of, moments_of, count_of, present_of, faults_of, tell_faults_of, IsCounted, IsAsked};
+    ghost use Rattle.media_core.specs.Files.{seen_of, events_of, moments_of, count_of, present_of, faults_of, tell_faults_of, FailsAsPlanned, IsCounted, IsAsked};
 
     ghost tells = { Unit {0} };
 
@@ -83,9 +83,9 @@ impl Media for MemMedia {
         ensures count { count_of self.new ≡ count_of self.old }
         ensures present { present_of self.new ≡ present_of self.old }
         ensures cause { HasCause (faults_of self.old) (faults_of self.new) result }
-        ensures tell_faults { tell_faults_of self.old ≤ tell_faults_of self.new }
+        ensures tell_faults { tell_faults_of self.new ≡ tell_faults_of self.old }
         ensures asked { events_of self.new ≡ events_of self.old }
-        ensures counted { IsCounted self.old self.new result }
+        ensures counted { FailsAsPlanned self.old self.new result }
     {
         if self.failures.begin() != Turn::Goes {
             return Err(Failed);
@@ -102,9 +102,9 @@ impl Media for MemMedia {
         ensures count { count_of self.new ≡ count_of self.old }
         ensures present { present_of self.new ≡ present_of self.old }
         ensures cause { HasCause (faults_of self.old) (faults_of self.new) result }
-        ensures tell_faults { tell_faults_of self.old ≤ tell_faults_of self.new }
+        ensures tell_faults { tell_faults_of self.new ≡ tell_faults_of self.old }
         ensures asked { events_of self.new ≡ events_of self.old }
-        ensures counted { IsCounted self.old self.new result }
+        ensures counted { FailsAsPlanned self.old self.new result }
     {
         if self.failures.begin() != Turn::Goes {
             return Err(Failed);
@@ -122,7 +122,7 @@ impl Media for MemMedia {
         ensures count { count_of self.new ≡ count_of self.old }
         ensures present { present_of self.new ≡ present_of self.old }
         ensures cause { HasCause (faults_of self.old) (faults_of self.new) result }
-        ensures tell_faults { tell_faults_of self.old ≤ tell_faults_of self.new }
+        ensures tell_faults { tell_faults_of self.new ≡ tell_faults_of self.old }
         ensures asked { IsAsked (Gains (events_of self.old) (events_of self.new) f at from.now) self.old self.new result }
         ensures counted { IsCounted self.old self.new result }
     {
@@ -152,7 +152,7 @@ impl Media for MemMedia {
         ensures count { count_of self.new ≡ count_of self.old }
         ensures present { present_of self.new ≡ present_of self.old }
         ensures cause { HasCause (faults_of self.old) (faults_of self.new) result }
-        ensures tell_faults { tell_faults_of self.old ≤ tell_faults_of self.new }
+        ensures tell_faults { tell_faults_of self.new ≡ tell_faults_of self.old }
         ensures asked { OnOk result (events_of self.new ≡ events_of self.old ++ Event.Sync f ∷ []) }
         ensures kept { OnErr result (events_of self.new ≡ events_of self.old) }
         ensures counted { IsCounted self.old self.new result }
@@ -179,7 +179,7 @@ impl Media for MemMedia {
         ensures count { count_of self.new ≡ count_of self.old }
         ensures present { present_of self.new ≡ present_of self.old }
         ensures cause { HasCause (tell_faults_of self.old) (tell_faults_of self.new) result }
-        ensures faults { faults_of self.old ≤ faults_of self.new }
+        ensures faults { faults_of self.new ≡ faults_of self.old }
         ensures all { IfOk result (λ n. n ≡ length piece.now) }
         ensures asked { IsAsked (TellsMore (events_of self.old) (events_of self.new) piece.now (taken_by result)) self.old self.new result }
         ensures counted { IsCounted self.old self.new result }
