@@ -3,15 +3,13 @@
 ghost use Rattle.std.specs.Prelude.{◌≡◌, ◌⊎◌, ◌+◌, ◌<◌, ◌≤◌, ◌++◌, length, Err, IfOk, OnOk, OnErr};
 ghost use Rattle.crash_moments.specs.Moments.{Leads, Rose};
 ghost use Rattle.plant_core.specs.Steps.{Same, AtLog, OldOr};
-ghost use Rattle.budb_journal.specs.Bytes.{encoded};
-ghost use Rattle.budb_journal.specs.Forms.{AreChanges};
+ghost use Rattle.budb_changes.specs.Bytes.{encoded};
+ghost use Rattle.budb_changes.specs.Forms.{AreChanges};
 ghost use Rattle.budb_journal.specs.Replays.{Replays, UnlessFailed};
 
-use crate::change::Change;
-use crate::decoding::decode;
-use crate::fault::{AppendFault, ChangeFault, ReplayFault};
-use crate::writing::put_changes;
+use crate::fault::{AppendFault, ReplayFault};
 use bk_text::{List, Out};
+use budb_changes::{Change, ChangeFault, decode, put_changes};
 use plant_core::{Plant, PutFault};
 use std::alloc::Global;
 

@@ -1,0 +1,17 @@
+use Rattle.std.proofs.Common.{lit≤}
+use Rattle.byte_formats.specs.Formats.{both, times, two_in}
+use Rattle.budb_changes.specs.Formats.{frag_form, frags_form}
+use Rattle.byte_formats.proofs.FormatLaws.{stops_first, stops_second, took_both, stops_like, took_like, has_times}
+use Rattle.byte_formats.proofs.Leaves.{sole_two}
+use Rattle.budb_changes.proofs.Layouts.{has_frag, like_frags}
+use Rattle.budb_changes.proofs.record_reading.read_frags.Goals as goal
+
+pub returns-in-Err : goal.returns-in-Err
+returns-in-Err c = stops_like (both (two_in 1 65535) (λ n. times n frag_form)) frags_form like_frags _ _ (stops_first (two_in 1 65535) (λ n. times n frag_form) _ _ (λ n is. has_times n frag_form has_frag) c.in-Err.ensures)
+
+pub returns-in-Err-read_frag_items : goal.returns-in-Err-read_frag_items
+returns-in-Err-read_frag_items c = stops_like (both (two_in 1 65535) (λ n. times n frag_form)) frags_form like_frags _ _ (stops_second (two_in 1 65535) (λ n. times n frag_form) _ _ _ _ (sole_two 1 65535 (lit≤ tt)) c.in-Ok.ensures c.in-Err-read_frag_items.ensures)
+
+pub returns-in-Ok-read_frag_items : goal.returns-in-Ok-read_frag_items
+unfolding like_frags
+returns-in-Ok-read_frag_items c = took_like (both (two_in 1 65535) (λ n. times n frag_form)) frags_form like_frags _ _ _ (took_both (two_in 1 65535) (λ n. times n frag_form) _ _ _ _ _ c.in-Ok.ensures c.in-Ok-read_frag_items.ensures)

@@ -1,0 +1,319 @@
+//! Writing changes.
+
+ghost use Rattle.std.specs.Prelude.{◌≡◌, ◌≤◌, ◌++◌, ◌∷◌, length, All, OnOk, OnErr};
+ghost use Rattle.std.specs.List.{flat_map};
+ghost use Rattle.bk_text.specs.Alphabets.{IsName, IsHost, IsSetName};
+ghost use Rattle.bk_text.specs.LevelPaths.{IsLevelPath};
+ghost use Rattle.byte_formats.specs.Bytes.{two, four, text1, text2, any_or};
+ghost use Rattle.budb_changes.specs.Bytes.{expiry_bytes, tape_bytes, tapes_bytes, frag_bytes, frags_bytes, volume_bytes, volumes_bytes, dump_bytes, encoded_change, encoded};
+ghost use Rattle.budb_changes.specs.Printable.{IsPatternBytes};
+ghost use Rattle.byte_formats.specs.Forms.{IsTwo, IsFour, IsAnyOr};
+ghost use Rattle.budb_changes.specs.Forms.{IsExpiry, IsTapePart, IsFrag, IsVolRecord, IsDumpRecord, IsChange, AreChanges};
+
+use crate::change::Change;
+use crate::pattern_bytes::PatternBytes;
+use crate::records::{DumpRecord, DumpRecordFields, Frag, TapePart, VolRecord};
+use bk_text::{Expiry, Host, LevelPath, Out, Part, SetName};
+use byte_formats::{put_any_host, put_any_part, put_four, put_text1, put_text2, put_two};
+use std::alloc::{AllocError, Global};
+
+#[tactic(auto, unfolding(crate::specs::Bytes::expiry_bytes, crate::specs::Bytes::expiry_kind, crate::specs::Bytes::expiry_fields))]
+fn put_span(out: &mut Out, years: u16, months: u16, days: u16) -> Result<(), AllocError>
+    ensures { OnOk result (out.new ≡ out.old ++ expiry_bytes (Expiry.In years months days)) }
+{
+    out.byte(3)?;
+    put_two(out, years)?;
+    put_two(out, months)?;
+    put_two(out, days)?;
+    Ok(())
+}
+
+#[tactic(auto, unfolding(crate::specs::Bytes::expiry_bytes, crate::specs::Bytes::expiry_kind, crate::specs::Bytes::expiry_fields))]
+fn put_expiry(out: &mut Out, expiry: Expiry) -> Result<(), AllocError>
+    ensures bytes { OnOk result (out.new ≡ out.old ++ expiry_bytes expiry) }
+    ensures form { OnOk result (IsExpiry expiry) }
+{
+    match expiry {
+        Expiry::Unset => out.byte(0)?,
+        Expiry::Never => out.byte(1)?,
+        Expiry::At(moment) => {
+            out.byte(2)?;
+            put_four(out, moment)?;
+        }
+        Expiry::In {
+            years,
+            months,
+            days,
+        } => put_span(out, years, months, days)?,
+    }
+    Ok(())
+}
+
+#[tactic(auto, unfolding(crate::specs::Bytes::tape_bytes))]
+fn put_tape(out: &mut Out, tape: TapePart) -> Result<(), AllocError>
+    ensures bytes { OnOk result (out.new ≡ out.old ++ tape_bytes tape) }
+    ensures form { OnOk result (IsTapePart tape) }
+{
+    put_four(out, tape.tape)?;
+    put_four(out, tape.first)?;
+    put_four(out, tape.end)?;
+    put_four(out, tape.marks)?;
+    Ok(())
+}
+
+fn put_tapes(out: &mut Out, tapes: &[TapePart]) -> Result<(), AllocError>
+    ensures bytes { OnOk result (out.new ≡ out.old ++ flat_map tape_bytes tapes.now) }
+    ensures form { OnOk result (All IsTapePart tapes.now) }
+{
+    for tape in tapes {
+        put_tape(out, *tape)?;
+    }
+    Ok(())
+}
+
+#[tactic(auto, unfolding(crate::specs::Bytes::frag_bytes))]
+fn put_frag(out: &mut Out, frag: Frag) -> Result<(), AllocError>
+    ensures bytes { OnOk result (out.new ≡ out.old ++ frag_bytes frag) }
+    ensures form { OnOk result (IsFrag frag) }
+{
+    put_four(out, frag.tape)?;
+    put_four(out, frag.at)?;
+    Ok(())
+}
+
+fn put_frags(out: &mut Out, frags: &[Frag]) -> Result<(), AllocError>
+    ensures bytes { OnOk result (out.new ≡ out.old ++ flat_map frag_bytes frags.now) }
+    ensures form { OnOk result (All IsFrag frags.now) }
+{
+    for frag in frags {
+        put_frag(out, *frag)?;
+    }
+    Ok(())
+}
+
+/// Writes fragments behind their count.
+#[tactic(auto, unfolding(crate::specs::Bytes::frags_bytes))]
+fn put_frag_list(out: &mut Out, frags: &[Frag]) -> Result<(), AllocError>
+    requires { length frags.now ≤ 65535 }
+    ensures bytes { OnOk result (out.new ≡ out.old ++ frags_bytes frags.now) }
+    ensures form { OnOk result (All IsFrag frags.now) }
+{
+    put_two(out, frags.len() as u16)?;
+    put_frags(out, frags)?;
+    Ok(())
+}
+
+#[tactic(auto, unfolding(crate::specs::Bytes::volume_bytes))]
+fn put_volume(out: &mut Out, volume: &VolRecord) -> Result<(), AllocError>
+    ensures bytes { OnOk result (out.new ≡ out.old ++ volume_bytes volume.now) }
+    ensures form { OnOk result (IsVolRecord volume.now) }
+{
+    let a = volume.fields();
+    put_text1(out, a.name.bytes())?;
+    put_four(out, a.id)?;
+    put_text1(out, a.server.bytes())?;
+    put_text1(out, a.partition.bytes())?;
+    put_four(out, a.clone)?;
+    put_four(out, a.from)?;
+    put_frag_list(out, a.frags.as_slice())?;
+    Ok(())
+}
+
+fn put_volumes(out: &mut Out, volumes: &[VolRecord]) -> Result<(), AllocError>
+    ensures bytes { OnOk result (out.new ≡ out.old ++ flat_map volume_bytes volumes.now) }
+    ensures form { OnOk result (All IsVolRecord volumes.now) }
+{
+    for volume in volumes {
+        put_volume(out, volume)?;
+    }
+    Ok(())
+}
+
+/// Writes tapes behind their count.
+#[tactic(auto, unfolding(crate::specs::Bytes::tapes_bytes))]
+fn put_tape_list(out: &mut Out, tapes: &[TapePart]) -> Result<(), AllocError>
+    requires { length tapes.now ≤ 65535 }
+    ensures bytes { OnOk result (out.new ≡ out.old ++ tapes_bytes tapes.now) }
+    ensures form { OnOk result (All IsTapePart tapes.now) }
+{
+    put_two(out, tapes.len() as u16)?;
+    put_tapes(out, tapes)?;
+    Ok(())
+}
+
+/// Writes volumes behind their count.
+#[tactic(auto, unfolding(crate::specs::Bytes::volumes_bytes))]
+fn put_volume_list(out: &mut Out, volumes: &[VolRecord]) -> Result<(), AllocError>
+    requires { length volumes.now ≤ 4294967295 }
+    ensures bytes { OnOk result (out.new ≡ out.old ++ volumes_bytes volumes.now) }
+    ensures form { OnOk result (All IsVolRecord volumes.now) }
+{
+    put_four(out, volumes.len() as u32)?;
+    put_volumes(out, volumes)?;
+    Ok(())
+}
+
+/// Writes the four numbers that a dump's record begins with.
+fn put_numbers(out: &mut Out, a: &DumpRecordFields) -> Result<(), AllocError>
+    ensures bytes { OnOk result (out.new ≡ out.old ++ (four a.now.id ++ (four a.now.initial ++ (four a.now.parent ++ four a.now.expires)))) }
+    ensures id { OnOk result (IsFour a.now.id) }
+    ensures initial { OnOk result (IsFour a.now.initial) }
+    ensures parent { OnOk result (IsFour a.now.parent) }
+    ensures expires { OnOk result (IsFour a.now.expires) }
+{
+    put_four(out, a.id)?;
+    put_four(out, a.initial)?;
+    put_four(out, a.parent)?;
+    put_four(out, a.expires)?;
+    Ok(())
+}
+
+#[tactic(auto, using(byte_formats::proofs::Bases::short_base), unfolding(crate::specs::Bytes::dump_bytes))]
+fn put_dump(out: &mut Out, dump: &DumpRecord) -> Result<(), AllocError>
+    ensures bytes { OnOk result (out.new ≡ out.old ++ dump_bytes dump.now) }
+    ensures form { OnOk result (IsDumpRecord dump.now) }
+{
+    let a = dump.fields();
+    put_numbers(out, a)?;
+    put_text1(out, a.set.bytes())?;
+    put_text2(out, a.level.bytes())?;
+    put_text1(out, a.base.bytes())?;
+    put_tape_list(out, a.tapes.as_slice())?;
+    put_volume_list(out, a.volumes.as_slice())?;
+    Ok(())
+}
+
+/// Writes a kind and a volume set.
+fn put_set(out: &mut Out, kind: u8, set: &SetName) -> Result<(), AllocError>
+    ensures bytes { OnOk result (out.new ≡ out.old ++ kind ∷ text1 set.now) }
+    ensures form { OnOk result (IsSetName set.now) }
+{
+    out.byte(kind)?;
+    put_text1(out, set.bytes())?;
+    Ok(())
+}
+
+/// Writes what an entry has beside its set.
+fn put_entry(
+    out: &mut Out,
+    server: &Option<Host>,
+    partition: &Option<Part>,
+    pattern: &PatternBytes,
+) -> Result<(), AllocError>
+    ensures bytes { OnOk result (out.new ≡ out.old ++ (any_or server.now ++ (any_or partition.now ++ text2 pattern.now))) }
+    ensures server { OnOk result (IsAnyOr IsHost server.now) }
+    ensures partition { OnOk result (IsAnyOr IsName partition.now) }
+    ensures pattern { OnOk result (IsPatternBytes pattern.now) }
+{
+    put_any_host(out, server)?;
+    put_any_part(out, partition)?;
+    put_text2(out, pattern.bytes())?;
+    Ok(())
+}
+
+/// Writes a kind and a level.
+fn put_level(out: &mut Out, kind: u8, level: &LevelPath) -> Result<(), AllocError>
+    ensures bytes { OnOk result (out.new ≡ out.old ++ kind ∷ text2 level.now) }
+    ensures form { OnOk result (IsLevelPath level.now) }
+{
+    out.byte(kind)?;
+    put_text2(out, level.bytes())?;
+    Ok(())
+}
+
+/// Writes a tape host and its port offset.
+fn put_host(out: &mut Out, host: &Host, port: u16) -> Result<(), AllocError>
+    ensures bytes { OnOk result (out.new ≡ out.old ++ (text1 host.now ++ two port)) }
+    ensures form { OnOk result (IsHost host.now) }
+{
+    put_text1(out, host.bytes())?;
+    put_two(out, port)?;
+    Ok(())
+}
+
+/// Writes a kind and an id.
+fn put_id(out: &mut Out, kind: u8, id: u32) -> Result<(), AllocError>
+    ensures { OnOk result (out.new ≡ out.old ++ kind ∷ four id) }
+{
+    out.byte(kind)?;
+    put_four(out, id)?;
+    Ok(())
+}
+
+#[tactic(auto, unfolding(crate::specs::Bytes::encoded_change, crate::specs::Bytes::kind_of, crate::specs::Bytes::fields_of))]
+fn put_change(out: &mut Out, change: &Change) -> Result<(), AllocError>
+    ensures bytes { OnOk result (out.new ≡ out.old ++ encoded_change change.now) }
+    ensures form { OnOk result (IsChange change.now) }
+{
+    match change {
+        Change::AddSet { set } => put_set(out, 1, set)?,
+        Change::DelSet { set } => put_set(out, 2, set)?,
+        Change::AddEntry {
+            set,
+            server,
+            partition,
+            pattern,
+        } => {
+            put_set(out, 3, set)?;
+            put_entry(out, server, partition, pattern)?;
+        }
+        Change::DelEntry { set, number } => {
+            put_set(out, 4, set)?;
+            put_four(out, *number)?;
+        }
+        Change::AddLevel { level, expiry } => {
+            put_level(out, 5, level)?;
+            put_expiry(out, *expiry)?;
+        }
+        Change::SetExpiry { level, expiry } => {
+            put_level(out, 6, level)?;
+            put_expiry(out, *expiry)?;
+        }
+        Change::DelLevel { level } => put_level(out, 7, level)?,
+        Change::AddHost { host, port } => {
+            out.byte(8)?;
+            put_host(out, host, *port)?;
+        }
+        Change::DelHost { port } => {
+            out.byte(9)?;
+            put_two(out, *port)?;
+        }
+        Change::Begin { id } => put_id(out, 10, *id)?,
+        Change::Take { initial } => put_id(out, 11, *initial)?,
+        Change::Done(dump) => {
+            out.byte(12)?;
+            put_dump(out, dump)?;
+        }
+        Change::Forget { id } => put_id(out, 13, *id)?,
+        Change::Found(dump) => {
+            out.byte(14)?;
+            put_dump(out, dump)?;
+        }
+    }
+    Ok(())
+}
+
+/// Writes changes, one behind another. Where memory is refused, some of their bytes may stand behind the old ones.
+#[tactic(auto, unfolding(crate::specs::Bytes::encoded))]
+pub fn put_changes(out: &mut Out, changes: &[Change]) -> Result<(), AllocError>
+    ensures bytes { OnOk result (out.new ≡ out.old ++ encoded changes.now) }
+    ensures form { OnOk result (AreChanges changes.now) }
+{
+    for change in changes {
+        put_change(out, change)?;
+    }
+    Ok(())
+}
+
+/// Writes changes, one behind another. They are of the form, so that `decode` reads them again. Where memory is refused
+/// nothing is written.
+pub fn encode(alloc: Global, changes: &[Change], out: &mut Out) -> Result<(), AllocError>
+    ensures bytes { OnOk result (out.new ≡ out.old ++ encoded changes.now) }
+    ensures form { OnOk result (AreChanges changes.now) }
+    ensures err { OnErr result (out.new ≡ out.old) }
+{
+    let mut aside = Out::new(alloc);
+    put_changes(&mut aside, changes)?;
+    out.piece(aside.as_slice())?;
+    Ok(())
+}

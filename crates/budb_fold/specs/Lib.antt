@@ -1,0 +1,3 @@
+pub mod Database
+pub mod Lookups
+pub mod Chains

@@ -1,6 +1,0 @@
-use Rattle.std.proofs.Common.{◌≡◌, take, false}
-use Rattle.budb_journal.specs.Database.{has_dump}
-use Rattle.budb_journal.proofs.fitting.any_of_id.Given as goal
-
-abbrev pub invariant-loop-dump : goal.invariant-loop-dump
-invariant-loop-dump l = has_dump (take l.dump-index l.listed) l.id ≡ false

@@ -1,7 +1,0 @@
-use Rattle.std.proofs.Common.{◌≡◌, take, true}
-use Rattle.std.specs.List.{list_all}
-use Rattle.budb_journal.specs.Database.{is_whole}
-use Rattle.budb_journal.proofs.fitting.are_full.Given as goal
-
-abbrev pub invariant-loop-volume : goal.invariant-loop-volume
-invariant-loop-volume l = list_all is_whole (take l.volume-index l.volumes) ≡ true

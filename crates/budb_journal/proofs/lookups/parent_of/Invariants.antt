@@ -1,6 +1,0 @@
-use Rattle.std.proofs.Common.{◌≡◌, drop}
-use Rattle.budb_journal.specs.Lookups.{parent_at, parent_of}
-use Rattle.budb_journal.proofs.lookups.parent_of.Given as goal
-
-abbrev pub invariant-loop-upper : goal.invariant-loop-upper
-invariant-loop-upper l = parent_at l.listed l.set (drop l.upper-index l.upper-items) ≡ parent_of l.listed l.set l.level

@@ -1,0 +1,6 @@
+pub mod Bases
+pub mod Puts
+pub mod FormatLaws
+pub mod Leaves
+pub mod Texts
+pub mod Filled
