@@ -1,5 +1,5 @@
 -- A value and zeros up to a length: what was read, and what stuck.
-use Rattle.std.proofs.Common.{◌≡◌, ℕ, ◌+◌, ◌-◌, ◌<◌, List, [], ◌∷◌, ◌++◌, length, get_or, replicate, refl, sym, ap, subst, ◌∙◌, append_assoc, arith, length-append}
+use Rattle.std.proofs.Common.{◌≡◌, ℕ, ◌+◌, ◌-◌, ◌<◌, List, [], ◌∷◌, ◌++◌, length, get_or, replicate, refl, sym, ap, ◌∙◌, append_assoc, arith, length-append}
 use Rattle.std.proofs.lemmas.List.{append-nil, length-replicate, replicate-append-replicate, append_cancel_left, get_or_append_left, get_or-replicate}
 use Rattle.byte_formats.specs.Formats.{Format, Took, Sticks, filled}
 use Rattle.byte_formats.proofs.FormatLaws.{Sole}

@@ -377,7 +377,7 @@ sole_any Form some sole = record { same = go }
     go (Some t) None r s isx isy e = let zero_long : length t ≡ 0 = cc in absurd (omega (arith, some t isx, zero_long))
     go (Some t) (Some u) r s isx isy e = let one = sole.same t u r s isx isy e in (ap (λ (z : List ℕ). Some z) one.0, one.1)
 
-no_zero : (good bad bytes after rest : List ℕ) (b : ℕ) (behind : List ℕ) → bytes ≡ good ++ bad → bad ≡ b ∷ behind → ((r : List ℕ) → bytes ≡ 0 ∷ r → ⊥) → good ++ (b ∷ after) ≡ 0 ∷ rest → ⊥
+pub no_zero : (good bad bytes after rest : List ℕ) (b : ℕ) (behind : List ℕ) → bytes ≡ good ++ bad → bad ≡ b ∷ behind → ((r : List ℕ) → bytes ≡ 0 ∷ r → ⊥) → good ++ (b ∷ after) ≡ 0 ∷ rest → ⊥
 no_zero [] bad bytes after rest b behind joined e not eq = let zero_is : b ≡ 0 = cc in not behind (joined ∙ e ∙ ap (λ (z : ℕ). z ∷ behind) zero_is)
 no_zero (g ∷ gs) bad bytes after rest b behind joined e not eq = let zero_is : g ≡ 0 = cc in not (gs ++ bad) (joined ∙ ap (λ (z : ℕ). z ∷ (gs ++ bad)) zero_is)
 

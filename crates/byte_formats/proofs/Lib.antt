@@ -4,3 +4,4 @@ pub mod FormatLaws
 pub mod Leaves
 pub mod Texts
 pub mod Filled
+pub mod Maybe

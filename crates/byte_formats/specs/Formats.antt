@@ -76,6 +76,10 @@ any_of Form = record { Is = IsAnyOr Form; spelled = any_or }
 abbrev pub maybe : (List ℕ → Type 0) → Format (List ℕ)
 maybe Form = text1_of (IsMaybe Form)
 
+-- a value that has no bytes: it is always the same
+abbrev pub absent : {X : Type 0} → X → Format X
+absent value = record { Is = λ x. x ≡ value; spelled = λ x. [] }
+
 -- a value, and zeros behind it up to so many bytes
 abbrev pub filled : {X : Type 0} → ℕ → Format X → Format X
 filled n F = record { Is = F.Is; spelled = λ x. F.spelled x ++ replicate (n - length (F.spelled x)) 0 }

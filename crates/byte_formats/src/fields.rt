@@ -1,15 +1,16 @@
 //! Reading numbers and texts from the front of bytes. A refusal tells how many bytes are left from the first bad one on.
 
 ghost use Rattle.std.specs.Prelude.{◌≡◌, ◌↔◌, ◌<◌, ◌≤◌, ◌++◌, [], length, drop, slice_index, IsTrue, MatchResult};
-ghost use Rattle.bk_text.specs.Alphabets.{IsName, IsHost, IsSetName};
+ghost use Rattle.bk_text.specs.Alphabets.{IsName, IsHost, IsSetName, IsTapeName};
 ghost use Rattle.bk_text.specs.LevelPaths.{IsLevelPath};
 ghost use Rattle.bk_text.specs.Words.{IsWordOf};
 ghost use Rattle.byte_formats.specs.Forms.{IsBase};
-ghost use Rattle.byte_formats.specs.Formats.{Took, Stops, stated, one_in, two_in, any_four, text1_of, text2_of, any_of};
+ghost use Rattle.byte_formats.specs.Formats.{Took, Stops, stated, one_in, two_in, any_four, text1_of, text2_of, any_of, maybe};
 
 use crate::fault::ReadFault;
 use bk_text::{
-    Alphabet, Host, LevelPath, Name, Part, SetName, TapeName, fault_in_stated, fault_in_stated_path,
+    Alphabet, Bytes, Host, LevelPath, Name, Part, SetName, TapeName, fault_in_stated,
+    fault_in_stated_path,
 };
 use std::alloc::Global;
 
@@ -274,5 +275,46 @@ pub fn read_any_part<'a>(
     match read_part(alloc, bytes) {
         Err(fault) => Err(fault),
         Ok((part, rest)) => Ok((Some(part), rest)),
+    }
+}
+
+/// A word behind its length in one byte, or an empty text.
+fn read_maybe<'a>(
+    alphabet: Alphabet,
+    most: u8,
+    bytes: &'a [u8],
+) -> Result<(&'a [u8], &'a [u8]), ReadFault>
+    requires { 1 ≤ most }
+    ensures { MatchResult result (λ x. Took (maybe (IsWordOf alphabet most)) bytes.now x.0.now x.1.now) (λ fault. Stops (maybe (IsWordOf alphabet most)) bytes.now fault) }
+{
+    if has_no_text(bytes) {
+        return Ok((&[], behind(bytes, 1)));
+    }
+    match read_text1(alphabet, most, bytes) {
+        Err(fault) => Err(fault),
+        Ok((text, rest)) => Ok((text, rest)),
+    }
+}
+
+/// The name of a server, or an empty text.
+pub fn read_maybe_host<'a>(alloc: Global, bytes: &'a [u8]) -> Result<(Bytes, &'a [u8]), ReadFault>
+    ensures { MatchResult result (λ x. Took (maybe IsHost) bytes.now x.0 x.1.now) (λ fault. Stops (maybe IsHost) bytes.now fault) }
+{
+    match read_maybe(Alphabet::Plain, 63, bytes) {
+        Err(fault) => Err(fault),
+        Ok((text, rest)) => Ok((Bytes::from_slice(alloc, text)?, rest)),
+    }
+}
+
+/// The name of a tape, or an empty text.
+pub fn read_maybe_tape_name<'a>(
+    alloc: Global,
+    bytes: &'a [u8],
+) -> Result<(Bytes, &'a [u8]), ReadFault>
+    ensures { MatchResult result (λ x. Took (maybe IsTapeName) bytes.now x.0 x.1.now) (λ fault. Stops (maybe IsTapeName) bytes.now fault) }
+{
+    match read_maybe(Alphabet::AnyFirst, 80, bytes) {
+        Err(fault) => Err(fault),
+        Ok((text, rest)) => Ok((Bytes::from_slice(alloc, text)?, rest)),
     }
 }

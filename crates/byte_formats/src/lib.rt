@@ -8,7 +8,7 @@ mod writing;
 
 pub use fault::ReadFault;
 pub use fields::{
-    read_any_host, read_any_part, read_base, read_four, read_host, read_level, read_name, read_one,
-    read_part, read_set, read_two, read_word_of,
+    read_any_host, read_any_part, read_base, read_four, read_host, read_level, read_maybe_host,
+    read_maybe_tape_name, read_name, read_one, read_part, read_set, read_two, read_word_of,
 };
 pub use writing::{put_any_host, put_any_part, put_four, put_text1, put_text2, put_two};
