@@ -1,24 +1,27 @@
--- What the events of files in memory may leave is what the disk model allows, no less and no more.
-use Rattle.std.proofs.Common.{◌≡◌, ◌≢◌, ◌⊎◌, inl, inr, ⊎_elim, ◌↔◌, ℕ, zero, suc, ◌+◌, ◌-◌, ◌<◌, ◌≤◌, min, max, nat_le, nat_lt, ◌&&◌, ◌==◌, if◌then◌else◌, Bool, true, false, List, [], ◌∷◌, ◌++◌, length, take, drop, get_or, map, slice_index, refl, sym, ◌∙◌, ap, subst, arith, length-drop}
+-- What one event more makes of what a crash may leave, by the disk model.
+use Rattle.std.proofs.Common.{◌≡◌, ◌≢◌, ◌⊎◌, inl, inr, ⊎_elim, ◌↔◌, ℕ, zero, suc, ◌+◌, ◌-◌, ◌<◌, ◌≤◌, min, max, nat_le, nat_lt, ◌&&◌, ◌==◌, if◌then◌else◌, Bool, true, false, List, [], ◌∷◌, ◌++◌, length, take, drop, get_or, map, slice_index, Vec, refl, sym, ◌∙◌, ap, subst, arith, length-append, length-drop}
+use Rattle.std.specs.declared.alloc.Global.{Global}
 use Rattle.std.specs.Prelude.{Contains}
 use Rattle.std.specs.List.{range_with_len}
-use Rattle.std.proofs.lemmas.Bool.{cases_lt}
+use Rattle.std.proofs.lemmas.Bool.{cases_lt, cases_eq}
 use Rattle.std.proofs.lemmas.Bool.Decides.{nat_tests}
-use Rattle.std.proofs.lemmas.List.{ext_get_or, get_or-take, get_or-drop, length-take}
+use Rattle.std.proofs.lemmas.List.{ext_get_or, get_or-take, get_or-drop, length-take, length-take-le, take_all, take_at, drop_at}
 use Rattle.std.proofs.lemmas.List.FromFn.{length-map-range_with_len, get_or-map-range_with_len}
 use Rattle.media_core.specs.declared.event.Event.{Event}
 use Rattle.media_core.specs.declared.event.Event.TheVariants.{Opened, Write, Sync, Tell}
+use Rattle.crash_moments.specs.Telling.{IsFront}
+use Rattle.crash_moments.proofs.Fronts.{whole_front, front_more, front_part, front_size}
 use Rattle.media_core.specs.Media.{Torn, written}
 use Rattle.media_core.specs.Disk.{Range, FileMayLeave, Piece, OutputMayLeave}
-use Rattle.media_core.specs.Events.{Contents, blank, happens, after, file_bytes, WriteLeaves, SyncLeaves, TellLeaves}
-use Rattle.media_core.specs.Kept.{ReadsOne, happens_reads, blank_reads}
+use Rattle.media_core.specs.Events.{Contents, blank, happens, after, file_bytes, FileLeft, ToldLeft, seen_after}
+use Rattle.media_core.specs.Reads.{last_told}
 use Rattle.media_core.proofs.Fill.{length-written, covers_before, covers_behind, covers_here, same_of, other_of}
 
 -- a file that is all on the disk
 fresh_allows : (b c : List ℕ) → c ≡ b → FileMayLeave b b [] c
 fresh_allows b c same = record { no_shorter = omega (arith, ap length same); no_longer = omega (arith, ap length same); rest = λ i below out. ap (λ (l : List ℕ). slice_index l i) same }
 
-fresh_only : (b c : List ℕ) → FileMayLeave b b [] c → c ≡ b
+pub fresh_only : (b c : List ℕ) → FileMayLeave b b [] c → c ≡ b
 fresh_only b c allowed = ext_get_or 0 c b (omega (arith, allowed.no_shorter, allowed.no_longer)) (λ i below. allowed.rest i (omega (arith, allowed.no_longer)) refl)
 
 -- A write of n bytes at an offset, over a file of which S is on the disk and a read gave B.
@@ -100,42 +103,49 @@ module _ (at n : ℕ) (S B : List ℕ) (loose : List Range) (within : at ≤ len
           ];
     }
 
--- what a write and a sync leave of a file, whether it is this one or another
-module _ (is_other : Type 0) (S B : List ℕ) (loose : List Range) (left : List ℕ → Type 0) (same : (c : List ℕ) → left c ↔ FileMayLeave S B loose c) where
+-- what a write leaves of a file: another one stays
+pub record WriteLeaves (at n : ℕ) (is_other : Type 0) (left : List ℕ → Type 0) (c : List ℕ) : Type 0 where
+  pub from : List ℕ
+  pub was : left from
+  pub torn : (is_other → ⊥) → Torn at n from c
+  pub other : is_other → c ≡ from
+
+-- what a sync leaves of a file
+pub record SyncLeaves (bytes : List ℕ) (is_other : Type 0) (left : List ℕ → Type 0) (c : List ℕ) : Type 0 where
+  pub was : left c
+  pub synced : (is_other → ⊥) → c ≡ bytes
+
+-- what a piece in progress leaves of the output
+abbrev pub TellLeaves : List ℕ → List ℕ → (List ℕ → Type 0) → List ℕ → Type 0
+TellLeaves taken piece left c = left c ⊎ ((n : ℕ) × (c ≡ taken ++ take n piece))
+
+-- each of them for one file, whether it is this one or another
+module _ (is_other : Type 0) (S B : List ℕ) (loose : List Range) where
   write_agrees : (here : Bool) → (here ≡ true → is_other → ⊥) → (here ≡ false → is_other) → (at : ℕ) (bytes : List ℕ) → at ≤ length B → length S ≤ length B → (c : List ℕ)
-      → WriteLeaves at (length bytes) is_other left c ↔ FileMayLeave S (if here then written at bytes B else B) (if here then record { at = at; size = length bytes } ∷ loose else loose) c
+      → WriteLeaves at (length bytes) is_other (FileMayLeave S B loose) c ↔ FileMayLeave S (if here then written at bytes B else B) (if here then record { at = at; size = length bytes } ∷ loose else loose) c
   write_agrees true not_other other at bytes within short c = (
-    λ w. torn_allows at (length bytes) S B loose within w.from c (written at bytes B) (length-written at bytes B within) ((same w.from).0 w.was) (w.torn (not_other refl)),
+    λ w. torn_allows at (length bytes) S B loose within w.from c (written at bytes B) (length-written at bytes B within) w.was (w.torn (not_other refl)),
     λ allowed.
         let long = length-written at bytes B within in
-        let f = from at (length bytes) S B loose within c (written at bytes B) long short allowed in
         record {
-          from = f;
-          was = (same f).1 (from_allowed at (length bytes) S B loose within c (written at bytes B) long short allowed);
+          from = from at (length bytes) S B loose within c (written at bytes B) long short allowed;
+          was = from_allowed at (length bytes) S B loose within c (written at bytes B) long short allowed;
           torn = λ here. from_torn at (length bytes) S B loose within c (written at bytes B) long short allowed;
           other = λ o. absurd (not_other refl o);
         },
   )
   write_agrees false not_other other at bytes within short c = (
-    λ w. subst (FileMayLeave S B loose) (sym (w.other (other refl))) ((same w.from).0 w.was),
-    λ allowed. record { from = c; was = (same c).1 allowed; torn = λ here. absurd (here (other refl)); other = λ o. refl },
+    λ w. subst (FileMayLeave S B loose) (sym (w.other (other refl))) w.was,
+    λ allowed. record { from = c; was = allowed; torn = λ here. absurd (here (other refl)); other = λ o. refl },
   )
 
-  sync_agrees : (here : Bool) → (here ≡ true → is_other → ⊥) → (here ≡ false → is_other) → left B → (c : List ℕ)
-      → SyncLeaves B is_other left c ↔ FileMayLeave (if here then B else S) B (if here then [] else loose) c
+  sync_agrees : (here : Bool) → (here ≡ true → is_other → ⊥) → (here ≡ false → is_other) → FileMayLeave S B loose B → (c : List ℕ)
+      → SyncLeaves B is_other (FileMayLeave S B loose) c ↔ FileMayLeave (if here then B else S) B (if here then [] else loose) c
   sync_agrees true not_other other reads c = (
     λ w. fresh_allows B c (w.synced (not_other refl)),
-    λ allowed. record { was = subst left (sym (fresh_only B c allowed)) reads; synced = λ here. fresh_only B c allowed },
+    λ allowed. record { was = subst (FileMayLeave S B loose) (sym (fresh_only B c allowed)) reads; synced = λ here. fresh_only B c allowed },
   )
-  sync_agrees false not_other other reads c = (λ w. (same c).0 w.was, λ allowed. record { was = (same c).1 allowed; synced = λ here. absurd (here (other refl)) })
-
-short_after : (here : Bool) (S B : List ℕ) (at : ℕ) (bytes : List ℕ) → at ≤ length B → length S ≤ length B → length S ≤ length (if here then written at bytes B else B)
-short_after true S B at bytes within short = omega (arith, short, length-written at bytes B within)
-short_after false S B at bytes within short = short
-
-short_synced : (here : Bool) (S B : List ℕ) → length S ≤ length B → length (if here then B else S) ≤ length B
-short_synced true S B short = omega arith
-short_synced false S B short = short
+  sync_agrees false not_other other reads c = (λ w. w.was, λ allowed. record { was = allowed; synced = λ here. absurd (here (other refl)) })
 
 piece_first : (p : Piece) (ps : List Piece) → Contains (p ∷ ps) p
 piece_first p ps = (0, omega arith, refl)
@@ -151,55 +161,115 @@ no_piece : (q : Piece) → Contains [] q → ⊥
 no_piece q (k, below, is) = absurd (omega arith)
 
 -- the output, with a piece more
-tell_agrees : (first told piece : List ℕ) (pieces : List Piece) (left : List ℕ → Type 0) → ((c : List ℕ) → left c ↔ OutputMayLeave first pieces c) → (c : List ℕ)
-    → TellLeaves told piece left c ↔ OutputMayLeave first (record { before = told; bytes = piece } ∷ pieces) c
-tell_agrees first told piece pieces left same c = (
+tell_agrees : (first told piece : List ℕ) (pieces : List Piece) (c : List ℕ) → TellLeaves told piece (OutputMayLeave first pieces) c ↔ OutputMayLeave first (record { before = told; bytes = piece } ∷ pieces) c
+tell_agrees first told piece pieces c = (
   λ w. ⊎_elim
-      (λ l. ⊎_elim (λ is. inl is) (λ front. inr (record { piece = front.piece; among = piece_later (record { before = told; bytes = piece }) front.piece pieces front.among; size = front.size; is = front.is })) ((same c).0 l))
+      (λ l. ⊎_elim (λ is. inl is) (λ front. inr (record { piece = front.piece; among = piece_later (record { before = told; bytes = piece }) front.piece pieces front.among; size = front.size; is = front.is })) l)
       (λ more. inr (record { piece = record { before = told; bytes = piece }; among = piece_first (record { before = told; bytes = piece }) pieces; size = more.0; is = more.1 }))
       w,
   λ allowed. ⊎_elim
-      (λ is. inl ((same c).1 (inl is)))
+      (λ is. inl (inl is))
       (λ front. ⊎_elim
       (λ this. inr (front.size, front.is ∙ (λ i. (this i).before ++ take front.size (this i).bytes)))
-      (λ rest. inl ((same c).1 (inr (record { piece = front.piece; among = rest; size = front.size; is = front.is }))))
+      (λ rest. inl (inr (record { piece = front.piece; among = rest; size = front.size; is = front.is })))
       (piece_cases (record { before = told; bytes = piece }) front.piece pieces front.among))
       allowed,
 )
 
--- the two agree on each file and on the output
-pub record Agrees (s : Contents) : Type 0 where
-  pub short : (k : ℕ) → length (s.synced k) ≤ length (s.bytes k)
-  pub files : (k : ℕ) (c : List ℕ) → s.left k c ↔ FileMayLeave (s.synced k) (s.bytes k) (s.loose k) c
-  pub told : (c : List ℕ) → s.told_left c ↔ OutputMayLeave s.told_first s.pieces c
+pub none_told : (first : List ℕ) (c : List ℕ) → OutputMayLeave first [] c → c ≡ first
+none_told first c allowed = ⊎_elim (λ is. is) (λ front. absurd (no_piece front.piece front.among)) allowed
 
-none_told : (first : List ℕ) (c : List ℕ) → (c ≡ first) ↔ OutputMayLeave first [] c
-none_told first c = (λ is. inl is, λ allowed. ⊎_elim (λ is. is) (λ front. absurd (no_piece front.piece front.among)) allowed)
+-- a write, a sync and a piece more
+pub write_left : (s : Contents) (f at : ℕ) (bytes : Vec ℕ Global) (k : ℕ) → FileLeft s k (s.bytes k) → (c : List ℕ)
+    → WriteLeaves (min at (length (s.bytes k))) (length bytes.items) (k ≢ f) (FileLeft s k) c ↔ FileLeft (happens (Write f at bytes) s) k c
+write_left s f at bytes k reads c = write_agrees (k ≢ f) (s.synced k) (s.bytes k) (s.loose k) (k == f) (λ is ne. ne (same_of k f is)) (other_of k f) (min at (length (s.bytes k))) bytes.items (omega arith) reads.no_shorter c
 
-blank_agrees : Agrees blank
-blank_agrees = record { short = λ k. omega arith; files = λ k c. (fresh_allows [] c, fresh_only [] c); told = none_told [] }
+pub sync_left : (s : Contents) (f k : ℕ) → FileLeft s k (s.bytes k) → (c : List ℕ) → SyncLeaves (s.bytes k) (k ≢ f) (FileLeft s k) c ↔ FileLeft (happens (Sync f) s) k c
+sync_left s f k reads c = sync_agrees (k ≢ f) (s.synced k) (s.bytes k) (s.loose k) (k == f) (λ is ne. ne (same_of k f is)) (other_of k f) reads c
 
-happens_agrees : (e : Event) (s : Contents) → ReadsOne s → Agrees s → Agrees (happens e s)
-happens_agrees (Opened files told) s reads agrees = record {
-  short = λ k. omega arith;
-  files = λ k c. (fresh_allows (file_bytes files.items k) c, fresh_only (file_bytes files.items k) c);
-  told = none_told told.items;
+pub tell_left : (s : Contents) (piece : Vec ℕ Global) (c : List ℕ) → TellLeaves s.told piece.items (ToldLeft s) c ↔ ToldLeft (happens (Tell piece) s) c
+tell_left s piece c = tell_agrees s.told_first s.told piece.items s.pieces c
+
+pub opened_left : (s : Contents) (files : Vec (Vec ℕ Global) Global) (told : Vec ℕ Global) (k : ℕ) (c : List ℕ) → FileLeft (happens (Opened files told) s) k c → c ≡ file_bytes files.items k
+opened_left s files told k c left = fresh_only (file_bytes files.items k) c left
+
+pub opened_allows : (s : Contents) (files : Vec (Vec ℕ Global) Global) (told : Vec ℕ Global) (k : ℕ) (c : List ℕ) → c ≡ file_bytes files.items k → FileLeft (happens (Opened files told) s) k c
+opened_allows s files told k c is = fresh_allows (file_bytes files.items k) c is
+
+-- a write that isn't cut short is one of those that are
+pub written_torn : (at : ℕ) (bytes old : List ℕ) → at ≤ length old → Torn at (length bytes) old (written at bytes old)
+written_torn at bytes old within =
+    let front : length (take at old) ≡ at = length-take-le at old within in
+    let both : length (take at old ++ bytes) ≡ at + length bytes = omega (arith, front, length-append (take at old) bytes) in
+    let all : length (written at bytes old) ≡ length (take at old ++ bytes) + length (drop (at + length bytes) old) = length-append (take at old ++ bytes) (drop (at + length bytes) old) in
+    record {
+      before = ap (λ (l : List ℕ). take at l) (reassoc (take at old) bytes (drop (at + length bytes) old)) ∙ take_at (take at old) (bytes ++ drop (at + length bytes) old) at front;
+      after = drop_at (take at old ++ bytes) (drop (at + length bytes) old) (at + length bytes) both;
+      no_shorter = omega (arith, all, both, length-drop (at + length bytes) old);
+      no_longer = omega (arith, all, both, length-drop (at + length bytes) old);
+    }
+  where
+    reassoc : (a b c : List ℕ) → (a ++ b) ++ c ≡ a ++ (b ++ c)
+    reassoc [] b c = refl
+    reassoc (x ∷ a) b c = ap (λ (l : List ℕ). x ∷ l) (reassoc a b c)
+
+write_reads : (f at : ℕ) (bytes : List ℕ) (left : List ℕ → Type 0) (old : List ℕ) (k : ℕ) → left old
+    → WriteLeaves (min at (length old)) (length bytes) (k ≢ f) left (if k == f then written (min at (length old)) bytes old else old)
+write_reads f at bytes left old k was = elim (cases_eq k f) [
+  | inl same ↦
+      let is : (if k == f then written (min at (length old)) bytes old else old) ≡ written (min at (length old)) bytes old = grind (arith, nat_tests) in
+      record { from = old; was = was; torn = λ here. subst (λ (l : List ℕ). Torn (min at (length old)) (length bytes) old l) (sym is) (written_torn (min at (length old)) bytes old (omega arith)); other = λ ne. absurd (ne same) }
+  | inr ne ↦
+      let is : (if k == f then written (min at (length old)) bytes old else old) ≡ old = grind (arith, nat_tests) in
+      record { from = old; was = was; torn = λ here. absurd (here ne); other = λ _. is }
+]
+
+-- What reads give is one of the images, and of each image what was told is a front of what was told.
+pub record IsRead (s : Contents) : Type 0 where
+  pub files : (k : ℕ) → FileLeft s k (s.bytes k)
+  pub told : ToldLeft s s.told
+  pub last : s.told ≡ last_told s.told_first s.pieces
+  pub fronts : (c : List ℕ) → ToldLeft s c → IsFront c s.told
+
+blank_read : IsRead blank
+blank_read = record { files = λ k. fresh_allows [] [] refl; told = inl refl; last = refl; fronts = λ c left. whole_front c [] (none_told [] c left) }
+
+told_front : (s : Contents) (piece : Vec ℕ Global) → ((c : List ℕ) → ToldLeft s c → IsFront c s.told) → (c : List ℕ) → TellLeaves s.told piece.items (ToldLeft s) c → IsFront c (s.told ++ piece.items)
+told_front s piece fronts c (inl was) = front_more c s.told piece.items (fronts c was)
+told_front s piece fronts c (inr (n, is)) = front_part s.told piece.items n c is
+
+happens_read : (e : Event) (s : Contents) → IsRead s → IsRead (happens e s)
+happens_read (Opened files told) s one = record {
+  files = λ k. fresh_allows (file_bytes files.items k) (file_bytes files.items k) refl;
+  told = inl refl;
+  last = refl;
+  fronts = λ c left. whole_front c told.items (none_told told.items c left);
 }
-happens_agrees (Write f at bytes) s reads agrees = record {
-  short = λ k. short_after (k == f) (s.synced k) (s.bytes k) (min at (length (s.bytes k))) bytes.items (omega arith) (agrees.short k);
-  files = λ k. write_agrees (k ≢ f) (s.synced k) (s.bytes k) (s.loose k) (s.left k) (agrees.files k) (k == f) (λ is ne. ne (same_of k f is)) (other_of k f) (min at (length (s.bytes k))) bytes.items (omega arith) (agrees.short k);
-  told = agrees.told;
+happens_read (Write f at bytes) s one = record {
+  files = λ k. (write_left s f at bytes k (one.files k) ((happens (Write f at bytes) s).bytes k)).0 (write_reads f at bytes.items (FileLeft s k) (s.bytes k) k (one.files k));
+  told = one.told;
+  last = one.last;
+  fronts = one.fronts;
 }
-happens_agrees (Sync f) s reads agrees = record {
-  short = λ k. short_synced (k == f) (s.synced k) (s.bytes k) (agrees.short k);
-  files = λ k. sync_agrees (k ≢ f) (s.synced k) (s.bytes k) (s.loose k) (s.left k) (agrees.files k) (k == f) (λ is ne. ne (same_of k f is)) (other_of k f) (reads.files k);
-  told = agrees.told;
+happens_read (Sync f) s one = record {
+  files = λ k. (sync_left s f k (one.files k) (s.bytes k)).0 (record { was = one.files k; synced = λ here. refl });
+  told = one.told;
+  last = one.last;
+  fronts = one.fronts;
 }
-happens_agrees (Tell piece n) s reads agrees = record { short = agrees.short; files = agrees.files; told = tell_agrees s.told_first s.told piece.items s.pieces s.told_left agrees.told }
+happens_read (Tell piece) s one = record {
+  files = one.files;
+  told = (tell_left s piece (s.told ++ piece.items)).0 (inr (length piece.items, ap (λ (l : List ℕ). s.told ++ l) (sym (take_all (length piece.items) piece.items (omega arith)))));
+  last = refl;
+  fronts = λ c left. told_front s piece one.fronts c ((tell_left s piece c).1 left);
+}
 
-after_agrees : (es : List Event) (s : Contents) → ReadsOne s → Agrees s → Agrees (after es s)
-after_agrees [] s reads agrees = agrees
-after_agrees (e ∷ es) s reads agrees = after_agrees es (happens e s) (happens_reads e s reads) (happens_agrees e s reads agrees)
+after_read : (es : List Event) (s : Contents) → IsRead s → IsRead (after es s)
+after_read [] s one = one
+after_read (e ∷ es) s one = after_read es (happens e s) (happens_read e s one)
 
-pub always_agrees : (es : List Event) → Agrees (after es blank)
-always_agrees es = after_agrees es blank blank_reads blank_agrees
+pub always_read : (es : List Event) → IsRead (after es blank)
+always_read es = after_read es blank blank_read
+
+pub told_is_front : (es : List Event) (c : List ℕ) → ToldLeft (after es blank) c → c ≡ take (length c) (seen_after es).told
+told_is_front es c left = front_size c (seen_after es).told ((always_read es).fronts c left)

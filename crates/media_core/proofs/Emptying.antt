@@ -6,8 +6,9 @@ use Rattle.std.proofs.lemmas.List.{take_more, take_more_set, get_or-drop, drop-d
 use Rattle.media_core.specs.declared.event.Event.{Event}
 use Rattle.media_core.specs.declared.event.Event.TheVariants.{Opened, Write, Sync, Tell}
 use Rattle.media_core.specs.Media.{written}
-use Rattle.media_core.specs.Events.{Contents, blank, happens, after, file_bytes, WriteLeaves}
-use Rattle.media_core.specs.Emptied.{IsEmptied, NoJournal}
+use Rattle.media_core.specs.Disk.{Range, FileMayLeave}
+use Rattle.media_core.specs.Events.{Contents, blank, happens, after, file_bytes, FileLeft}
+use Rattle.media_core.specs.Emptied.{SameFile, IsEmptied, NoJournal}
 use Rattle.media_core.proofs.Fill.{length-written}
 use Rattle.media_core.proofs.Memory.{after-push}
 
@@ -34,40 +35,30 @@ pub opened_emptied : (s s' : Contents) (files files' : Vec (Vec ℕ Global) Glob
     → IsEmptied (happens (Opened files told) s) (happens (Opened files' told) s')
 opened_emptied s s' files files' told first same = record {
   bytes = first;
-  left = λ c is. is ∙ first;
-  others = λ k ne. record { bytes = same k ne; synced = same k ne; loose = refl; left = λ c. (λ is. is ∙ same k ne, λ is. is ∙ sym (same k ne)) };
+  others = λ k ne. record { bytes = same k ne; synced = same k ne; loose = refl };
   told = refl;
-  told_left = λ c. (λ is. is, λ is. is);
+  told_first = refl;
+  pieces = refl;
 }
 
 module _ (s s' : Contents) (emptied : IsEmptied s s') where
   pub write_emptied : (at : ℕ) (bytes bytes' : Vec ℕ Global) → bytes'.items ≡ [] → IsEmptied (happens (Write 0 at bytes) s) (happens (Write 0 at bytes') s')
   write_emptied at bytes bytes' none = record {
     bytes = written_none at bytes'.items (s'.bytes 0) none emptied.bytes;
-    left = λ c w.
-        let torn = w.torn (λ ne. ne refl) in
-        let a : length w.from ≡ 0 = ap length (emptied.left w.from w.was) in
-        let b : length (s'.bytes 0) ≡ 0 = ap length emptied.bytes in
-        let n : length bytes'.items ≡ 0 = ap length none in
-        length_zero c (omega (arith, a, b, n, torn.no_longer));
     others = λ k ne. record {
       bytes = if_other k 0 (written (min at (length (s'.bytes k))) bytes'.items (s'.bytes k)) (s'.bytes k) ne ∙ (emptied.others k ne).bytes ∙ sym (if_other k 0 (written (min at (length (s.bytes k))) bytes.items (s.bytes k)) (s.bytes k) ne);
       synced = (emptied.others k ne).synced;
       loose = if_other k 0 (record { at = min at (length (s'.bytes k)); size = length bytes'.items } ∷ s'.loose k) (s'.loose k) ne ∙ (emptied.others k ne).loose
           ∙ sym (if_other k 0 (record { at = min at (length (s.bytes k)); size = length bytes.items } ∷ s.loose k) (s.loose k) ne);
-      left = λ c. (
-        λ w. record { from = w.from; was = ((emptied.others k ne).left w.from).0 w.was; torn = λ no. absurd (no ne); other = w.other },
-        λ w. record { from = w.from; was = ((emptied.others k ne).left w.from).1 w.was; torn = λ no. absurd (no ne); other = w.other },
-      );
     };
     told = emptied.told;
-    told_left = emptied.told_left;
+    told_first = emptied.told_first;
+    pieces = emptied.pieces;
   }
 
   pub write_same : (f at : ℕ) (bytes : Vec ℕ Global) → f ≢ 0 → IsEmptied (happens (Write f at bytes) s) (happens (Write f at bytes) s')
   write_same f at bytes tape = record {
     bytes = if_other 0 f (written (min at (length (s'.bytes 0))) bytes.items (s'.bytes 0)) (s'.bytes 0) (λ is. tape (sym is)) ∙ emptied.bytes;
-    left = λ c w. w.other (λ is. tape (sym is)) ∙ emptied.left w.from w.was;
     others = λ k ne.
         let b = (emptied.others k ne).bytes in
         let l = (emptied.others k ne).loose in
@@ -75,44 +66,34 @@ module _ (s s' : Contents) (emptied : IsEmptied s s') where
           bytes = λ i. if k == f then written (min at (length (b i))) bytes.items (b i) else b i;
           synced = (emptied.others k ne).synced;
           loose = λ i. if k == f then record { at = min at (length (b i)); size = length bytes.items } ∷ l i else l i;
-          left = λ c. (
-            λ w. subst (λ (x : List ℕ). WriteLeaves (min at (length x)) (length bytes.items) (k ≢ f) (s.left k) c) b (record { from = w.from; was = ((emptied.others k ne).left w.from).0 w.was; torn = w.torn; other = w.other }),
-            λ w. subst (λ (x : List ℕ). WriteLeaves (min at (length x)) (length bytes.items) (k ≢ f) (s'.left k) c) (sym b) (record { from = w.from; was = ((emptied.others k ne).left w.from).1 w.was; torn = w.torn; other = w.other }),
-          );
         };
     told = emptied.told;
-    told_left = emptied.told_left;
+    told_first = emptied.told_first;
+    pieces = emptied.pieces;
   }
 
   pub sync_same : (f : ℕ) → IsEmptied (happens (Sync f) s) (happens (Sync f) s')
   sync_same f = record {
     bytes = emptied.bytes;
-    left = λ c w. emptied.left c w.was;
     others = λ k ne.
         let o = emptied.others k ne in
         record {
           bytes = o.bytes;
           synced = λ i. if k == f then o.bytes i else o.synced i;
           loose = λ i. if k == f then [] else o.loose i;
-          left = λ c. (
-            λ w. record { was = (o.left c).0 w.was; synced = λ no. w.synced no ∙ o.bytes },
-            λ w. record { was = (o.left c).1 w.was; synced = λ no. w.synced no ∙ sym o.bytes },
-          );
         };
     told = emptied.told;
-    told_left = emptied.told_left;
+    told_first = emptied.told_first;
+    pieces = emptied.pieces;
   }
 
-  pub tell_same : (piece : Vec ℕ Global) (n : ℕ) → IsEmptied (happens (Tell piece n) s) (happens (Tell piece n) s')
-  tell_same piece n = record {
+  pub tell_same : (piece : Vec ℕ Global) → IsEmptied (happens (Tell piece) s) (happens (Tell piece) s')
+  tell_same piece = record {
     bytes = emptied.bytes;
-    left = emptied.left;
-    others = λ k ne. let o = emptied.others k ne in record { bytes = o.bytes; synced = o.synced; loose = o.loose; left = o.left };
-    told = λ i. emptied.told i ++ take n piece.items;
-    told_left = λ c. (
-      λ w. ⊎_elim (λ l. inl ((emptied.told_left c).0 l)) (λ r. inr (r.0, r.1 ∙ ap (λ (l : List ℕ). l ++ take r.0 piece.items) emptied.told)) w,
-      λ w. ⊎_elim (λ l. inl ((emptied.told_left c).1 l)) (λ r. inr (r.0, r.1 ∙ ap (λ (l : List ℕ). l ++ take r.0 piece.items) (sym emptied.told))) w,
-    );
+    others = λ k ne. let o = emptied.others k ne in record { bytes = o.bytes; synced = o.synced; loose = o.loose };
+    told = λ i. emptied.told i ++ piece.items;
+    told_first = emptied.told_first;
+    pieces = λ i. record { before = emptied.told i; bytes = piece.items } ∷ emptied.pieces i;
   }
 
 -- one event more is gone through
@@ -134,6 +115,10 @@ module _ (old past : List Event) (i : ℕ) (cur e : Event) (below : i < length o
       let b : take (i + 1) (slice_set past i e) ≡ take i past ++ e ∷ [] =
       take_more_set past i e (omega (arith, below, size)) in
       subst (λ (l : List Event). NoJournal l (take (i + 1) (slice_set past i e))) (sym a) (subst (λ (l : List Event). NoJournal (take i old ++ cur ∷ []) l) (sym b) (step (take i old) (take i past) done))
+
+-- a crash may leave the same of a file
+pub same_left : (s s' : Contents) (k : ℕ) (c : List ℕ) → SameFile s s' k → FileLeft s' k c → FileLeft s k c
+same_left s s' k c same left = subst (λ (l : List Range). FileMayLeave (s.synced k) (s.bytes k) l c) same.loose (subst (λ (l : List ℕ). FileMayLeave (s.synced k) l (s'.loose k) c) same.bytes (subst (λ (l : List ℕ). FileMayLeave l (s'.bytes k) (s'.loose k) c) same.synced left))
 
 -- the first file is emptied
 pub emptied_shown : (files files' : List (Vec ℕ Global)) (past past' : List Event) → ((k : ℕ) → file_bytes files k ≡ (after past blank).bytes k) → file_bytes files' 0 ≡ []

@@ -8,9 +8,10 @@ use Rattle.media_core.specs.declared.event.Event.{Event}
 use Rattle.media_core.specs.declared.event.Event.TheVariants.{Opened, Write, Sync, Tell}
 use Rattle.media_core.specs.declared.mem.MemMedia.{MemMedia}
 use Rattle.media_core.specs.Media.{Image, Torn, AtFile, Tells, written}
-use Rattle.media_core.specs.Events.{Contents, blank, happens, after, WriteLeaves, SyncLeaves, TellLeaves, IsLeft, Gains, TellsMore, seen_after, file_bytes, is_here, LeftAfter}
+use Rattle.media_core.specs.Events.{Contents, blank, happens, after, FileLeft, ToldLeft, IsLeft, Gains, TellsMore, seen_after, file_bytes, LeftAfter}
+use Rattle.media_core.specs.Presence.{is_here}
 use Rattle.media_core.specs.Files.{events_of, seen_of}
-use Rattle.media_core.specs.Kept.{seen_is_left}
+use Rattle.media_core.proofs.DiskModel.{WriteLeaves, SyncLeaves, TellLeaves, write_left, sync_left, tell_left, opened_left, fresh_only, none_told, always_read}
 use Rattle.crash_moments.proofs.Histories.{one_event}
 
 abbrev Files : Type 0
@@ -19,16 +20,6 @@ Files = List (Vec ℕ Global)
 pub after-push : (es : List Event) (e : Event) (s : Contents) → after (es ++ e ∷ []) s ≡ happens e (after es s)
 after-push [] e s = refl
 after-push (x ∷ es) e s = after-push es e (happens x s)
-
-pub here_is : (aways : List Bool) (f : ℕ) (a : Bool) → f < length aways → a ≡ get_or aways f a → is_here aways f ≡ not a
-here_is [] f a below is = absurd (omega arith)
-here_is (b ∷ aways) zero a below is = ap not (sym is)
-here_is (b ∷ aways) (suc f) a below is = here_is aways f a (omega arith) is
-
-pub here_past : (aways : List Bool) (f : ℕ) → length aways ≤ f → is_here aways f ≡ false
-here_past [] f past = refl
-here_past (a ∷ aways) zero past = absurd (omega arith)
-here_past (a ∷ aways) (suc f) past = here_past aways f (omega arith)
 
 -- the files show the write
 pub write_shows : (files files' : Files) (past past' : List Event) (f at : ℕ) (bytes : List ℕ)
@@ -54,6 +45,13 @@ write_shows files files' past past' f at bytes shown within changed gains k =
           left ∙ shown_k ∙ sym right
     ]
 
+-- what a crash may leave after one event more
+file_pushed : (past : List Event) (e : Event) (k : ℕ) (c : List ℕ) → LeftAfter (past ++ e ∷ []) k c → FileLeft (happens e (after past blank)) k c
+file_pushed past e k c left = subst (λ (t : Contents). FileLeft t k c) (after-push past e blank) left
+
+told_pushed : (past : List Event) (e : Event) (c : Image) → IsLeft (past ++ e ∷ []) c → ToldLeft (happens e (after past blank)) c.told
+told_pushed past e c left = subst (λ (t : Contents). ToldLeft t c.told) (after-push past e blank) left.told
+
 -- a crash may have torn it
 pub write_leads : (old new : MemMedia) (f at : ℕ) (bytes : List ℕ) → at ≤ length ((seen_of old).file f) → Gains (events_of old) (events_of new) f at bytes
     → Leads (history events_of IsLeft) old new (AtFile f (Torn at (length bytes)))
@@ -62,13 +60,12 @@ write_leads old new f at bytes within gains = one_event events_of IsLeft old new
     leaves : (c : Image) → IsLeft (events_of old ++ Write f at gains.kept ∷ []) c → Stepped (history events_of IsLeft) old (AtFile f (Torn at (length bytes))) c
     leaves c left =
         let s = after (events_of old) blank in
-        let was : (k : ℕ) → WriteLeaves (min at (length (s.bytes k))) (length gains.kept.items) (k ≢ f) (s.left k) (c.file k) = λ k.
-        subst (λ (t : Contents). t.left k (c.file k)) (after-push (events_of old) (Write f at gains.kept) blank) (left.files k) in
-        let told : s.told_left c.told = subst (λ (t : Contents). t.told_left c.told) (after-push (events_of old) (Write f at gains.kept) blank) left.told in
+        let was : (k : ℕ) → WriteLeaves (min at (length (s.bytes k))) (length gains.kept.items) (k ≢ f) (FileLeft s k) (c.file k) = λ k.
+        (write_left s f at gains.kept k ((always_read (events_of old)).files k) (c.file k)).1 (file_pushed (events_of old) (Write f at gains.kept) k (c.file k) (left.files k)) in
         let at_is : min at (length (s.bytes f)) ≡ at = omega arith in
         record {
           from = record { file = λ k. (was k).from; told = c.told };
-          was = record { files = λ k. (was k).was; told = told };
+          was = record { files = λ k. (was k).was; told = told_pushed (events_of old) (Write f at gains.kept) c left };
           step = record {
             here = subst (λ (a : ℕ). Torn a (length bytes) (was f).from (c.file f)) at_is
                 (subst (λ (l : List ℕ). Torn (min at (length (s.bytes f))) (length l) (was f).from (c.file f)) gains.is ((was f).torn (λ ne. ne refl)));
@@ -77,43 +74,45 @@ write_leads old new f at bytes within gains = one_event events_of IsLeft old new
           };
         }
 
-sync_was : (past : List Event) (f : ℕ) (c : Image) → IsLeft (past ++ Sync f ∷ []) c → (k : ℕ) → SyncLeaves ((after past blank).bytes k) (k ≢ f) ((after past blank).left k) (c.file k)
-sync_was past f c left k = subst (λ (t : Contents). t.left k (c.file k)) (after-push past (Sync f) blank) (left.files k)
+sync_was : (past : List Event) (f : ℕ) (k : ℕ) (c : List ℕ) → LeftAfter (past ++ Sync f ∷ []) k c → SyncLeaves ((after past blank).bytes k) (k ≢ f) (LeftAfter past k) c
+sync_was past f k c left = (sync_left (after past blank) f k ((always_read past).files k) c).1 (file_pushed past (Sync f) k c left)
 
 -- a sync is kept
 pub sync_leads : (old new : MemMedia) (f : ℕ) → events_of new ≡ events_of old ++ Sync f ∷ [] → Leads (history events_of IsLeft) old new (λ a b. b ≡ a)
 sync_leads old new f more = one_event events_of IsLeft old new (Sync f) (λ a b. b ≡ a) more (λ c left. record {
   from = c;
-  was = record { files = λ k. (sync_was (events_of old) f c left k).was; told = subst (λ (t : Contents). t.told_left c.told) (after-push (events_of old) (Sync f) blank) left.told };
+  was = record { files = λ k. (sync_was (events_of old) f k (c.file k) (left.files k)).was; told = told_pushed (events_of old) (Sync f) c left };
   step = refl;
 })
 
 abbrev the_seen : Contents → Image
 the_seen s = record { file = s.bytes; told = s.told }
 
--- after it the file is what a read gives
-pub sync_keeps : (past past' : List Event) (f : ℕ) → past' ≡ past ++ Sync f ∷ [] → (c : Image) → IsLeft past' c → c.file f ≡ (seen_after past).file f
-sync_keeps past past' f more c left = (sync_was past f c (subst (λ (es : List Event). IsLeft es c) more left) f).synced (λ ne. ne refl)
-
 pub sync_shows : (past : List Event) (f : ℕ) → seen_after (past ++ Sync f ∷ []) ≡ seen_after past
 sync_shows past f = ap the_seen (after-push past (Sync f) blank)
 
--- the files stay, and the output has a front of the piece
-pub tell_shows : (past past' : List Event) (piece : List ℕ) (taken : ℕ) → TellsMore past past' piece taken → seen_after past' ≡ record { file = (seen_after past).file; told = (seen_after past).told ++ take taken piece }
-tell_shows past past' piece taken more =
-    ap seen_after more.more ∙ ap the_seen (after-push past (Tell more.kept taken) blank)
-    ∙ (λ i. record { file = (seen_after past).file; told = (seen_after past).told ++ take taken (more.is i) })
+-- after it the file is what a read gives
+pub sync_keeps : (past past' : List Event) (f : ℕ) → past' ≡ past ++ Sync f ∷ [] → (c : Image) → IsLeft past' c → c.file f ≡ (seen_after past').file f
+sync_keeps past past' f more c left =
+    (sync_was past f f (c.file f) (subst (λ (es : List Event). LeftAfter es f (c.file f)) more (left.files f))).synced (λ ne. ne refl)
+    ∙ sym (ap (λ (es : List Event). (seen_after es).file f) more ∙ ap (λ (i : Image). i.file f) (sync_shows past f))
 
-pub tell_leads : (old new : MemMedia) (piece : List ℕ) (taken : ℕ) → TellsMore (events_of old) (events_of new) piece taken → Leads (history events_of IsLeft) old new (Tells (seen_of old).told piece)
-tell_leads old new piece taken more = one_event events_of IsLeft old new (Tell more.kept taken) (Tells (seen_of old).told piece) more.more (λ c left.
+-- the files stay, and the output has the piece more
+pub tell_shows : (past past' : List Event) (piece : List ℕ) → TellsMore past past' piece → seen_after past' ≡ record { file = (seen_after past).file; told = (seen_after past).told ++ piece }
+tell_shows past past' piece more =
+    ap seen_after more.more ∙ ap the_seen (after-push past (Tell more.kept) blank)
+    ∙ (λ i. record { file = (seen_after past).file; told = (seen_after past).told ++ more.is i })
+
+pub tell_leads : (old new : MemMedia) (piece : List ℕ) → TellsMore (events_of old) (events_of new) piece → Leads (history events_of IsLeft) old new (Tells (seen_of old).told piece)
+tell_leads old new piece more = one_event events_of IsLeft old new (Tell more.kept) (Tells (seen_of old).told piece) more.more (λ c left.
     let s = after (events_of old) blank in
-    let files : (k : ℕ) → s.left k (c.file k) = λ k. subst (λ (t : Contents). t.left k (c.file k)) (after-push (events_of old) (Tell more.kept taken) blank) (left.files k) in
-    let told : TellLeaves s.told more.kept.items s.told_left c.told = subst (λ (t : Contents). t.told_left c.told) (after-push (events_of old) (Tell more.kept taken) blank) left.told in
+    let files : (k : ℕ) → FileLeft s k (c.file k) = λ k. file_pushed (events_of old) (Tell more.kept) k (c.file k) (left.files k) in
+    let told : TellLeaves s.told more.kept.items (ToldLeft s) c.told = (tell_left s more.kept c.told).1 (told_pushed (events_of old) (Tell more.kept) c left) in
     elim told [
       | inl was ↦ record { from = c; was = record { files = files; told = was }; step = record { files = λ k. refl; told = inl refl } }
       | inr front ↦ record {
         from = record { file = c.file; told = s.told };
-        was = record { files = files; told = (seen_is_left (events_of old)).told };
+        was = record { files = files; told = (always_read (events_of old)).told };
         step = record { files = λ k. refl; told = inr (refl, (front.0, front.1 ∙ ap (λ (l : List ℕ). s.told ++ take front.0 l) more.is)) };
       }
     ])
@@ -121,8 +120,8 @@ tell_leads old new piece taken more = one_event events_of IsLeft old new (Tell m
 pub write_told : (past past' : List Event) (f at : ℕ) (bytes : List ℕ) → Gains past past' f at bytes → (seen_after past').told ≡ (seen_after past).told
 write_told past past' f at bytes gains = ap (λ (es : List Event). (seen_after es).told) gains.more ∙ ap (λ (s : Contents). s.told) (after-push past (Write f at gains.kept) blank)
 
-pub tell_leads_as : (old new : MemMedia) (piece shown : List ℕ) (taken : ℕ) → shown ≡ piece → TellsMore (events_of old) (events_of new) piece taken → Leads (history events_of IsLeft) old new (Tells (seen_of old).told shown)
-tell_leads_as old new piece shown taken same more = subst (λ (l : List ℕ). Leads (history events_of IsLeft) old new (Tells (seen_of old).told l)) (sym same) (tell_leads old new piece taken more)
+pub tell_leads_as : (old new : MemMedia) (piece shown : List ℕ) → shown ≡ piece → TellsMore (events_of old) (events_of new) piece → Leads (history events_of IsLeft) old new (Tells (seen_of old).told shown)
+tell_leads_as old new piece shown same more = subst (λ (l : List ℕ). Leads (history events_of IsLeft) old new (Tells (seen_of old).told l)) (sym same) (tell_leads old new piece more)
 
 -- No image has bytes of a file that isn't one of the first n.
 abbrev pub NoneFrom : ℕ → List Event → Type 0
@@ -132,25 +131,41 @@ pub write_absent : (n : ℕ) (past past' : List Event) (f at : ℕ) (bytes : Lis
 write_absent n past past' f at bytes below none gains k c from left =
     let s = after past blank in
     let now : LeftAfter (past ++ Write f at gains.kept ∷ []) k c = subst (λ (es : List Event). LeftAfter es k c) gains.more left in
-    let was : WriteLeaves (min at (length (s.bytes k))) (length gains.kept.items) (k ≢ f) (s.left k) c = subst (λ (t : Contents). t.left k c) (after-push past (Write f at gains.kept) blank) now in
+    let was : WriteLeaves (min at (length (s.bytes k))) (length gains.kept.items) (k ≢ f) (FileLeft s k) c = (write_left s f at gains.kept k ((always_read past).files k) c).1 (file_pushed past (Write f at gains.kept) k c now) in
     was.other (λ same. let no : k < n = subst (λ (j : ℕ). j < n) (sym same) below in absurd (omega (arith, no, from))) ∙ none k was.from from was.was
 
 pub sync_absent : (n : ℕ) (past past' : List Event) (f : ℕ) → NoneFrom n past → past' ≡ past ++ Sync f ∷ [] → NoneFrom n past'
-sync_absent n past past' f none more k c from left =
-    let s = after past blank in
-    let now : LeftAfter (past ++ Sync f ∷ []) k c = subst (λ (es : List Event). LeftAfter es k c) more left in
-    let was : SyncLeaves (s.bytes k) (k ≢ f) (s.left k) c = subst (λ (t : Contents). t.left k c) (after-push past (Sync f) blank) now in
-    none k c from was.was
+sync_absent n past past' f none more k c from left = none k c from (sync_was past f k c (subst (λ (es : List Event). LeftAfter es k c) more left)).was
 
-pub tell_absent : (n : ℕ) (past past' : List Event) (piece : List ℕ) (taken : ℕ) → NoneFrom n past → TellsMore past past' piece taken → NoneFrom n past'
-tell_absent n past past' piece taken none more k c from left =
-    let now : LeftAfter (past ++ Tell more.kept taken ∷ []) k c = subst (λ (es : List Event). LeftAfter es k c) more.more left in
-    none k c from (subst (λ (t : Contents). t.left k c) (after-push past (Tell more.kept taken) blank) now)
+pub tell_absent : (n : ℕ) (past past' : List Event) (piece : List ℕ) → NoneFrom n past → TellsMore past past' piece → NoneFrom n past'
+tell_absent n past past' piece none more k c from left = none k c from (file_pushed past (Tell more.kept) k c (subst (λ (es : List Event). LeftAfter es k c) more.more left))
 
 pub opened_absent : (n : ℕ) (past past' : List Event) (files : Vec (Vec ℕ Global) Global) (told : Vec ℕ Global) → past ≡ [] → past' ≡ past ++ Opened files told ∷ [] → ((k : ℕ) → n ≤ k → file_bytes files.items k ≡ []) → NoneFrom n past'
 opened_absent n past past' files told none more empty k c from left =
     let now : LeftAfter (Opened files told ∷ []) k c = subst (λ (es : List Event). LeftAfter es k c) (more ∙ ap (λ (es : List Event). es ++ Opened files told ∷ []) none) left in
-    now ∙ empty k from
+    opened_left blank files told k c now ∙ empty k from
+
+-- where nothing was asked, all of it is on the disk
+pub new_still : (past : List Event) (c : Image) (k : ℕ) → past ≡ [] → IsLeft past c → c.file k ≡ (seen_after past).file k
+new_still past c k none left =
+    fresh_only [] (c.file k) (subst (λ (es : List Event). LeftAfter es k (c.file k)) none (left.files k)) ∙ sym (ap (λ (es : List Event). (seen_after es).file k) none)
+
+pub new_told : (past : List Event) (c : Image) → past ≡ [] → IsLeft past c → c.told ≡ (seen_after past).told
+new_told past c none left =
+    none_told [] c.told (subst (λ (es : List Event). ToldLeft (after es blank) c.told) none left.told) ∙ sym (ap (λ (es : List Event). (seen_after es).told) none)
+
+-- and so where files were opened
+module _ (past past' : List Event) (files : Vec (Vec ℕ Global) Global) (told : Vec ℕ Global) (none : past ≡ []) (more : past' ≡ past ++ Opened files told ∷ []) where
+  one : past' ≡ Opened files told ∷ []
+  one = more ∙ ap (λ (es : List Event). es ++ Opened files told ∷ []) none
+
+  pub opened_still : (c : Image) (k : ℕ) → IsLeft past' c → c.file k ≡ (seen_after past').file k
+  opened_still c k left =
+      opened_left blank files told k (c.file k) (subst (λ (es : List Event). LeftAfter es k (c.file k)) one (left.files k)) ∙ sym (ap (λ (es : List Event). (seen_after es).file k) one)
+
+  pub opened_told : (c : Image) → IsLeft past' c → c.told ≡ (seen_after past').told
+  opened_told c left =
+      none_told told.items c.told (subst (λ (es : List Event). ToldLeft (after es blank) c.told) one left.told) ∙ sym (ap (λ (es : List Event). (seen_after es).told) one)
 
 -- where none is away
 pub all_here : (n k : ℕ) → k < n → is_here (replicate n false) k ≡ true

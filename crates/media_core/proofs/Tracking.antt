@@ -8,8 +8,8 @@ use Rattle.media_core.specs.declared.event.Event.TheVariants.{Opened, Write, Syn
 use Rattle.media_core.specs.declared.replay.Pick.{Pick}
 use Rattle.media_core.specs.declared.replay.Pick.TheVariants as P
 use Rattle.media_core.specs.Media.{Torn, written}
-use Rattle.media_core.specs.Events.{Contents, blank, happens, after, file_bytes, SyncLeaves}
-use Rattle.media_core.specs.Kept.{written_torn, after_reads, blank_reads}
+use Rattle.media_core.specs.Events.{Contents, blank, happens, after, file_bytes, FileLeft, LeftAfter}
+use Rattle.media_core.proofs.DiskModel.{write_left, sync_left, opened_allows, written_torn, always_read}
 use Rattle.media_core.specs.Tracks.{Tracks, SameLengths}
 use Rattle.media_core.specs.Disk.{IsPicked}
 use Rattle.media_core.proofs.Fill.{length-written, fill_where, picked_fresh, picked_synced, same_of, other_of}
@@ -22,12 +22,12 @@ abbrev PickedIn : Pick → Contents → ℕ → List ℕ → Type 0
 PickedIn pick s k = IsPicked pick (s.synced k) (s.bytes k) (s.loose k)
 
 tracks_step : (pick : Pick) (es : List Event) (e : Event) (files picked : Files) → ((k : ℕ) → file_bytes files k ≡ (happens e (after es blank)).bytes k)
-    → ((k : ℕ) → (happens e (after es blank)).left k (file_bytes picked k)) → SameLengths pick files picked → ((k : ℕ) → PickedIn pick (happens e (after es blank)) k (file_bytes picked k)) → Tracks pick (es ++ e ∷ []) files picked
+    → ((k : ℕ) → FileLeft (happens e (after es blank)) k (file_bytes picked k)) → SameLengths pick files picked → ((k : ℕ) → PickedIn pick (happens e (after es blank)) k (file_bytes picked k)) → Tracks pick (es ++ e ∷ []) files picked
 tracks_step pick es e files picked bytes left lengths made =
     let push = after-push es e blank in
     record {
       bytes = λ k. bytes k ∙ sym (ap (λ (s : Contents). s.bytes k) push);
-      left = λ k. subst (λ (s : Contents). s.left k (file_bytes picked k)) (sym push) (left k);
+      left = λ k. subst (λ (s : Contents). FileLeft s k (file_bytes picked k)) (sym push) (left k);
       lengths = lengths;
       is = λ k. subst (λ (s : Contents). PickedIn pick s k (file_bytes picked k)) (sym push) (made k);
     }
@@ -39,11 +39,11 @@ same_lengths (P.Torn b) files picked same = same
 
 pub opens : (pick : Pick) (es : List Event) (opened : Vec (Vec ℕ Global) Global) (told : Vec ℕ Global) (files picked : Files) → ((k : ℕ) → file_bytes files k ≡ file_bytes opened.items k) → ((k : ℕ) → file_bytes picked k ≡ file_bytes opened.items k)
     → Tracks pick (es ++ Opened opened told ∷ []) files picked
-opens pick es opened told files picked first second = tracks_step pick es (Opened opened told) files picked first second (same_lengths pick files picked (λ k. ap length (second k ∙ sym (first k))))
+opens pick es opened told files picked first second = tracks_step pick es (Opened opened told) files picked first (λ k. opened_allows (after es blank) opened told k (file_bytes picked k) (second k)) (same_lengths pick files picked (λ k. ap length (second k ∙ sym (first k))))
     (λ k. picked_fresh pick (file_bytes opened.items k) (file_bytes picked k) (second k))
 
-pub tells : (pick : Pick) (es : List Event) (piece : Vec ℕ Global) (n : ℕ) (files picked : Files) → Tracks pick es files picked → Tracks pick (es ++ Tell piece n ∷ []) files picked
-tells pick es piece n files picked tracks = tracks_step pick es (Tell piece n) files picked tracks.bytes tracks.left tracks.lengths tracks.is
+pub tells : (pick : Pick) (es : List Event) (piece : Vec ℕ Global) (files picked : Files) → Tracks pick es files picked → Tracks pick (es ++ Tell piece ∷ []) files picked
+tells pick es piece files picked tracks = tracks_step pick es (Tell piece) files picked tracks.bytes tracks.left tracks.lengths tracks.is
 
 one_of : (files picked picked' : Files) (f : ℕ) → file_bytes picked' f ≡ file_bytes files f → ((k : ℕ) → k ≢ f → file_bytes picked' k ≡ file_bytes picked k) → ((k : ℕ) → length (file_bytes picked k) ≡ length (file_bytes files k)) → (k : ℕ) → length (file_bytes picked' k) ≡ length (file_bytes files k)
 one_of files picked picked' f here others same k = elim (cases_eq k f) [
@@ -65,16 +65,11 @@ syncs pick es f files picked picked' tracks here others = tracks_step pick es (S
     now : (k : ℕ) → k ≡ f → file_bytes picked' k ≡ (after es blank).bytes k
     now k is = ap (λ (j : ℕ). file_bytes picked' j) is ∙ here ∙ ap (λ (j : ℕ). file_bytes files j) (sym is) ∙ tracks.bytes k
 
-    abbrev_reads : (k : ℕ) → (after es blank).left k ((after es blank).bytes k)
-    abbrev_reads = (after_reads es blank blank_reads).files
-
-    left : (k : ℕ) → SyncLeaves ((after es blank).bytes k) (k ≢ f) ((after es blank).left k) (file_bytes picked' k)
-    left k = elim (cases_eq k f) [
-      | inl is ↦
-          let now : file_bytes picked' k ≡ (after es blank).bytes k = ap (λ (j : ℕ). file_bytes picked' j) is ∙ here ∙ ap (λ (j : ℕ). file_bytes files j) (sym is) ∙ tracks.bytes k in
-          record { was = subst (λ (l : List ℕ). (after es blank).left k l) (sym now) (abbrev_reads k); synced = λ _. now }
-      | inr ne ↦ record { was = subst (λ (l : List ℕ). (after es blank).left k l) (sym (others k ne)) (tracks.left k); synced = λ no. absurd (no ne) }
-    ]
+    left : (k : ℕ) → FileLeft (happens (Sync f) (after es blank)) k (file_bytes picked' k)
+    left k = (sync_left (after es blank) f k ((always_read es).files k) (file_bytes picked' k)).0 (elim (cases_eq k f) [
+      | inl is ↦ record { was = subst (λ (l : List ℕ). LeftAfter es k l) (sym (now k is)) ((always_read es).files k); synced = λ _. now k is }
+      | inr ne ↦ record { was = subst (λ (l : List ℕ). LeftAfter es k l) (sym (others k ne)) (tracks.left k); synced = λ no. absurd (no ne) }
+    ])
 
 torn_same : (at n : ℕ) (l : List ℕ) → Torn at n l l
 torn_same at n l = record { before = refl; after = refl; no_shorter = omega arith; no_longer = omega arith }
@@ -89,7 +84,8 @@ module _ (es : List Event) (f at : ℕ) (bytes : Vec ℕ Global) (files files' p
 
   pub loses : Tracks P.Old es files picked → Tracks P.Old (es ++ Write f at bytes ∷ []) files' picked
   loses tracks = tracks_step P.Old es (Write f at bytes) files' picked (shown tracks.bytes)
-      (λ k. record { from = file_bytes picked k; was = tracks.left k; torn = λ _. torn_same _ _ (file_bytes picked k); other = λ _. refl }) tt tracks.is
+      (λ k. (write_left (after es blank) f at bytes k ((always_read es).files k) (file_bytes picked k)).0
+      (record { from = file_bytes picked k; was = tracks.left k; torn = λ _. torn_same _ _ (file_bytes picked k); other = λ _. refl })) tt tracks.is
 
   module _ (fill : List ℕ) (size : length fill ≡ length bytes.items) (picked' : Files) (fills : Rewritten f at fill picked picked') where
     fill_here : (k : ℕ) → k ≡ f → file_bytes picked' k ≡ written (min at (length (file_bytes picked k))) fill (file_bytes picked k)
@@ -104,9 +100,9 @@ module _ (es : List Event) (f at : ℕ) (bytes : Vec ℕ Global) (files files' p
     write_other : (k : ℕ) → k ≢ f → file_bytes files' k ≡ file_bytes files k
     write_other k ne = writes k ∙ grind (arith, nat_tests)
 
-    left : ((k : ℕ) → file_bytes files k ≡ (after es blank).bytes k) → ((k : ℕ) → (after es blank).left k (file_bytes picked k)) → ((k : ℕ) → length (file_bytes picked k) ≡ length (file_bytes files k))
-        → (k : ℕ) → (happens (Write f at bytes) (after es blank)).left k (file_bytes picked' k)
-    left is was same k = record {
+    left : ((k : ℕ) → file_bytes files k ≡ (after es blank).bytes k) → ((k : ℕ) → LeftAfter es k (file_bytes picked k)) → ((k : ℕ) → length (file_bytes picked k) ≡ length (file_bytes files k))
+        → (k : ℕ) → FileLeft (happens (Write f at bytes) (after es blank)) k (file_bytes picked' k)
+    left is was same k = (write_left (after es blank) f at bytes k ((always_read es).files k) (file_bytes picked' k)).0 (record {
       from = file_bytes picked k;
       was = was k;
       torn = λ here. let here_is : k ≡ f = elim (cases_eq k f) [ inl e ↦ e | inr ne ↦ absurd (here ne) ] in
@@ -116,7 +112,7 @@ module _ (es : List Event) (f at : ℕ) (bytes : Vec ℕ Global) (files files' p
           (subst (λ (n : ℕ). Torn (min at (length (file_bytes picked k))) n (file_bytes picked k) (written (min at (length (file_bytes picked k))) fill (file_bytes picked k))) size
           (written_torn (min at (length (file_bytes picked k))) fill (file_bytes picked k) (omega arith))));
       other = λ ne. fill_other k ne;
-    }
+    })
 
     lengths : ((k : ℕ) → length (file_bytes picked k) ≡ length (file_bytes files k)) → (k : ℕ) → length (file_bytes picked' k) ≡ length (file_bytes files' k)
     lengths same k = elim (cases_eq k f) [

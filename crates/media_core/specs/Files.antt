@@ -5,7 +5,9 @@ use Rattle.media_core.specs.declared.event.Event.{Event}
 use Rattle.media_core.specs.declared.mem.MemMedia.{MemMedia}
 use Rattle.media_core.specs.declared.plan.Plan.{Plan}
 use Rattle.media_core.specs.Media.{Image}
-use Rattle.media_core.specs.Events.{seen_after, IsLeft, is_here}
+use Rattle.media_core.specs.Events.{seen_after, IsLeft}
+use Rattle.media_core.specs.Presence.{is_here}
+use Rattle.media_core.specs.Still.{AreStill}
 use Rattle.media_core.specs.Plan.{counted, one_more, is_planned, is_stopped, IsUnplanned}
 
 -- what was asked, the first first
@@ -42,7 +44,7 @@ wants_of m = m.failures.wants
 
 -- all of it is on the disk
 pub record IsFresh (m : MemMedia) : Type 0 where
-  pub files : (c : Image) (k : ℕ) → IsLeft (events_of m) c → c.file k ≡ (seen_of m).file k
+  pub files : AreStill moments_of seen_of m
   pub told : (c : Image) → IsLeft (events_of m) c → c.told ≡ (seen_of m).told
 
 -- no call was made, none is planned to fail and nothing failed

@@ -3,10 +3,11 @@ pub mod Disk
 pub mod Emptied
 pub mod Events
 pub mod Files
-pub mod Kept
 pub mod Later
 pub mod Media
-pub mod Model
 pub mod Plan
+pub mod Presence
+pub mod Reads
 pub mod Source
+pub mod Still
 pub mod Tracks

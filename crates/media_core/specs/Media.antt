@@ -1,5 +1,5 @@
 -- Numbered files and one output, and what the calls of a media do to them.
-use Rattle.std.specs.Prelude.{◌≡◌, ◌≢◌, ◌⊎◌, ℕ, ◌+◌, ◌≤◌, max, List, [], ◌++◌, length, take, drop, Result, Ok, Err}
+use Rattle.std.specs.Prelude.{◌≡◌, ◌≢◌, ◌⊎◌, ℕ, ◌+◌, ◌≤◌, max, List, [], ◌++◌, length, take, drop}
 
 -- the bytes of each file, and what was told
 pub record Image : Type 0 where
@@ -34,11 +34,6 @@ Same old new = new ≡ old
 pub record Tells (taken piece : List ℕ) (old new : Image) : Type 0 where
   pub files : (k : ℕ) → new.file k ≡ old.file k
   pub told : (new.told ≡ old.told) ⊎ ((old.told ≡ taken) × ((n : ℕ) × (new.told ≡ taken ++ take n piece)))
-
--- how much of a piece was taken: nothing where the call failed
-abbrev pub taken_by : {E : Type 0} → Result ℕ E → ℕ
-taken_by (Ok n) = n
-taken_by (Err e) = 0
 
 -- empty files, and nothing told
 abbrev pub nothing : Image

@@ -4,7 +4,7 @@ use Rattle.std.specs.declared.alloc.Global.{Global}
 use Rattle.media_core.specs.declared.event.Event.{Event}
 use Rattle.media_core.specs.declared.replay.Pick.{Pick}
 use Rattle.media_core.specs.declared.replay.Pick.TheVariants.{Old, New, Torn}
-use Rattle.media_core.specs.Events.{blank, after, file_bytes, PickedAfter}
+use Rattle.media_core.specs.Events.{blank, after, file_bytes, LeftAfter, PickedAfter}
 
 -- where unsynced writes aren't lost, the lengths are those that a read gives
 abbrev pub SameLengths : Pick → List (Vec ℕ Global) → List (Vec ℕ Global) → Type 0
@@ -14,6 +14,6 @@ SameLengths (Torn byte) files picked = (k : ℕ) → length (file_bytes picked k
 
 pub record Tracks (pick : Pick) (es : List Event) (files picked : List (Vec ℕ Global)) : Type 0 where
   pub bytes : (k : ℕ) → file_bytes files k ≡ (after es blank).bytes k
-  pub left : (k : ℕ) → (after es blank).left k (file_bytes picked k)
+  pub left : (k : ℕ) → LeftAfter es k (file_bytes picked k)
   pub lengths : SameLengths pick files picked
   pub is : (k : ℕ) → PickedAfter pick es k (file_bytes picked k)

@@ -1,5 +1,5 @@
 // What was asked of files and an output in memory. It is kept, so that a crash at each moment can be told.
-ghost use Rattle.std.specs.Prelude.{◌≡◌, ◌≢◌, ◌<◌, ◌≤◌, ◌==◌, ◌++◌, [], ◌∷◌, ℕ, List, length, take, OnOk, OnErr, vec_len, if◌then◌else◌};
+ghost use Rattle.std.specs.Prelude.{◌≡◌, ◌≢◌, ◌<◌, ◌≤◌, ◌==◌, ◌++◌, [], ◌∷◌, ℕ, List, length, OnOk, OnErr, vec_len, if◌then◌else◌};
 ghost use Rattle.media_core.specs.Media.{written};
 ghost use Rattle.media_core.specs.Events.{file_bytes, Gains, TellsMore};
 ghost use Rattle.media_core.specs.Emptied.{NoJournal};
@@ -9,13 +9,13 @@ use crate::bytes::overwrite_in;
 use std::alloc::{AllocError, Global};
 
 /// Something that was asked: files and an output as they were found at a start, all of it on the disk; a write of bytes
-/// into a file from an offset on; a sync of a file; a piece for the output, and how many of its bytes were taken.
+/// into a file from an offset on; a sync of a file; a piece for the output.
 #[derive(Drop)]
 pub enum Event {
     Opened(Vec<Vec<u8>>, Vec<u8>),
     Write(u32, u64, Vec<u8>),
     Sync(u32),
-    Tell(Vec<u8>, usize),
+    Tell(Vec<u8>),
 }
 
 /// Writes into one file, and keeps that it was asked. On an error all stays.
@@ -57,23 +57,21 @@ pub fn keep_sync(past: &mut Vec<Event>, f: u32) -> Result<(), AllocError>
     }
 }
 
-/// Adds the front of a piece to the output, and keeps the whole of it. On an error all stays.
+/// Adds a piece to the output, and keeps it. On an error all stays.
 pub fn keep_tell(
     alloc: Global,
     told: &mut Vec<u8>,
     past: &mut Vec<Event>,
     piece: &[u8],
-    taken: usize,
 ) -> Result<(), AllocError>
-    requires { taken ≤ length piece.now }
-    ensures ok { OnOk result (told.new.items ≡ told.old.items ++ take taken piece.now) }
+    ensures ok { OnOk result (told.new.items ≡ told.old.items ++ piece.now) }
     ensures err { OnErr result (told.new.items ≡ told.old.items) }
-    ensures past { OnOk result (TellsMore past.old.items past.new.items piece.now taken) }
+    ensures past { OnOk result (TellsMore past.old.items past.new.items piece.now) }
     ensures past_err { OnErr result (past.new.items ≡ past.old.items) }
 {
     let bytes = piece.to_vec(alloc)?;
-    past.push(Event::Tell(bytes, taken))?;
-    match told.extend_from_slice(&piece[..taken]) {
+    past.push(Event::Tell(bytes))?;
+    match told.extend_from_slice(piece) {
         Ok(()) => Ok(()),
         Err(error) => {
             let _ = past.pop();
@@ -94,7 +92,7 @@ fn empty_in(event: &mut Event)
             }
         }
         Event::Sync(_) => {}
-        Event::Tell(_, _) => {}
+        Event::Tell(_) => {}
     }
 }
 

@@ -1,8 +1,9 @@
 // Numbered files and one output.
 ghost use Rattle.std.specs.Prelude.{◌≡◌, ◌+◌, ◌^◌, ◌<◌, ◌≤◌, ◌++◌, List, ℕ, length, take, drop, IfOk, OnOk, OnErr, IsTrue, Bool};
 ghost use Rattle.crash_moments.specs.Moments.{Moments, Leads, HasCause};
-ghost use Rattle.crash_moments.specs.Telling.{ToldPart, in_progress};
+ghost use Rattle.crash_moments.specs.Telling.{IsFront, ToldPart, in_progress};
 ghost use Rattle.media_core.specs.Media.{Image, Holds, Torn, AtFile, Same, Tells};
+ghost use Rattle.media_core.specs.Still.{IsStill};
 
 use std::alloc::AllocError;
 use thiserror::Error;
@@ -89,7 +90,7 @@ pub trait Media {
     /// Waits until a file is on the disk: from then on a crash leaves of it what a read gives.
     fn sync(&mut self, f: u32) -> Result<(), Failed>
         requires { IsTrue (present self.old f) }
-        ensures durable { tells → OnOk result ((c : Image) → time.may_leave self.new c → c.file f ≡ (seen self.old).file f) }
+        ensures durable { tells → OnOk result (IsStill time seen f self.new) }
         ensures seen { tells → seen self.new ≡ seen self.old }
         ensures crash { tells → Leads time self.old self.new Same }
         ensures count { count self.new ≡ count self.old }
@@ -98,6 +99,7 @@ pub trait Media {
         ensures tell_faults { tell_faults self.new ≡ tell_faults self.old };
 
     /// Takes a front of a piece for the output, and says how many bytes of it. It takes none only where the piece is empty.
+    /// Where it fails, what was told has all of the piece that may be out: a crash leaves a front of it.
     fn tell(&mut self, piece: &[u8]) -> Result<usize, Failed>
         ensures front { IfOk result (λ n. n ≤ length piece.now) }
         ensures some { IfOk result (λ n. n ≡ 0 → length piece.now ≡ 0) }
@@ -122,4 +124,7 @@ pub trait Media {
 
     /// What reads give is one of the images.
     ghost seen_may_be_left: { (s : Self) → tells → time.may_leave s (seen s) };
+
+    /// What was told of an image is a front of what was told.
+    ghost told_left: { (s : Self) (c : Image) → tells → time.may_leave s c → IsFront c.told (seen s).told };
 }

@@ -1,9 +1,12 @@
 // Files and an output in memory.
-ghost use Rattle.std.specs.Prelude.{◌≡◌, ◌+◌, ◌<◌, ◌≤◌, ◌^◌, [], ◌∷◌, ℕ, List, length, take, drop, IfOk, OnOk, OnErr, IsTrue, ◌++◌, vec_len, true, false, not, ◌↔◌, min, ◌-◌, ◌≢◌};
+ghost use Rattle.std.specs.Prelude.{◌≡◌, ◌+◌, ◌<◌, ◌≤◌, ◌^◌, [], ◌∷◌, ℕ, List, length, take, drop, IfOk, OnOk, OnErr, IsTrue, ◌++◌, vec_len, true, false, not, min, ◌-◌, ◌≢◌};
 ghost use Rattle.crash_moments.specs.Moments.{Leads, HasCause};
 ghost use Rattle.crash_moments.specs.Telling.{ToldPart, in_progress};
-ghost use Rattle.media_core.specs.Media.{Image, Holds, Torn, AtFile, Same, Tells, taken_by, nothing};
-ghost use Rattle.media_core.specs.Events.{file_bytes, is_here, seen_after, IsLeft, LeftAfter, PickedAfter, Gains, TellsMore};
+ghost use Rattle.media_core.specs.Media.{Image, Holds, Torn, AtFile, Same, Tells, nothing};
+ghost use Rattle.media_core.specs.Presence.{is_here};
+ghost use Rattle.media_core.specs.Still.{IsStill};
+ghost use Rattle.media_core.specs.Reads.{last_told};
+ghost use Rattle.media_core.specs.Events.{file_bytes, blank, after, ToldLeft, seen_after, IsLeft, LeftAfter, PickedAfter, Gains, TellsMore};
 ghost use Rattle.media_core.specs.Emptied.{NoJournal};
 ghost use Rattle.media_core.specs.Plan.{GainsCall, SamePlan, IsUnplanned, stopped_at};
 
@@ -33,11 +36,15 @@ pub struct MemMedia {
     ghost some_files: { 1 ≤ length away.items },
     ghost few_files: { length away.items ≤ 65536 },
     ghost journal: { is_here away.items 0 ≡ true },
+    ghost reads_left: { (k : ℕ) → LeftAfter past.items k ((seen_after past.items).file k) },
+    ghost told_last: { (seen_after past.items).told ≡ last_told (after past.items blank).told_first (after past.items blank).pieces },
+    ghost fronts: { (c : List ℕ) → ToldLeft (after past.items blank) c → c ≡ take (length c) (seen_after past.items).told },
     ghost absent: { (k : ℕ) (c : List ℕ) → length away.items ≤ k → LeftAfter past.items k c → c ≡ [] },
 }
 
 impl Media for MemMedia {
-    ghost use Rattle.media_core.specs.Kept.{seen_is_left, here_below};
+    ghost use Rattle.media_core.specs.Presence.{here_below};
+    ghost use Rattle.media_core.specs.Reads.{told_is_left};
     ghost use Rattle.media_core.specs.Files.{seen_of, events_of, moments_of, count_of, present_of, faults_of, tell_faults_of, FailsAsPlanned, IsCounted, IsAsked};
 
     ghost tells = { Unit {0} };
@@ -62,7 +69,9 @@ impl Media for MemMedia {
 
     ghost here_below = { λ m f. here_below m.away.items f };
 
-    ghost seen_may_be_left = { λ m told. seen_is_left m.past.items };
+    ghost seen_may_be_left = { λ m told. record { files = m.reads_left; told = told_is_left (after m.past.items blank).told_first (after m.past.items blank).pieces (seen_of m).told m.told_last } };
+
+    ghost told_left = { λ m c told left. (length c.told, m.fronts c.told left.told) };
 
     fn count(&self) -> u32 {
         self.away.len() as u32
@@ -146,7 +155,7 @@ impl Media for MemMedia {
 
     fn sync(&mut self, f: u32) -> Result<(), Failed>
         requires { IsTrue (present_of self.old f) }
-        ensures durable { OnOk result ((c : Image) → moments_of.may_leave self.new c → c.file f ≡ (seen_of self.old).file f) }
+        ensures durable { OnOk result (IsStill moments_of seen_of f self.new) }
         ensures seen { seen_of self.new ≡ seen_of self.old }
         ensures crash { Leads moments_of self.old self.new Same }
         ensures count { count_of self.new ≡ count_of self.old }
@@ -181,20 +190,19 @@ impl Media for MemMedia {
         ensures cause { HasCause (tell_faults_of self.old) (tell_faults_of self.new) result }
         ensures faults { faults_of self.new ≡ faults_of self.old }
         ensures all { IfOk result (λ n. n ≡ length piece.now) }
-        ensures asked { IsAsked (TellsMore (events_of self.old) (events_of self.new) piece.now (taken_by result)) self.old self.new result }
+        ensures asked { IsAsked (TellsMore (events_of self.old) (events_of self.new) piece.now) self.old self.new result }
         ensures counted { IsCounted self.old self.new result }
     {
         let turn = self.failures.begin_tell();
         if turn == Turn::Fails {
             return Err(Failed);
         }
-        let taken = taken_in(turn, piece);
-        match keep_tell(self.alloc, &mut self.told, &mut self.past, piece, taken) {
+        match keep_tell(self.alloc, &mut self.told, &mut self.past, piece) {
             Ok(()) => {
                 if turn == Turn::Stops {
                     return Err(Failed);
                 }
-                Ok(taken)
+                Ok(piece.len())
             }
             Err(_) => {
                 self.failures.refuse_tell();
@@ -204,17 +212,7 @@ impl Media for MemMedia {
     }
 }
 
-/// How much of a piece a call takes: all of it, or nothing where it is stopped.
-fn taken_in(turn: Turn, piece: &[u8]) -> usize
-    ensures within { result ≤ length piece.now }
-    ensures goes { turn ≢ Turn.Stops → result ≡ length piece.now }
-    ensures stops { turn ≡ Turn.Stops → result ≡ 0 }
-{
-    if turn == Turn::Stops { 0 } else { piece.len() }
-}
-
 impl MemMedia {
-    ghost use Rattle.media_core.specs.Model.{MayLeave};
     ghost use Rattle.media_core.specs.Files.{seen_of, events_of, moments_of, count_of, present_of, faults_of, tell_faults_of, wants_of, plan_of, IsFresh, IsNew, SameButPlan, SameButPresence};
 
     /// Empty files, all of them here, and nothing told. The number of files is 1 to 65,536.
@@ -250,7 +248,8 @@ impl MemMedia {
         }
     }
 
-    /// Makes that call and all later ones fail. A `write` or `tell` that is so stopped is in progress.
+    /// Makes that call and all later ones fail. A `write` or `tell` that is so stopped is in progress: a crash may leave any of
+    /// the one, and any front of the other.
     pub fn stop_at(&mut self, call: u64)
         ensures plan { plan_of self.new ≡ stopped_at (plan_of self.old) call }
         ensures rest { SameButPlan self.old self.new }
@@ -266,7 +265,7 @@ impl MemMedia {
         self.failures.wants()
     }
 
-    /// The output: the bytes that were told.
+    /// The output: the bytes that were told, with the piece of a `tell` that was stopped.
     pub fn told(&self) -> &[u8]
         ensures { result.now ≡ (seen_of self.now).told }
     {
@@ -319,13 +318,6 @@ impl MemMedia {
         empty_first(&mut self.files);
         empty_in_all(&mut self.past);
     }
-
-    /// A law: a crash may leave just what the disk model allows, no less and no more. Of each file that is what was synced,
-    /// with any bytes in the ranges that were written since and past the old end, at a length between; of the output what
-    /// was there at the start, or what was told before a piece with a front of that piece.
-    pub fn leaves_by_the_disk_model(&self)
-        ensures { (c : Image) → moments_of.may_leave self.now c ↔ MayLeave self.now c }
-    {}
 
     /// Files and an output as they are found at a start, all of it on the disk.
     fn opened(

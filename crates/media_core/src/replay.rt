@@ -93,7 +93,7 @@ fn replay_event(
             replay_sync(alloc, files, picked, *f)?;
             Ok(())
         }
-        Event::Tell(_, _) => Ok(()),
+        Event::Tell(_) => Ok(()),
     }
 }
 

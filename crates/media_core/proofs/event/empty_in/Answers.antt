@@ -31,4 +31,4 @@ returns-in-Sync c = λ es es' emptied.
 
 pub returns-in-Tell : goal.returns-in-Tell
 returns-in-Tell c = λ es es' emptied.
-    subst (λ (x : Event). NoJournal (es ++ x ∷ []) (es' ++ x ∷ [])) (sym c.in-Tell.is) (pushed es es' _ _ (tell_same (after es blank) (after es' blank) emptied c.in-Tell.field-0 c.in-Tell.field-1))
+    subst (λ (x : Event). NoJournal (es ++ x ∷ []) (es' ++ x ∷ [])) (sym c.in-Tell.is) (pushed es es' _ _ (tell_same (after es blank) (after es' blank) emptied c.in-Tell.field-0))

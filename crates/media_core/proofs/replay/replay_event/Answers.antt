@@ -26,7 +26,7 @@ returns-in_ok-second-in-Opened c = λ es tracks.
 
 pub returns-in-Tell : goal.returns-in-Tell
 returns-in-Tell c = λ es. matched c.args.pick c.args.pick es c.args.event.now _ c.args.files.now.items c.args.picked.now.items c.args.files.now.items c.args.picked.now.items refl c.in-Tell.is
-    (tells c.args.pick es c.in-Tell.field-0 c.in-Tell.field-1 c.args.files.now.items c.args.picked.now.items)
+    (tells c.args.pick es c.in-Tell.field-0 c.args.files.now.items c.args.picked.now.items)
 
 pub returns-in_ok-replay_sync-in-Sync : goal.returns-in_ok-replay_sync-in-Sync
 returns-in_ok-replay_sync-in-Sync c = λ es. matched c.args.pick c.args.pick es c.args.event.now _ c.args.files.now.items c.args.picked.now.items c.args.files.now.items c.replay_sync.new.picked.items refl c.in-Sync.is

@@ -1,5 +1,5 @@
 use Rattle.std.proofs.Common.{◌<◌, ◌≤◌, length, sym, ◌∙◌, ap, subst}
-use Rattle.media_core.proofs.Memory.{here_is, here_past}
+use Rattle.media_core.specs.Presence.{here_is, here_past}
 use Rattle.std.proofs.Common.{slice_index_or}
 use Rattle.media_core.proofs.mem.MemMediaMedia.here.Goals as goal
 

@@ -1,6 +1,6 @@
 use Rattle.std.proofs.Common.{◌≡◌, ◌<◌, length, vec_len, sym, ◌∙◌, ap, arith, rules}
 use Rattle.media_core.proofs.Files.{file_bytes_at}
-use Rattle.media_core.specs.Kept.{here_below}
+use Rattle.media_core.specs.Presence.{here_below}
 use Rattle.media_core.proofs.mem.MemMediaMedia.len.Goals as goal
 
 pub index-requires : goal.index-requires

@@ -1,5 +1,5 @@
 use Rattle.std.proofs.Common.{◌<◌, length, arith}
-use Rattle.media_core.specs.Kept.{here_below}
+use Rattle.media_core.specs.Presence.{here_below}
 use Rattle.media_core.proofs.mem.MemMediaMedia.read.Goals as goal
 
 pub copy_part-requires-clause-here : goal.copy_part-requires-clause-here

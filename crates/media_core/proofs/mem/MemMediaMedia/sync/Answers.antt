@@ -1,5 +1,6 @@
 use Rattle.std.proofs.Common.{◌≡◌, length, sym, ◌∙◌, ap}
 use Rattle.media_core.specs.Events.{seen_after}
+use Rattle.media_core.proofs.DiskModel.{always_read, told_is_front}
 use Rattle.media_core.proofs.Memory.{sync_leads, sync_keeps, sync_shows, sync_absent}
 use Rattle.media_core.proofs.mem.MemMediaMedia.sync.Goals as goal
 
@@ -23,3 +24,12 @@ returns-in-Ok-clause-durable c = sync_keeps c.args.self.now.past.items _ c.args.
 
 pub returns-in-Ok-clause-crash : goal.returns-in-Ok-clause-crash
 returns-in-Ok-clause-crash c = sync_leads c.args.self.now _ c.args.f c.in-Ok.ensures.ok
+
+pub invariant_of-self-in-Ok-clause-reads_left : goal.invariant_of-self-in-Ok-clause-reads_left
+invariant_of-self-in-Ok-clause-reads_left c = (always_read c.keep_sync.new.past.items).files
+
+pub invariant_of-self-in-Ok-clause-told_last : goal.invariant_of-self-in-Ok-clause-told_last
+invariant_of-self-in-Ok-clause-told_last c = (always_read c.keep_sync.new.past.items).last
+
+pub invariant_of-self-in-Ok-clause-fronts : goal.invariant_of-self-in-Ok-clause-fronts
+invariant_of-self-in-Ok-clause-fronts c = told_is_front c.keep_sync.new.past.items

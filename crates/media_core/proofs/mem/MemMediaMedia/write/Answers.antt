@@ -1,6 +1,7 @@
 use Rattle.std.proofs.Common.{◌<◌, ◌≤◌, length, sym, ◌∙◌, ap, arith}
 use Rattle.media_core.specs.Events.{file_bytes}
-use Rattle.media_core.specs.Kept.{here_below}
+use Rattle.media_core.specs.Presence.{here_below}
+use Rattle.media_core.proofs.DiskModel.{always_read, told_is_front}
 use Rattle.media_core.proofs.Memory.{write_shows, write_told, write_leads, write_absent}
 use Rattle.media_core.proofs.mem.MemMediaMedia.write.Goals as goal
 
@@ -28,3 +29,12 @@ returns-then-eq-2-clause-crash c = write_leads c.args.self.now _ c.args.f c.args
 
 pub returns-else-eq-2-clause-crash : goal.returns-else-eq-2-clause-crash
 returns-else-eq-2-clause-crash c = write_leads c.args.self.now _ c.args.f c.args.at c.args.from.now c.requires.at c.in-Ok.ensures.past
+
+pub invariant_of-self-in-Ok-clause-reads_left : goal.invariant_of-self-in-Ok-clause-reads_left
+invariant_of-self-in-Ok-clause-reads_left c = (always_read c.keep_write.new.past.items).files
+
+pub invariant_of-self-in-Ok-clause-told_last : goal.invariant_of-self-in-Ok-clause-told_last
+invariant_of-self-in-Ok-clause-told_last c = (always_read c.keep_write.new.past.items).last
+
+pub invariant_of-self-in-Ok-clause-fronts : goal.invariant_of-self-in-Ok-clause-fronts
+invariant_of-self-in-Ok-clause-fronts c = told_is_front c.keep_write.new.past.items
