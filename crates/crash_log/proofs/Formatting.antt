@@ -6,7 +6,7 @@ use Rattle.std.proofs.lemmas.List.{length-take}
 use Rattle.crash_moments.specs.Moments.{Moments, Leads}
 use Rattle.crash_moments.proofs.Joining.{weakened, joined, stays}
 use Rattle.media_core.specs.Media.{Image, Torn, AtFile, Holds, written}
-use Rattle.media_core.specs.Kept.{written_torn}
+use Rattle.media_core.specs.Laws.{written_torn}
 use Rattle.crash_log.specs.Log.{span, place_of, IsFine, gate_at, place_at, is_good, log_of, is_damaged, HasLog}
 use Rattle.crash_log.specs.State.{settled_bytes, empty_state}
 use Rattle.crash_log.specs.Fit.{Stands, IsReady, IsStill, SameLog}

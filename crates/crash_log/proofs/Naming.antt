@@ -3,7 +3,7 @@ use Rattle.std.proofs.Common.{◌≡◌, inl, ℕ, ◌+◌, ◌≤◌, List, len
 use Rattle.crash_moments.specs.Moments.{Moments, Leads}
 use Rattle.crash_moments.proofs.Joining.{weakened}
 use Rattle.media_core.specs.Media.{Image, Torn, AtFile, Holds, written}
-use Rattle.media_core.specs.Kept.{written_torn}
+use Rattle.media_core.specs.Laws.{written_torn}
 use Rattle.crash_log.specs.Log.{Place, place_of, gate_at, place_at, HasLog}
 use Rattle.crash_log.specs.State.{base_of, other_of, place_in, settled_bytes}
 use Rattle.crash_log.specs.Fit.{Stands, IsStill, SameBehind}

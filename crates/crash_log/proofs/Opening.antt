@@ -4,7 +4,7 @@ use Rattle.std.proofs.lemmas.Bool.{cases_eq}
 use Rattle.crash_moments.specs.Moments.{Moments, Leads}
 use Rattle.crash_moments.proofs.Joining.{weakened}
 use Rattle.media_core.specs.Media.{Image, Torn, AtFile, Holds}
-use Rattle.media_core.specs.Kept.{written_torn}
+use Rattle.media_core.specs.Laws.{written_torn}
 use Rattle.crash_log.specs.Log.{span, Place, place_of, gate_at, log_of, HasOneOf}
 use Rattle.crash_log.specs.State.{base_of, other_of, place_in, settled_bytes, moved_to}
 use Rattle.crash_log.specs.Fit.{Stands, Yields, IsReady, IsStill, SameBehind}

@@ -3,7 +3,7 @@ use Rattle.std.proofs.Common.{◌≡◌, inl, ℕ, ◌+◌, ◌≤◌, Bool, Lis
 use Rattle.crash_moments.specs.Moments.{Moments, Leads}
 use Rattle.crash_moments.proofs.Joining.{weakened}
 use Rattle.media_core.specs.Media.{Image, Torn, AtFile, Holds}
-use Rattle.media_core.specs.Kept.{written_torn}
+use Rattle.media_core.specs.Laws.{written_torn}
 use Rattle.crash_log.specs.Log.{gate_at, log_of, HasLog}
 use Rattle.crash_log.specs.State.{base_of, other_of, place_in, settled_bytes}
 use Rattle.crash_log.specs.Fit.{Stands, Other, IsReady, IsStill, IsStale, SameBehind, SameLog}

@@ -4,7 +4,7 @@ use Rattle.std.proofs.lemmas.List.{length-take, drop-drop}
 use Rattle.crash_moments.specs.Moments.{Moments, Stepped, Leads}
 use Rattle.crash_moments.proofs.Joining.{weakened}
 use Rattle.media_core.specs.Media.{Image, Torn, AtFile, Holds, written}
-use Rattle.media_core.specs.Kept.{written_torn}
+use Rattle.media_core.specs.Laws.{written_torn}
 use Rattle.crash_log.specs.Log.{span, Place, place_of, gate_at, place_at, HasLog}
 use Rattle.crash_log.specs.State.{base_of, other_of, place_in, settled_bytes, with_more}
 use Rattle.crash_log.specs.Fit.{Stands, Other, IsReady, as_read}

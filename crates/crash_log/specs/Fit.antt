@@ -2,6 +2,7 @@
 use Rattle.std.specs.Prelude.{◌≡◌, ◌≢◌, ◌⊎◌, ◌↔◌, ℕ, ◌+◌, ◌<◌, ◌≤◌, Bool, false, List, length, MatchBool, IsTrue}
 use Rattle.crash_moments.specs.Moments.{Moments}
 use Rattle.media_core.specs.Media.{Image}
+pub use Rattle.media_core.specs.Still.{IsStill}
 use Rattle.crash_log.specs.Log.{span, Place, IsFine, gate_at, place_at, is_good, successor}
 use Rattle.crash_log.specs.State.{base_of, other_of, place_in, settled_bytes, put_bytes, empty_state}
 use Rattle.crash_log.specs.declared.state.LogState.{LogState}
@@ -43,10 +44,6 @@ pub record IsReady {D : Type 0} (moments : Moments D Image) (seen : D → Image)
   pub put : log.start + (log.size + log.more) ≤ length ((seen media).file log.file)
   pub stands : (c : Image) → moments.may_leave media c → Stands (base_of log) (place_in log) (settled_bytes log ((seen media).file log.file)) (c.file log.file)
   pub other : (c : Image) → moments.may_leave media c → Other log.other_open (other_of log) log.turn (c.file log.file)
-
--- no write to the file waits for a sync: in each image the file is as it is read
-abbrev pub IsStill : {D : Type 0} → Moments D Image → (D → Image) → ℕ → D → Type 0
-IsStill moments seen f media = (c : Image) → moments.may_leave media c → c.file f ≡ (seen media).file f
 
 -- the file is blank
 pub record IsBlank {D : Type 0} (moments : Moments D Image) (seen : D → Image) (log : LogState) (media : D) : Type 0 where

@@ -1,5 +1,5 @@
 // A log in a file of a media.
-ghost use Rattle.std.specs.Prelude.{◌≡◌, ◌+◌, ◌^◌, ◌<◌, ◌≤◌, ◌++◌, ◌⊎◌, ◌↔◌, List, ℕ, length, take, drop, OnOk, OnErr, IfOk, IsTrue, Err};
+ghost use Rattle.std.specs.Prelude.{◌≡◌, ◌+◌, ◌^◌, ◌<◌, ◌≤◌, ◌++◌, ◌⊎◌, ◌↔◌, List, ℕ, length, take, drop, OnOk, OnErr, IfOk, IsTrue, Err, false};
 ghost use Rattle.crash_moments.specs.Moments.{Leads, HasCause, HasCauseAt};
 ghost use Rattle.media_core.specs.Media.{Image, AtFile, Same};
 ghost use Rattle.crash_log.specs.Log.{is_damaged, log_of, HasLog, HasOneOf, Any};
@@ -168,6 +168,7 @@ impl CrashLog {
         ensures bytes { M.tells → OnOk result (log_bytes self.new ((M.seen media.new).file (file_of self.old)) ≡ log_bytes self.old ((M.seen media.old).file (file_of self.old))) }
         ensures durable { M.tells → OnOk result ((c : Image) → M.time.may_leave media.new c → log_of (c.file (file_of self.old)) ≡ log_bytes self.old ((M.seen media.old).file (file_of self.old))) }
         ensures still { M.tells → OnOk result (IsStill M.time M.seen (file_of self.old) media.new) }
+        ensures whole { M.tells → OnOk result (is_damaged ((M.seen media.new).file (file_of self.old)) ≡ false) }
         ensures frame { M.tells → OnOk result (AtFile (file_of self.old) Any (M.seen media.old) (M.seen media.new)) }
         ensures crash { M.tells → Survives M.time M.seen self.old media.old → Leads M.time media.old media.new (AtFile (file_of self.old) (HasOneOf (settled_log self.old ((M.seen media.old).file (file_of self.old))) (log_bytes self.old ((M.seen media.old).file (file_of self.old))))) }
         ensures count { M.count media.new ≡ M.count media.old }
@@ -193,6 +194,7 @@ impl CrashLog {
         ensures bytes { M.tells → OnOk result (log_bytes self.new ((M.seen media.new).file (file_of self.old)) ≡ take n (log_bytes self.old ((M.seen media.old).file (file_of self.old)))) }
         ensures durable { M.tells → OnOk result ((c : Image) → M.time.may_leave media.new c → log_of (c.file (file_of self.old)) ≡ take n (log_bytes self.old ((M.seen media.old).file (file_of self.old)))) }
         ensures still { M.tells → OnOk result (IsStill M.time M.seen (file_of self.old) media.new) }
+        ensures whole { M.tells → OnOk result (is_damaged ((M.seen media.new).file (file_of self.old)) ≡ false) }
         ensures frame { M.tells → OnOk result (AtFile (file_of self.old) Any (M.seen media.old) (M.seen media.new)) }
         ensures crash { M.tells → Survives M.time M.seen self.old media.old → Leads M.time media.old media.new (AtFile (file_of self.old) (HasOneOf (settled_log self.old ((M.seen media.old).file (file_of self.old))) (take n (log_bytes self.old ((M.seen media.old).file (file_of self.old)))))) }
         ensures count { M.count media.new ≡ M.count media.old }
@@ -219,6 +221,7 @@ impl CrashLog {
         ensures bytes { M.tells → OnOk result (log_bytes self.new ((M.seen media.new).file (file_of self.old)) ≡ bytes.now) }
         ensures durable { M.tells → OnOk result ((c : Image) → M.time.may_leave media.new c → log_of (c.file (file_of self.old)) ≡ bytes.now) }
         ensures still { M.tells → OnOk result (IsStill M.time M.seen (file_of self.old) media.new) }
+        ensures whole { M.tells → OnOk result (is_damaged ((M.seen media.new).file (file_of self.old)) ≡ false) }
         ensures frame { M.tells → OnOk result (AtFile (file_of self.old) Any (M.seen media.old) (M.seen media.new)) }
         ensures crash { M.tells → Survives M.time M.seen self.old media.old → Leads M.time media.old media.new (AtFile (file_of self.old) (HasOneOf (settled_log self.old ((M.seen media.old).file (file_of self.old))) bytes.now)) }
         ensures count { M.count media.new ≡ M.count media.old }
@@ -246,6 +249,7 @@ impl CrashLog {
         ensures bytes { M.tells → OnOk result (log_bytes self.new ((M.seen media.new).file (file_of self.old)) ≡ bytes.now) }
         ensures durable { M.tells → OnOk result ((c : Image) → M.time.may_leave media.new c → log_of (c.file (file_of self.old)) ≡ bytes.now) }
         ensures still { M.tells → OnOk result (IsStill M.time M.seen (file_of self.old) media.new) }
+        ensures whole { M.tells → OnOk result (is_damaged ((M.seen media.new).file (file_of self.old)) ≡ false) }
         ensures frame { M.tells → OnOk result (AtFile (file_of self.old) Any (M.seen media.old) (M.seen media.new)) }
         ensures crash { M.tells → Survives M.time M.seen self.old media.old → Leads M.time media.old media.new (AtFile (file_of self.old) (HasOneOf (settled_log self.old ((M.seen media.old).file (file_of self.old))) bytes.now)) }
         ensures count { M.count media.new ≡ M.count media.old }

@@ -8,7 +8,7 @@ ghost use Rattle.crash_log.specs.State.{IsBounded, empty_state};
 ghost use Rattle.crash_log.specs.Fit.{as_read};
 ghost use Rattle.crash_log.specs.Opened.{IsSlot, IsOpened, opened_state, stale_where};
 
-use crate::state::{LogState, Needs, following};
+use crate::state::{LogState, MOST_SIZE, MOST_START, Needs, SLOT, SLOTS, following};
 use media_core::{Failed, Media};
 
 /// What a slot says: whether its gate is 1, and its fields.
@@ -53,9 +53,9 @@ impl Slot {
     {
         self.open
             && self.turn <= 2
-            && 8192 <= self.start
-            && self.start <= 1 << 40
-            && self.size <= 1 << 38
+            && SLOTS <= self.start
+            && self.start <= MOST_START
+            && self.size <= MOST_SIZE
             && self.start <= long
             && self.size <= long - self.start
     }
@@ -88,7 +88,7 @@ fn empty(f: u32, limit: u64, needs: Needs) -> LogState
         needs,
         second: false,
         turn: 0,
-        start: 8192,
+        start: SLOTS,
         size: 0,
         more: 0,
         other_open: false,
@@ -162,7 +162,7 @@ fn read_slots<M: Media>(media: &mut M, f: u32) -> Result<(Slot, Slot), Failed>
     ensures tell_faults { M.tell_faults media.new ≡ M.tell_faults media.old }
 {
     let first = read_slot(media, f, 0)?;
-    let second = read_slot(media, f, 4096)?;
+    let second = read_slot(media, f, SLOT)?;
     Ok((first, second))
 }
 
@@ -210,7 +210,7 @@ pub fn read_state<M: Media>(media: &mut M, f: u32, limit: u64) -> Result<LogStat
     ensures tell_faults { M.tell_faults media.new ≡ M.tell_faults media.old }
 {
     let long = media.len(f)?;
-    if long < 8192 {
+    if long < SLOTS {
         return Ok(empty(f, limit, Needs::Blank));
     }
     let state = state_of_slots(media, f, limit, long)?;

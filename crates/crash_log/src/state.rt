@@ -2,6 +2,18 @@
 ghost use Rattle.std.specs.Prelude.{◌≡◌, ◌≤◌};
 ghost use Rattle.crash_log.specs.Log.{successor};
 
+/// Where the log's bytes may begin: behind the two slots.
+pub const SLOTS: u64 = 8192;
+
+/// How long a slot is.
+pub const SLOT: u64 = 4096;
+
+/// The greatest start of a good slot.
+pub const MOST_START: u64 = 1 << 40;
+
+/// The greatest size of a good slot.
+pub const MOST_SIZE: u64 = 1 << 38;
+
 /// What has to be done to the file before the first put, commit, cut or replace: nothing; formatting, of a blank file or of
 /// a damaged one, of which is said which gates are 1; or closing the other gate, which is 1 though its slot isn't good.
 #[derive(Clone, Copy, Debug)]
@@ -34,7 +46,7 @@ impl LogState {
     pub fn other(&self) -> u64
         ensures { result ≡ other_of self.now }
     {
-        if self.second { 0 } else { 4096 }
+        if self.second { 0 } else { SLOT }
     }
 
     /// The state once the other slot is the current one, at this place.

@@ -8,14 +8,14 @@ use std::alloc::{AllocError, Global};
 use std::test::Fail;
 
 /// A file that isn't here isn't read.
-fn check(is_here: bool) -> Result<(), Failed>
+pub fn check(is_here: bool) -> Result<(), Failed>
     ensures { OnOk result (IsTrue is_here) }
 {
     if is_here { Ok(()) } else { Err(Failed) }
 }
 
 /// Puts bytes into the log of a file, and commits them where that is asked.
-fn add<M: Media>(media: &mut M, f: u32, bytes: &[u8], commits: bool) -> Result<(), PutFault> {
+pub fn add<M: Media>(media: &mut M, f: u32, bytes: &[u8], commits: bool) -> Result<(), PutFault> {
     if !media.here(f) {
         return Err(PutFault::Failed);
     }
@@ -55,7 +55,7 @@ fn fill<M: Media>(media: &mut M, f: u32, bytes: &[u8]) -> Result<(), Failed>
 }
 
 /// A media of two files, of which the second one has these bytes.
-fn media_with(alloc: Global, bytes: &[u8]) -> Result<MemMedia, Fail>
+pub fn media_with(alloc: Global, bytes: &[u8]) -> Result<MemMedia, Fail>
     requires { length bytes.now < 2 ^ 32 }
 {
     let mut media = MemMedia::new(alloc, 2)?;

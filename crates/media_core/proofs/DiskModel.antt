@@ -1,11 +1,11 @@
 -- What one event more makes of what a crash may leave, by the disk model.
-use Rattle.std.proofs.Common.{◌≡◌, ◌≢◌, ◌⊎◌, inl, inr, ⊎_elim, ◌↔◌, ℕ, zero, suc, ◌+◌, ◌-◌, ◌<◌, ◌≤◌, min, max, nat_le, nat_lt, ◌&&◌, ◌==◌, if◌then◌else◌, Bool, true, false, List, [], ◌∷◌, ◌++◌, length, take, drop, get_or, map, slice_index, Vec, refl, sym, ◌∙◌, ap, subst, arith, length-append, length-drop}
+use Rattle.std.proofs.Common.{◌≡◌, ◌≢◌, ◌⊎◌, inl, inr, ⊎_elim, ◌↔◌, ℕ, zero, suc, ◌+◌, ◌-◌, ◌<◌, ◌≤◌, min, max, nat_le, nat_lt, ◌&&◌, ◌==◌, if◌then◌else◌, Bool, true, false, List, [], ◌∷◌, ◌++◌, length, take, drop, get_or, map, slice_index, Vec, refl, sym, ◌∙◌, ap, subst, arith, length-drop}
 use Rattle.std.specs.declared.alloc.Global.{Global}
 use Rattle.std.specs.Prelude.{Contains}
 use Rattle.std.specs.List.{range_with_len}
 use Rattle.std.proofs.lemmas.Bool.{cases_lt, cases_eq}
 use Rattle.std.proofs.lemmas.Bool.Decides.{nat_tests}
-use Rattle.std.proofs.lemmas.List.{ext_get_or, get_or-take, get_or-drop, length-take, length-take-le, take_all, take_at, drop_at}
+use Rattle.std.proofs.lemmas.List.{ext_get_or, get_or-take, get_or-drop, length-take, take_all}
 use Rattle.std.proofs.lemmas.List.FromFn.{length-map-range_with_len, get_or-map-range_with_len}
 use Rattle.media_core.specs.declared.event.Event.{Event}
 use Rattle.media_core.specs.declared.event.Event.TheVariants.{Opened, Write, Sync, Tell}
@@ -15,6 +15,7 @@ use Rattle.media_core.specs.Media.{Torn, written}
 use Rattle.media_core.specs.Disk.{Range, FileMayLeave, Piece, OutputMayLeave}
 use Rattle.media_core.specs.Events.{Contents, blank, happens, after, file_bytes, FileLeft, ToldLeft, seen_after}
 use Rattle.media_core.specs.Reads.{last_told}
+use Rattle.media_core.specs.Laws.{written_torn}
 use Rattle.media_core.proofs.Fill.{length-written, covers_before, covers_behind, covers_here, same_of, other_of}
 
 -- a file that is all on the disk
@@ -195,23 +196,6 @@ opened_left s files told k c left = fresh_only (file_bytes files.items k) c left
 
 pub opened_allows : (s : Contents) (files : Vec (Vec ℕ Global) Global) (told : Vec ℕ Global) (k : ℕ) (c : List ℕ) → c ≡ file_bytes files.items k → FileLeft (happens (Opened files told) s) k c
 opened_allows s files told k c is = fresh_allows (file_bytes files.items k) c is
-
--- a write that isn't cut short is one of those that are
-pub written_torn : (at : ℕ) (bytes old : List ℕ) → at ≤ length old → Torn at (length bytes) old (written at bytes old)
-written_torn at bytes old within =
-    let front : length (take at old) ≡ at = length-take-le at old within in
-    let both : length (take at old ++ bytes) ≡ at + length bytes = omega (arith, front, length-append (take at old) bytes) in
-    let all : length (written at bytes old) ≡ length (take at old ++ bytes) + length (drop (at + length bytes) old) = length-append (take at old ++ bytes) (drop (at + length bytes) old) in
-    record {
-      before = ap (λ (l : List ℕ). take at l) (reassoc (take at old) bytes (drop (at + length bytes) old)) ∙ take_at (take at old) (bytes ++ drop (at + length bytes) old) at front;
-      after = drop_at (take at old ++ bytes) (drop (at + length bytes) old) (at + length bytes) both;
-      no_shorter = omega (arith, all, both, length-drop (at + length bytes) old);
-      no_longer = omega (arith, all, both, length-drop (at + length bytes) old);
-    }
-  where
-    reassoc : (a b c : List ℕ) → (a ++ b) ++ c ≡ a ++ (b ++ c)
-    reassoc [] b c = refl
-    reassoc (x ∷ a) b c = ap (λ (l : List ℕ). x ∷ l) (reassoc a b c)
 
 write_reads : (f at : ℕ) (bytes : List ℕ) (left : List ℕ → Type 0) (old : List ℕ) (k : ℕ) → left old
     → WriteLeaves (min at (length old)) (length bytes) (k ≢ f) left (if k == f then written (min at (length old)) bytes old else old)

@@ -9,7 +9,8 @@ use Rattle.media_core.specs.declared.replay.Pick.{Pick}
 use Rattle.media_core.specs.declared.replay.Pick.TheVariants as P
 use Rattle.media_core.specs.Media.{Torn, written}
 use Rattle.media_core.specs.Events.{Contents, blank, happens, after, file_bytes, FileLeft, LeftAfter}
-use Rattle.media_core.proofs.DiskModel.{write_left, sync_left, opened_allows, written_torn, always_read}
+use Rattle.media_core.proofs.DiskModel.{write_left, sync_left, opened_allows, always_read}
+use Rattle.media_core.specs.Laws.{written_torn}
 use Rattle.media_core.specs.Tracks.{Tracks, SameLengths}
 use Rattle.media_core.specs.Disk.{IsPicked}
 use Rattle.media_core.proofs.Fill.{length-written, fill_where, picked_fresh, picked_synced, same_of, other_of}

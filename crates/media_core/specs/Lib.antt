@@ -4,6 +4,7 @@ pub mod Emptied
 pub mod Events
 pub mod Files
 pub mod Later
+pub mod Laws
 pub mod Media
 pub mod Plan
 pub mod Presence

@@ -1,10 +1,10 @@
-use Rattle.std.proofs.Common.{ℕ, ◌+◌, List, take, sym, ◌∙◌, ap, subst}
+use Rattle.std.proofs.Common.{ℕ, ◌+◌, List, take, refl, sym, ◌∙◌, ap, subst}
 use Rattle.crash_log.specs.State.{put_bytes, settled_bytes, place_for, moved_to}
-use Rattle.crash_log.specs.Fit.{Fits}
+use Rattle.crash_log.specs.Fit.{Fits, as_read}
 use Rattle.crash_log.specs.declared.state.LogState.{LogState}
 use Rattle.crash_log.proofs.Committing.{before_put, either_log}
 use Rattle.crash_log.proofs.Changing.{span_front, moved_bytes}
-use Rattle.crash_log.proofs.Closing.{ready_log}
+use Rattle.crash_log.proofs.Closing.{ready_log, ready_whole}
 use Rattle.crash_log.proofs.Reading.{ready_still}
 use Rattle.crash_log.proofs.log.CrashLog.cut.Goals as goal
 
@@ -50,3 +50,9 @@ returns-clause-survives g c = λ told.
     let log = c.args.self.now.state in
     subst (λ (l : LogState). Fits m.time m.seen l c.turn_over.new.media) (sym c.moved-self.ensures)
     (ready_still m.time m.seen (moved_to log (place_for log log.start c.args.n)) c.turn_over.new.media (c.in_ok-turn_over.ensures.still told) (c.in_ok-turn_over.ensures.ready told))
+
+pub returns-clause-whole : goal.returns-clause-whole
+returns-clause-whole g c = λ told.
+    let m = g.M.Media in
+    let log = c.args.self.now.state in
+    ready_whole (as_read m.seen) m.seen (moved_to log (place_for log log.start c.args.n)) c.turn_over.new.media (c.in_ok-turn_over.ensures.ready told) (m.seen c.turn_over.new.media) refl
