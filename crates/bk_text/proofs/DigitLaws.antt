@@ -1,6 +1,6 @@
 -- Numbers digit by digit.
 use Rattle.std.proofs.Common.{zero, suc, ℕ, ◌+◌, ◌-◌, ◌*◌, ◌<◌, ◌≤◌, ◌≡◌, List, [], ◌∷◌, ◌++◌, length, take, get_or, Bool, true, false, ◌&&◌, min, refl, sym, ◌∙◌, ap, subst, arith, cond, nat_le, leb}
-use Rattle.std.specs.Prelude.{Some, None}
+use Rattle.std.specs.Prelude.{Option, Some, None, MatchOption, IfSome}
 use Rattle.std.proofs.lemmas.Bool.{le-leb, and_parts, leb-true}
 use Rattle.std.proofs.lemmas.Str.{digit_value_digit}
 use Rattle.bk_text.specs.Digits.{number_of, digits_of}
@@ -86,3 +86,19 @@ digits_within word most n nine less digits is = omega (arith, short_number word 
 
 pub digits_small : (word : List ℕ) (most n : ℕ) → most ≤ 4 → length word ≤ most → all_ascii_digits word ≡ true → n ≡ min (digits_value 10 word) 10000000000 → n < 10000
 digits_small word most n four less digits is = omega (arith, value_short word digits (omega arith))
+
+-- numbers of at most ten digits
+ten_short : (word : List ℕ) → all_ascii_digits word ≡ true → length word ≤ 10 → digits_value 10 word < 10000000000
+ten_short word digits short = digits_value_short own word 10 digits short
+
+capped_is : (v n : ℕ) → v < 10000000000 → n ≡ min v 10000000000 → v ≡ n
+capped_is v n less is = omega arith
+
+pub long_digits : (word : List ℕ) (least most : ℕ) (found : Option ℕ) → most ≤ 10 → least ≤ length word → length word ≤ most → MatchOption found (all_ascii_digits word ≡ false) (λ n. (all_ascii_digits word ≡ true) × (n ≡ min (digits_value 10 word) 10000000000)) → found ≡ digits_of least most word
+long_digits word least most None ten more less none = digits_none word least most more less none
+long_digits word least most (Some n) ten more less is =
+    sym (digits_tested word least most more less ∙ ap (λ (t : Bool). cond t (Some (digits_value 10 word)) None) is.0 ∙ ap Some (capped_is (digits_value 10 word) n (ten_short word is.0 (omega arith)) is.1))
+
+pub long_within : (word : List ℕ) (most : ℕ) (found : Option ℕ) → most ≤ 10 → length word ≤ most → MatchOption found (all_ascii_digits word ≡ false) (λ n. (all_ascii_digits word ≡ true) × (n ≡ min (digits_value 10 word) 10000000000)) → IfSome found (λ n. n < 10000000000)
+long_within word most None ten less none = tt
+long_within word most (Some n) ten less is = let small = ten_short word is.0 (omega arith) in omega (arith, is.1, small)

@@ -1,6 +1,7 @@
 -- How a place is shown.
-use Rattle.std.proofs.Common.{ℕ, ◌+◌, ◌<◌, List, [], ◌++◌, length, take, drop, sym, subst, arith, append_assoc}
-use Rattle.std.proofs.lemmas.List.{take-append-drop, take_all, append-nil}
+use Rattle.std.proofs.Common.{◌≡◌, ℕ, ◌+◌, ◌<◌, ◌≤◌, List, [], ◌++◌, length, take, drop, sym, ◌∙◌, ap, subst, arith, append_assoc, inl, inr}
+use Rattle.std.proofs.lemmas.Bool.{cases_lt}
+use Rattle.std.proofs.lemmas.List.{take-append-drop, take-take, take_all, append-nil}
 use Rattle.bk_text.specs.Places.{Begun, FailsAt}
 
 -- what is whole begins itself
@@ -28,3 +29,23 @@ ends_early Form text begun not_whole = record {
   here = λ lt. absurd (omega arith);
   not_whole = not_whole;
 }
+
+short : (a b n : ℕ) → a < b → b ≤ n → a < n
+short a b n less within = omega arith
+
+-- a place that is told is the only one
+later : (Form : List ℕ → Type 0) (text : List ℕ) (a b : ℕ) → FailsAt Form text a → FailsAt Form text b → a < b → ⊥
+later Form text a b first second less =
+    let front : take (a + 1) (take b text) ≡ take (a + 1) text = take-take (a + 1) b text (omega arith) in
+    let joined : take (a + 1) text ++ drop (a + 1) (take b text) ≡ take b text = ap (λ (l : List ℕ). l ++ drop (a + 1) (take b text)) (sym front) ∙ take-append-drop (a + 1) (take b text) in
+    let in_text : a < length text = short a b (length text) less second.within in
+    first.here in_text (front_begun Form (take (a + 1) text) (drop (a + 1) (take b text)) (subst (Begun Form) (sym joined) second.before))
+
+pub one_place : (Form : List ℕ → Type 0) (text : List ℕ) (a b : ℕ) → FailsAt Form text a → FailsAt Form text b → a ≡ b
+one_place Form text a b first second = elim (cases_lt a b) [
+  | inl less ↦ absurd (later Form text a b first second less)
+  | inr more ↦ elim (cases_lt b a) [
+    | inl less ↦ absurd (later Form text b a second first less)
+    | inr same ↦ omega arith
+  ]
+]

@@ -8,7 +8,7 @@ use Rattle.std.proofs.lemmas.List.{append-nil, get_or-append-add, take-append-le
 use Rattle.std.proofs.lemmas.List.Splits.{slice_split_none, slice_split_at, length-slice_split}
 use Rattle.std.proofs.lemmas.List.Elements.{All-get_or, All-cons, All-nil, All-head, All-tail, All-weaker}
 use Rattle.bk_text.specs.Alphabets.{IsNameByte, IsElement}
-use Rattle.bk_text.specs.LevelPaths.{path_of, IsPathOf, IsLevelPath, IsLastSlash, IsAbove}
+use Rattle.bk_text.specs.LevelPaths.{path_of, elements_of, IsPathOf, IsLevelPath, IsLastSlash, IsAbove}
 
 -- a list with an element has a last one
 pub record HasLast (elements : List (List ℕ)) : Type 0 where
@@ -171,3 +171,10 @@ one_list es fs text a b =
     let pieces_a : slice_split (λ b. b == 47) text ≡ [] ∷ es = ap (slice_split (λ b. b == 47)) a.joined ∙ path_pieces es a.each in
     let pieces_b : slice_split (λ b. b == 47) text ≡ [] ∷ fs = ap (slice_split (λ b. b == 47)) b.joined ∙ path_pieces fs b.each in
     cc
+
+-- the elements of a path that these elements make are these
+pub elements_are : (elements : List (List ℕ)) (text : List ℕ) → IsPathOf elements text → elements_of text ≡ elements
+elements_are elements text is = ap (drop 1) (ap (slice_split (λ b. b == 47)) is.joined ∙ path_pieces elements is.each)
+
+pub of_path : (text : List ℕ) → IsLevelPath text → IsPathOf (elements_of text) text
+of_path text path = subst (λ (es : List (List ℕ)). IsPathOf es text) (sym (elements_are path.elements text path.is)) path.is

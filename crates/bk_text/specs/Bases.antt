@@ -1,10 +1,10 @@
 -- The base name of a volume.
-use Rattle.std.specs.Prelude.{ℕ, ◌-◌, List, [], ◌∷◌, length, take, Bool, ◌&&◌, nat_lt, nat_eq, if◌then◌else◌}
+use Rattle.std.specs.Prelude.{ℕ, ◌-◌, List, length, take, codes, Bool, ◌&&◌, nat_lt, nat_eq, if◌then◌else◌}
 use Rattle.std.specs.List.{ends_with}
 
 -- ".backup", which a backup volume's name ends in
 abbrev pub backup_ending : List ℕ
-backup_ending = 46 ∷ 98 ∷ 97 ∷ 99 ∷ 107 ∷ 117 ∷ 112 ∷ []
+backup_ending = codes ".backup"
 
 -- a name with something before that ending
 abbrev pub is_backup_name : List ℕ → Bool

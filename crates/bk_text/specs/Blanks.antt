@@ -15,3 +15,7 @@ words_of text = filter (λ word. nat_lt 0 (length word)) (slice_split is_blank t
 -- a word in either case
 abbrev pub is_same_word : List ℕ → List ℕ → Bool
 is_same_word word known = pointwise nat_eq (map to_ascii_lowercase word) known
+
+-- the same text
+abbrev pub is_same_text : List ℕ → List ℕ → Bool
+is_same_text = pointwise (λ a b. a == b)

@@ -1,11 +1,15 @@
 -- The path of a dump level.
-use Rattle.std.specs.Prelude.{◌≡◌, ℕ, ◌<◌, ◌≤◌, List, [], ◌∷◌, ◌++◌, length, All, ◌⊎◌, Option, Some, None}
-use Rattle.std.specs.List.{flat_map}
+use Rattle.std.specs.Prelude.{◌≡◌, ℕ, ◌<◌, ◌≤◌, List, [], ◌∷◌, ◌++◌, length, drop, ◌==◌, All, ◌⊎◌, Option, Some, None}
+use Rattle.std.specs.List.{flat_map, slice_split}
 use Rattle.bk_text.specs.Alphabets.{IsNameByte, IsElement}
 
 -- the path of these elements: each has a slash in front
 abbrev pub path_of : List (List ℕ) → List ℕ
 path_of elements = flat_map (λ element. 47 ∷ element) elements
+
+-- the elements of a path: what stands behind each of its slashes
+abbrev pub elements_of : List ℕ → List (List ℕ)
+elements_of path = drop 1 (slice_split (λ b. b == 47) path)
 
 -- a text that is the path of these elements of a level
 pub record IsPathOf (elements : List (List ℕ)) (text : List ℕ) : Type 0 where

@@ -2,10 +2,12 @@ pub mod Places
 pub mod Alphabets
 pub mod Bases
 pub mod Blanks
+pub mod Changes
 pub mod Digits
 pub mod LevelPaths
 pub mod Fields
 pub mod Parses
 pub mod Partitions
 pub mod Patterns
+pub mod Tests
 pub mod Words

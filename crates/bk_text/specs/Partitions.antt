@@ -1,5 +1,5 @@
 -- A partition's name as it is read.
-use Rattle.std.specs.Prelude.{◌≡◌, ◌⊎◌, ℕ, List, ◌∷◌, Result, Ok, Err}
+use Rattle.std.specs.Prelude.{◌≡◌, ◌⊎◌, ℕ, List, [], ◌∷◌, ◌==◌, if◌then◌else◌, Result, Ok, Err}
 use Rattle.bk_text.specs.declared.texts.TextFault.{TextFault}
 use Rattle.bk_text.specs.declared.texts.TextFault.TheVariants.{BadText, Memory}
 use Rattle.bk_text.specs.Alphabets.{IsName}
@@ -21,3 +21,8 @@ ParsesPart text (Err Memory) = Unit {0}
 -- a text with no slash at its front
 abbrev pub IsBare : List ℕ → Type 0
 IsBare text = (more : List ℕ) → text ≡ 47 ∷ more → ⊥
+
+-- a text without the slash that may stand at its front
+abbrev pub without_slash : List ℕ → List ℕ
+without_slash [] = []
+without_slash (b ∷ rest) = if b == 47 then rest else b ∷ rest

@@ -4,6 +4,7 @@ ghost use Rattle.std.specs.Prelude.{◌≡◌, ◌∷◌, [], ◌≤◌, length,
 ghost use Rattle.std.specs.Int.{w16, w32, w64};
 ghost use Rattle.bk_text.specs.Fields.{Reading, Took, TookNumber, Lacks};
 
+use crate::numbers::{read_u16, read_u32, read_u64};
 use std::marker::Model;
 use thiserror::Error;
 
@@ -75,7 +76,7 @@ impl<'a> Cursor<'a> {
         ensures { MatchResult result (λ v. TookNumber w16 2 self.old self.new v) (λ short. Lacks 2 self.old self.new short.at) }
     {
         let piece = self.take(2)?;
-        Ok(u16::from_be_bytes([piece[0], piece[1]]))
+        Ok(read_u16(piece))
     }
 
     /// The next number of four bytes.
@@ -83,7 +84,7 @@ impl<'a> Cursor<'a> {
         ensures { MatchResult result (λ v. TookNumber w32 4 self.old self.new v) (λ short. Lacks 4 self.old self.new short.at) }
     {
         let piece = self.take(4)?;
-        Ok(u32::from_be_bytes([piece[0], piece[1], piece[2], piece[3]]))
+        Ok(read_u32(piece))
     }
 
     /// The next number of eight bytes.
@@ -91,8 +92,6 @@ impl<'a> Cursor<'a> {
         ensures { MatchResult result (λ v. TookNumber w64 8 self.old self.new v) (λ short. Lacks 8 self.old self.new short.at) }
     {
         let piece = self.take(8)?;
-        Ok(u64::from_be_bytes([
-            piece[0], piece[1], piece[2], piece[3], piece[4], piece[5], piece[6], piece[7],
-        ]))
+        Ok(read_u64(piece))
     }
 }

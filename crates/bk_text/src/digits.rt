@@ -39,3 +39,15 @@ pub fn digits_in(word: &[u8], least: usize, most: usize) -> Option<u32>
     let number = capped_number(word)?;
     Some(number as u32)
 }
+
+/// The number that digits write, from so many to so many of them, at most ten.
+pub fn long_digits_in(word: &[u8], least: usize, most: usize) -> Option<u64>
+    requires { most ≤ 10 }
+    ensures is { result ≡ digits_of least most word.now }
+    ensures within { IfSome result (λ n. n < 10000000000) }
+{
+    if word.len() < least || most < word.len() {
+        return None;
+    }
+    capped_number(word)
+}

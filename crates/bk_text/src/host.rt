@@ -3,10 +3,11 @@
 ghost use Rattle.std.specs.Prelude.{◌≡◌, ◌↔◌, IsTrue, IfOk};
 ghost use Rattle.bk_text.specs.Alphabets.{IsHost};
 ghost use Rattle.bk_text.specs.Parses.{Parses};
+ghost use Rattle.bk_text.specs.Tests.{host_test};
 
 use crate::list::Bytes;
 use crate::texts::TextFault;
-use crate::words::{Alphabet, fault_in};
+use crate::words::{Alphabet, fault_in, is_word};
 use std::alloc::{AllocError, Global};
 use std::marker::Model;
 
@@ -40,9 +41,10 @@ impl Clone for Host {
 impl Host {
     /// Whether these bytes are of the form.
     pub fn is_host(bytes: &[u8]) -> bool
-        ensures { IsTrue result ↔ IsHost bytes.now }
+        ensures form { IsTrue result ↔ IsHost bytes.now }
+        ensures test { result ≡ host_test bytes.now }
     {
-        fault_in(Alphabet::Plain, 63, bytes).is_none()
+        is_word(Alphabet::Plain, 63, bytes)
     }
 
     /// Reads a server's name.

@@ -5,6 +5,7 @@ ghost use Rattle.std.specs.List.{count_by};
 ghost use Rattle.bk_text.specs.LevelPaths.{IsLevelPath, IsPathOf, IsAbove, IsLastSlash, MayFollow};
 ghost use Rattle.bk_text.specs.Parses.{Parses};
 ghost use Rattle.bk_text.specs.Places.{FailsAt};
+ghost use Rattle.bk_text.specs.Tests.{level_path_test};
 
 use crate::list::Bytes;
 use crate::texts::TextFault;
@@ -100,8 +101,10 @@ impl Clone for LevelPath {
 
 impl LevelPath {
     /// Whether these bytes are of the form.
+    #[tactic(auto, using(crate::proofs::TestLaws::no_path_fault))]
     pub fn is_level_path(bytes: &[u8]) -> bool
-        ensures { IsTrue result ↔ IsLevelPath bytes.now }
+        ensures form { IsTrue result ↔ IsLevelPath bytes.now }
+        ensures test { result ≡ level_path_test bytes.now }
     {
         fault_in_path(bytes).is_none()
     }

@@ -6,10 +6,12 @@ mod blanks;
 mod cursor;
 mod digits;
 mod expiry;
+mod forms;
 mod host;
 mod level_path;
 mod list;
 mod name;
+mod numbers;
 mod out;
 mod part;
 mod set_name;
@@ -20,19 +22,21 @@ mod words;
 
 pub use blanks::{place_of, split_word};
 pub use cursor::{Cursor, Short};
-pub use digits::{capped_number, digits_in};
+pub use digits::{capped_number, digits_in, long_digits_in};
 pub use expiry::Expiry;
+pub use forms::form_tests;
 pub use host::Host;
 pub use level_path::LevelPath;
 pub use list::{Bytes, List};
 pub use name::Name;
+pub use numbers::{bytes_of_u16, bytes_of_u32, bytes_of_u64, read_u16, read_u32, read_u64};
 pub use out::Out;
-pub use part::Part;
+pub use part::{Part, without_slash};
 pub use set_name::SetName;
 pub use stated::{fault_in_stated, fault_in_stated_path};
 pub use tape_name::TapeName;
 pub use texts::TextFault;
-pub use words::{Alphabet, fault_in};
+pub use words::{Alphabet, fault_in, is_word};
 
 #[cfg(test)]
 mod level_tests;

@@ -1,7 +1,9 @@
 //! A vector that contracts see as the list of its elements.
 
-ghost use Rattle.std.specs.Prelude.{◌≡◌, ◌++◌, [], ◌∷◌, length, take, Some, IfOk, OnOk, OnErr, MatchOption, ◌==◌};
-ghost use Rattle.std.specs.List.{AllZip};
+ghost use Rattle.std.specs.Prelude.{◌≡◌, ◌++◌, [], ◌∷◌, length, take, Some, IfOk, OnOk, OnErr, MatchOption, ◌==◌, ◌<◌, slice_index_or};
+ghost use Rattle.std.specs.Fn.{CalledAt};
+ghost use Rattle.std.specs.List.{AllZip, remove};
+ghost use Rattle.std.specs.List.Retain.{IsFiltered};
 
 use std::alloc::{AllocError, Global};
 use std::marker::Model;
@@ -75,6 +77,15 @@ impl<T> List<T> {
     {
         self.items.pop()
     }
+
+    /// Takes the element at a place away; those behind it close up.
+    pub fn remove(&mut self, at: usize) -> T
+        requires { at < length self.old }
+        ensures list { self.new ≡ remove self.old at }
+        ensures value { result ≡ slice_index_or self.old at result }
+    {
+        self.items.remove(at)
+    }
 }
 
 impl<T: Drop> List<T> {
@@ -92,6 +103,14 @@ impl<T: Drop> List<T> {
         ensures { self.new ≡ take count self.old }
     {
         self.items.truncate(count);
+    }
+
+    /// Keeps the elements at which a closure answers `true`, in their order.
+    pub fn retain<F: FnMut(&T) -> bool>(&mut self, keeps: F)
+        requires { F.IsAlwaysCallable keeps }
+        ensures { IsFiltered (CalledAt F.FnMut) keeps self.old self.new }
+    {
+        self.items.retain(keeps);
     }
 
     /// Drops all elements.

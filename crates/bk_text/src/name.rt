@@ -4,10 +4,11 @@ ghost use Rattle.std.specs.Prelude.{◌≡◌, ◌↔◌, IsTrue, IfOk};
 ghost use Rattle.bk_text.specs.Alphabets.{IsName};
 ghost use Rattle.bk_text.specs.Bases.{base_of};
 ghost use Rattle.bk_text.specs.Parses.{Parses};
+ghost use Rattle.bk_text.specs.Tests.{name_test};
 
 use crate::list::Bytes;
 use crate::texts::TextFault;
-use crate::words::{Alphabet, fault_in};
+use crate::words::{Alphabet, fault_in, is_word};
 use std::alloc::{AllocError, Global};
 use std::marker::Model;
 
@@ -54,9 +55,10 @@ impl Clone for Name {
 impl Name {
     /// Whether these bytes are of the form.
     pub fn is_name(bytes: &[u8]) -> bool
-        ensures { IsTrue result ↔ IsName bytes.now }
+        ensures form { IsTrue result ↔ IsName bytes.now }
+        ensures test { result ≡ name_test bytes.now }
     {
-        fault_in(Alphabet::Plain, 31, bytes).is_none()
+        is_word(Alphabet::Plain, 31, bytes)
     }
 
     /// Reads a name.

@@ -4,6 +4,7 @@ ghost use Rattle.std.specs.Prelude.{◌≡◌, ◌++◌, ◌∷◌, [], length, 
 ghost use Rattle.std.specs.Int.{w16, w32, w64, to_be_bytes};
 
 use crate::list::Bytes;
+use crate::numbers::{bytes_of_u16, bytes_of_u32, bytes_of_u64};
 use std::alloc::{AllocError, Global};
 use std::marker::Model;
 
@@ -55,7 +56,7 @@ impl Out {
         ensures ok { OnOk result (self.new ≡ self.old ++ to_be_bytes w16 v) }
         ensures err { OnErr result (self.new ≡ self.old) }
     {
-        self.piece(&v.to_be_bytes())?;
+        self.piece(&bytes_of_u16(v))?;
         Ok(())
     }
 
@@ -64,7 +65,7 @@ impl Out {
         ensures ok { OnOk result (self.new ≡ self.old ++ to_be_bytes w32 v) }
         ensures err { OnErr result (self.new ≡ self.old) }
     {
-        self.piece(&v.to_be_bytes())?;
+        self.piece(&bytes_of_u32(v))?;
         Ok(())
     }
 
@@ -73,7 +74,7 @@ impl Out {
         ensures ok { OnOk result (self.new ≡ self.old ++ to_be_bytes w64 v) }
         ensures err { OnErr result (self.new ≡ self.old) }
     {
-        self.piece(&v.to_be_bytes())?;
+        self.piece(&bytes_of_u64(v))?;
         Ok(())
     }
 

@@ -1,12 +1,13 @@
 //! A partition's name.
 
-ghost use Rattle.std.specs.Prelude.{◌≡◌, ◌∷◌, IfOk, MatchOption};
+ghost use Rattle.std.specs.Prelude.{◌≡◌, ◌∷◌, ◌↔◌, IsTrue, IfOk, MatchOption};
 ghost use Rattle.bk_text.specs.Alphabets.{IsName};
-ghost use Rattle.bk_text.specs.Partitions.{ParsesPart, IsBare};
+ghost use Rattle.bk_text.specs.Partitions.{IsPartText, ParsesPart, IsBare, without_slash};
+ghost use Rattle.bk_text.specs.Tests.{part_test};
 
 use crate::list::Bytes;
 use crate::texts::TextFault;
-use crate::words::{Alphabet, fault_in};
+use crate::words::{Alphabet, fault_in, is_word};
 use std::alloc::{AllocError, Global};
 use std::marker::Model;
 
@@ -49,7 +50,25 @@ fn behind_slash(text: &[u8]) -> Option<&[u8]>
     }
 }
 
+/// A text without the slash that may stand at its front.
+pub fn without_slash(text: &[u8]) -> &[u8]
+    ensures { result.now ≡ without_slash text.now }
+{
+    match text.split_first() {
+        Some((first, rest)) if *first == b'/' => rest,
+        _ => text,
+    }
+}
+
 impl Part {
+    /// Whether these bytes are a partition's name, perhaps behind one slash.
+    pub fn is_part(text: &[u8]) -> bool
+        ensures form { IsTrue result ↔ IsPartText text.now }
+        ensures test { result ≡ part_test text.now }
+    {
+        is_word(Alphabet::Plain, 31, without_slash(text))
+    }
+
     /// Reads a partition's name, perhaps behind one slash. The place of a refusal counts the slash.
     pub fn parse(alloc: Global, text: &[u8]) -> Result<Self, TextFault>
         ensures { ParsesPart text.now result }

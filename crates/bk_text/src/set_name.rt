@@ -1,13 +1,20 @@
 //! A volume set's name.
 
-ghost use Rattle.std.specs.Prelude.{◌≡◌, ◌↔◌, IsTrue, IfOk};
+ghost use Rattle.std.specs.Prelude.{◌≡◌, ◌↔◌, IsTrue, IfOk, nat_eq};
+ghost use Rattle.std.specs.Hash as fed;
+ghost use Rattle.std.specs.Cmp.Lexicographic.{pointwise, nat_list_eq_equiv};
+ghost use Rattle.std.specs.Cmp.{partial_equiv_from_equiv};
+ghost use Rattle.std.specs.Cmp.Rules.{hashing};
+ghost use Rattle.std.proofs.Common.{rules};
 ghost use Rattle.bk_text.specs.Alphabets.{IsSetName};
 ghost use Rattle.bk_text.specs.Parses.{Parses};
+ghost use Rattle.bk_text.specs.Tests.{set_name_test};
 
 use crate::list::Bytes;
 use crate::texts::TextFault;
-use crate::words::{Alphabet, fault_in};
+use crate::words::{Alphabet, fault_in, is_word};
 use std::alloc::{AllocError, Global};
+use std::hash::{Hash, Hasher};
 use std::marker::Model;
 
 /// A volume set's name: 1 to 31 bytes of 33 to 126 without `/` and period, the first one not `-`. A dump is named
@@ -38,12 +45,37 @@ impl Clone for SetName {
     }
 }
 
+impl PartialEq for SetName {
+    ghost eq = { pointwise nat_eq };
+
+    ghost laws = { partial_equiv_from_equiv nat_list_eq_equiv };
+
+    fn eq(&self, other: &SetName) -> bool {
+        self.bytes() == other.bytes()
+    }
+}
+
+impl Eq for SetName {
+    ghost laws = { nat_list_eq_equiv };
+}
+
+impl Hash for SetName {
+    ghost hash_input = { fed.slice fed.u8 };
+
+    ghost respects_eq = { Prim.search (hashing, rules) };
+
+    fn hash<H: Hasher>(&self, state: &mut H) {
+        self.bytes().hash(state);
+    }
+}
+
 impl SetName {
     /// Whether these bytes are of the form.
     pub fn is_set_name(bytes: &[u8]) -> bool
-        ensures { IsTrue result ↔ IsSetName bytes.now }
+        ensures form { IsTrue result ↔ IsSetName bytes.now }
+        ensures test { result ≡ set_name_test bytes.now }
     {
-        fault_in(Alphabet::NoPeriod, 31, bytes).is_none()
+        is_word(Alphabet::NoPeriod, 31, bytes)
     }
 
     /// Reads a volume set's name.

@@ -3,10 +3,11 @@
 ghost use Rattle.std.specs.Prelude.{◌≡◌, ◌↔◌, IsTrue, IfOk};
 ghost use Rattle.bk_text.specs.Alphabets.{IsTapeName};
 ghost use Rattle.bk_text.specs.Parses.{Parses};
+ghost use Rattle.bk_text.specs.Tests.{tape_name_test};
 
 use crate::list::Bytes;
 use crate::texts::TextFault;
-use crate::words::{Alphabet, fault_in};
+use crate::words::{Alphabet, fault_in, is_word};
 use std::alloc::{AllocError, Global};
 use std::marker::Model;
 
@@ -40,9 +41,10 @@ impl Clone for TapeName {
 impl TapeName {
     /// Whether these bytes are of the form.
     pub fn is_tape_name(bytes: &[u8]) -> bool
-        ensures { IsTrue result ↔ IsTapeName bytes.now }
+        ensures form { IsTrue result ↔ IsTapeName bytes.now }
+        ensures test { result ≡ tape_name_test bytes.now }
     {
-        fault_in(Alphabet::AnyFirst, 80, bytes).is_none()
+        is_word(Alphabet::AnyFirst, 80, bytes)
     }
 
     /// Reads a tape's name.

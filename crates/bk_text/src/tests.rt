@@ -2,10 +2,11 @@
 
 use crate::{
     Alphabet, Bytes, Cursor, Expiry, Host, List, Name, Out, Part, SetName, Short, TapeName,
-    TextFault, capped_number, digits_in, fault_in_stated, fault_in_stated_path, place_of,
-    split_word,
+    TextFault, bytes_of_u32, capped_number, digits_in, fault_in_stated, fault_in_stated_path,
+    form_tests, long_digits_in, place_of, read_u16, read_u64, split_word,
 };
 use std::alloc::{AllocError, Global};
+use std::hash::{DefaultHasher, Hash, Hasher};
 use std::test::Fail;
 
 /// Where a text was refused; `None` where it was kept.
@@ -56,6 +57,32 @@ fn set_names_and_tape_names(rt: HostRuntime) {
     assert_eq!(rt; tape_name_place(alloc, b"-"), None);
     assert_eq!(rt; tape_name_place(alloc, b"users.full.1"), None);
     assert_eq!(rt; tape_name_place(alloc, b"a/b"), Some(1));
+}
+
+#[test]
+fn forms_are_told(rt: HostRuntime) {
+    form_tests();
+    assert!(rt; Host::is_host(b"fs1") && !Host::is_host(b"-fs1"));
+    assert!(rt; SetName::is_set_name(b"users") && !SetName::is_set_name(b"a.b"));
+    assert!(rt; TapeName::is_tape_name(b"-") && !TapeName::is_tape_name(b""));
+    assert!(rt; Part::is_part(b"/vicepa") && Part::is_part(b"vicepa"));
+    assert!(rt; !Part::is_part(b"/") && !Part::is_part(b"//a"));
+}
+
+fn hash_of(name: &SetName) -> u64 {
+    let mut hasher = DefaultHasher::new();
+    name.hash(&mut hasher);
+    hasher.finish()
+}
+
+#[test]
+fn set_names_are_compared(rt: HostRuntime) -> Result<(), Fail> {
+    let users = SetName::parse(rt.alloc(), b"users")?;
+    let same = users.clone()?;
+    let other = SetName::parse(rt.alloc(), b"user")?;
+    assert!(rt; users == same && users != other);
+    assert_eq!(rt; hash_of(&users), hash_of(&same));
+    Ok(())
 }
 
 #[test]
@@ -130,6 +157,20 @@ fn grown(alloc: Global) -> Result<List<u8>, AllocError> {
     list.clone()?.copy()
 }
 
+fn fewer(alloc: Global) -> Result<List<u8>, AllocError> {
+    let mut list = List::from_slice(alloc, &[1, 2, 3, 4, 5])?;
+    let _third = list.remove(2);
+    list.retain(|number| *number != 4);
+    Ok(list)
+}
+
+#[test]
+fn lists_lose_elements(rt: HostRuntime) -> Result<(), Fail> {
+    let list = fewer(rt.alloc())?;
+    assert_eq!(rt; list.as_slice(), [1, 2, 5].as_slice());
+    Ok(())
+}
+
 #[test]
 fn lists_grow_and_shrink(rt: HostRuntime) -> Result<(), Fail> {
     let mut list = grown(rt.alloc())?;
@@ -170,6 +211,16 @@ fn fields_are_big_endian(rt: HostRuntime) -> Result<(), Fail> {
     Ok(())
 }
 
+#[test]
+fn numbers_stand_at_the_front(rt: HostRuntime) {
+    assert_eq!(rt; read_u16(b"\x01\x02\x03"), 0x0102);
+    assert_eq!(rt;
+        read_u64(b"\x01\x02\x03\x04\x05\x06\x07\x08"),
+        0x0102_0304_0506_0708
+    );
+    assert_eq!(rt; bytes_of_u32(0x0a0b_0c0d), [0x0a, 0x0b, 0x0c, 0x0d]);
+}
+
 fn second_word(text: &[u8]) -> Option<&[u8]> {
     let (_, rest) = split_word(text)?;
     let (word, _) = split_word(rest)?;
@@ -184,6 +235,7 @@ fn words_and_numbers_of_a_text(rt: HostRuntime) {
     assert_eq!(rt; digits_in(b"0012", 1, 4), Some(12));
     assert_eq!(rt; digits_in(b"12345", 1, 4), None);
     assert_eq!(rt; capped_number(b"99999999999"), Some(10_000_000_000));
+    assert_eq!(rt; long_digits_in(b"4294967296", 1, 10), Some(4_294_967_296));
 }
 
 #[test]

@@ -2,6 +2,7 @@
 
 ghost use Rattle.std.specs.Prelude.{◌≡◌, ◌<◌, ◌↔◌, IsTrue, MatchOption};
 ghost use Rattle.bk_text.specs.Places.{FailsAt};
+ghost use Rattle.bk_text.specs.Tests.{word_test};
 ghost use Rattle.bk_text.specs.Words.{Allowed, AllowedFirst, IsWordOf, MayStand};
 
 /// Which bytes a text may have.
@@ -56,4 +57,14 @@ pub fn fault_in(alphabet: Alphabet, most: usize, text: &[u8]) -> Option<usize>
         }
     }
     if text.is_empty() { Some(0) } else { None }
+}
+
+/// Whether a text is 1 to `most` bytes of an alphabet.
+#[tactic(auto, using(crate::proofs::TestLaws::no_fault))]
+pub fn is_word(alphabet: Alphabet, most: usize, text: &[u8]) -> bool
+    requires { 0 < most }
+    ensures form { IsTrue result ↔ IsWordOf alphabet most text.now }
+    ensures test { result ≡ word_test alphabet most text.now }
+{
+    fault_in(alphabet, most, text).is_none()
 }

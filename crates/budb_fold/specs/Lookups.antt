@@ -2,7 +2,8 @@
 use Rattle.std.specs.Prelude.{zero, suc, ℕ, ◌+◌, List, [], ◌∷◌, ◌++◌, max, Bool, true, not, ◌&&◌, ◌||◌, ◌==◌, nat_eq, nat_lt, if◌then◌else◌, Option, Some, None, Result, Ok, Err}
 use Rattle.std.specs.List.{filter, find, list_any, flat_map, ends_with}
 use Rattle.bk_text.specs.Bases.{backup_ending}
-use Rattle.dump_levels.specs.Elements.{is_same_text, paths_above}
+use Rattle.bk_text.specs.Blanks.{is_same_text}
+use Rattle.dump_levels.specs.Elements.{paths_above}
 use Rattle.budb_changes.specs.declared.records.VolRecordFields.{VolRecordFields}
 use Rattle.budb_changes.specs.declared.records.DumpRecordFields.{DumpRecordFields}
 

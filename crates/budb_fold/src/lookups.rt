@@ -3,7 +3,7 @@
 
 ghost use Rattle.std.specs.Prelude.{◌≡◌, ◌&&◌, ℕ, max, Some, IfOk};
 ghost use Rattle.std.specs.Option.{option_copied, unwrap_or};
-ghost use Rattle.dump_levels.specs.Elements.{is_same_text};
+ghost use Rattle.bk_text.specs.Blanks.{is_same_text};
 ghost use Rattle.budb_fold.specs.Lookups.{record_of, volume_of, dumps_at, parent_or, parent_of, from_volume, from_of};
 
 use bk_text::{LevelPath, SetName};

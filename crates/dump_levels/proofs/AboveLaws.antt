@@ -5,8 +5,9 @@ use Rattle.std.proofs.lemmas.List.{length-take, take-take}
 use Rattle.std.proofs.lemmas.List.Elements.{All-take}
 use Rattle.bk_text.specs.Alphabets.{IsElement}
 use Rattle.bk_text.specs.LevelPaths.{path_of, IsLevelPath}
-use Rattle.dump_levels.specs.Elements.{elements_of, front_path, path_above, front_paths, paths_above}
-use Rattle.dump_levels.proofs.ElementLaws.{elements_are, of_path}
+use Rattle.bk_text.specs.LevelPaths.{elements_of}
+use Rattle.dump_levels.specs.Elements.{front_path, path_above, front_paths, paths_above}
+use Rattle.bk_text.proofs.LevelParts.{elements_are, of_path}
 
 -- the paths of a front's fronts are those of the whole
 fronts_of_front : (n m : ℕ) (es : List (List ℕ)) → n ≤ m → front_paths n (take m es) ≡ front_paths n es

@@ -8,16 +8,9 @@ use Rattle.std.proofs.lemmas.List.{append-nil}
 use Rattle.std.proofs.lemmas.List.Splits.{slice_split_at}
 use Rattle.std.proofs.lemmas.List.Elements.{All-head, All-tail, All-weaker}
 use Rattle.bk_text.specs.Alphabets.{IsNameByte, IsElement}
-use Rattle.bk_text.specs.LevelPaths.{path_of, IsPathOf, IsLevelPath, IsAbove}
-use Rattle.bk_text.proofs.LevelParts.{path_pieces, has_last}
-use Rattle.dump_levels.specs.Elements.{elements_of, front_path, path_above}
-
--- the elements of a path that these elements make are these
-pub elements_are : (elements : List (List ℕ)) (text : List ℕ) → IsPathOf elements text → elements_of text ≡ elements
-elements_are elements text is = ap (drop 1) (ap (slice_split (λ b. b == 47)) is.joined ∙ path_pieces elements is.each)
-
-pub of_path : (text : List ℕ) → IsLevelPath text → IsPathOf (elements_of text) text
-of_path text path = subst (λ (es : List (List ℕ)). IsPathOf es text) (sym (elements_are path.elements text path.is)) path.is
+use Rattle.bk_text.specs.LevelPaths.{path_of, elements_of, IsPathOf, IsLevelPath, IsAbove}
+use Rattle.bk_text.proofs.LevelParts.{has_last, elements_are, of_path}
+use Rattle.dump_levels.specs.Elements.{front_path, path_above}
 
 no_slash : (e : List ℕ) → IsElement e → All (λ b. (b == 47) ≡ false) e
 no_slash e is = All-weaker IsNameByte (λ b. (b == 47) ≡ false) (λ b name. ne_eqb b 47 name.2) e is.each

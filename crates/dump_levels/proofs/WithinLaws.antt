@@ -7,7 +7,9 @@ use Rattle.std.proofs.lemmas.Bool.{eqb-true, eq-eqb, eqb-false, ne_eqb}
 use Rattle.std.proofs.lemmas.List.{append-nil, append_cancel_left}
 use Rattle.std.proofs.lemmas.Slice.Eq.{slice_eq-Decides, starts_is, strip_prefix_is}
 use Rattle.bk_text.specs.LevelPaths.{path_of, IsLevelPath}
-use Rattle.dump_levels.specs.Elements.{elements_of, is_same_text, is_within}
+use Rattle.bk_text.specs.Blanks.{is_same_text}
+use Rattle.bk_text.specs.LevelPaths.{elements_of}
+use Rattle.dump_levels.specs.Elements.{is_within}
 use Rattle.dump_levels.proofs.ElementLaws.{elements_behind, text_behind}
 
 -- `==` on numbers decides

@@ -1,15 +1,8 @@
 -- The elements of a level's path, and what they say of two levels.
 use Rattle.std.specs.Prelude.{zero, suc, ℕ, ◌-◌, List, [], ◌∷◌, length, take, drop, Bool, ◌==◌, Option, Some, None}
-use Rattle.std.specs.List.{slice_split, starts_with}
-use Rattle.std.specs.Cmp.Lexicographic.{pointwise}
-use Rattle.bk_text.specs.LevelPaths.{path_of}
-
--- the elements of a path: what stands behind each of its slashes
-abbrev pub elements_of : List ℕ → List (List ℕ)
-elements_of path = drop 1 (slice_split (λ b. b == 47) path)
-
-abbrev pub is_same_text : List ℕ → List ℕ → Bool
-is_same_text = pointwise (λ a b. a == b)
+use Rattle.std.specs.List.{starts_with}
+use Rattle.bk_text.specs.Blanks.{is_same_text}
+use Rattle.bk_text.specs.LevelPaths.{path_of, elements_of}
 
 -- A level is at another one or below it where its elements begin with the other's: `/fuller` isn't below `/full`.
 abbrev pub is_within : List ℕ → List ℕ → Bool

@@ -5,7 +5,8 @@ use Rattle.bk_text.specs.declared.expiry.Expiry.{Expiry}
 use Rattle.dump_levels.specs.declared.levels.Level.{Level}
 use Rattle.dump_levels.specs.declared.levels.LevelFault.{LevelFault}
 use Rattle.dump_levels.specs.declared.levels.LevelFault.TheVariants.{LevelExists, NoParentLevel, NoSuchLevel, Memory}
-use Rattle.dump_levels.specs.Elements.{is_same_text, is_within, path_above}
+use Rattle.bk_text.specs.Blanks.{is_same_text}
+use Rattle.dump_levels.specs.Elements.{is_within, path_above}
 
 -- a level of this path
 abbrev pub is_level : List ℕ → Level → Bool

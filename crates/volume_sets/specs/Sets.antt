@@ -1,14 +1,11 @@
 -- What the calls make of the volume sets, which stand in the order in which they were added.
-use Rattle.std.specs.Prelude.{◌≡◌, ℕ, zero, suc, ◌-◌, List, [], ◌∷◌, ◌++◌, length, Bool, ◌&&◌, ◌==◌, nat_lt, nat_le, if◌then◌else◌, Result, Ok, Err}
+use Rattle.std.specs.Prelude.{◌≡◌, ℕ, zero, suc, ◌-◌, List, [], ◌∷◌, ◌++◌, length, Bool, ◌&&◌, nat_lt, nat_le, if◌then◌else◌, Result, Ok, Err}
 use Rattle.std.specs.List.{position_or_len, remove}
-use Rattle.std.specs.Cmp.Lexicographic.{pointwise}
+use Rattle.bk_text.specs.Blanks.{is_same_text}
 use Rattle.volume_sets.specs.declared.sets.SetEntry.{SetEntry}
 use Rattle.volume_sets.specs.declared.sets.VolumeSet.{VolumeSet}
 use Rattle.volume_sets.specs.declared.sets.SetsFault.{SetsFault}
 use Rattle.volume_sets.specs.declared.sets.SetsFault.TheVariants.{SetExists, NoSuchSet, NoSuchEntry, Memory}
-
-abbrev pub is_same_text : List ℕ → List ℕ → Bool
-is_same_text = pointwise (λ a b. a == b)
 
 abbrev pub is_named : List ℕ → VolumeSet → Bool
 is_named name set = is_same_text set.name name

@@ -1,5 +1,6 @@
 use Rattle.std.proofs.Common.{◌∙◌, ◌≡◌, ◌<◌, ◌++◌, sym, ap, subst, ℕ, List, Option, length}
-use Rattle.dump_levels.specs.Elements.{elements_of, paths_above}
+use Rattle.bk_text.specs.LevelPaths.{elements_of}
+use Rattle.dump_levels.specs.Elements.{paths_above}
 use Rattle.dump_levels.proofs.AboveLaws.{paths_from, elements_left, all_from, fewer, one_more}
 use Rattle.dump_levels.proofs.above.all_above.Goals as goal
 
