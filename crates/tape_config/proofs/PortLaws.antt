@@ -6,19 +6,21 @@ use Rattle.std.proofs.lemmas.Bool.{cases_lt, leb-true, leb-false, eqb-true, eqb-
 use Rattle.std.proofs.lemmas.List.Elements.{All-nil, All-push, All-get_or}
 use Rattle.std.proofs.lemmas.List.Quantifiers.{all_pairs_push}
 use Rattle.tape_config.specs.declared.line.DeviceLine.{DeviceLine}
+use Rattle.tape_config.specs.declared.line.Entry.{Entry}
+use Rattle.tape_config.specs.declared.line.Entry.TheVariants.{Device, NameCheck}
 use Rattle.tape_config.specs.declared.line.Line.{Line}
-use Rattle.tape_config.specs.declared.line.Line.TheVariants.{Skipped, Device, NameCheck}
-use Rattle.tape_config.specs.declared.port.Port.{Port}
-use Rattle.tape_config.specs.declared.config.ConfigFault.{ConfigFault}
-use Rattle.tape_config.specs.declared.config.ConfigFault.TheVariants.{BadLine, PortTwice, SlotTwice}
+use Rattle.tape_config.specs.declared.line.Line.TheVariants.{Nothing, Says}
+use Rattle.tape_config.specs.declared.port.PortFields.{PortFields}
+use Rattle.tape_config.specs.declared.fault.ConfigFault.{ConfigFault}
+use Rattle.tape_config.specs.declared.fault.ConfigFault.TheVariants.{BadLine, PortTwice, SlotTwice}
 use Rattle.std.specs.Str.Lines.{lines}
 use Rattle.bk_text.specs.Digits.{number_of}
 use Rattle.bk_text.specs.Blanks.{words_of, is_same_word}
 use Rattle.tape_config.specs.Numbers.{count_of, up_to, has_plain_front, plain_of, unit_of, reduced, sized, size_of, capacity_of}
 use Rattle.tape_config.specs.Words.{in_order, slots_of, slots_word, switch_of, name_check_word, is_dash}
-use Rattle.tape_config.specs.Lines.{offset_of, device_line, check_line, words_say, line_says}
-use Rattle.tape_config.specs.Configs.{has_port, has_slot, next_device, next_line, next_number, lines_say, device_if, device_at, or_else, port_with}
-use Rattle.tape_config.specs.Ports.{IsConfig, IsWithinLimits, AreApart}
+use Rattle.tape_config.specs.Lines.{offset_of, device_line, check_line, words_say, line_says, cell_of}
+use Rattle.tape_config.specs.Configs.{Settings, IsConfig, no_settings, has_port, has_slot, next_device, next_entry, next_cell, with_entries, with_cell, next_line, next_number, lines_say, device_if, device_at, or_else, port_with}
+use Rattle.tape_config.specs.Ports.{IsWithinLimits, AreApart}
 
 -- a device line within its limits
 pub record IsSoundDevice (d : DeviceLine) : Type 0 where
@@ -29,9 +31,13 @@ pub record IsSoundDevice (d : DeviceLine) : Type 0 where
   pub ordered : d.first ≤ d.last
   pub last : d.last ≤ 65535
 
+abbrev pub IsSoundEntry : Entry → Type 0
+IsSoundEntry (Device d) = IsSoundDevice d
+IsSoundEntry (NameCheck _ _) = Unit {0}
+
 abbrev pub IsSoundLine : Line → Type 0
-IsSoundLine (Device d) = IsSoundDevice d
-IsSoundLine _ = Unit {0}
+IsSoundLine (Says entry) = IsSoundEntry entry
+IsSoundLine Nothing = Unit {0}
 
 -- numbers keep their limits
 up_to_within : (most : ℕ) (r : Option ℕ) → IfSome (up_to most r) (λ n. n ≤ most)
@@ -117,18 +123,18 @@ words_sound (a ∷ b ∷ c ∷ d ∷ e ∷ more) = tt
 line_sound : (line : List ℕ) → IfSome (line_says line) IsSoundLine
 line_sound line = go (slice_index line 0 == 35)
   where
-    go : (t : Bool) → IfSome (cond t (Some Skipped) (words_say (words_of line))) IsSoundLine
+    go : (t : Bool) → IfSome (cond t (Some Nothing) (words_say (words_of line))) IsSoundLine
     go true = tt
     go false = words_sound (words_of line)
 
 -- two device lines have two ports, and no slot in common
-abbrev pub AreApartLines : Line → Line → Type 0
-AreApartLines (Device d) (Device e) = (d.offset ≢ e.offset) × ((d.last < e.first) ⊎ (e.last < d.first))
-AreApartLines _ _ = Unit {0}
+abbrev pub AreApartEntries : Entry → Entry → Type 0
+AreApartEntries (Device d) (Device e) = (d.offset ≢ e.offset) × ((d.last < e.first) ⊎ (e.last < d.first))
+AreApartEntries _ _ = Unit {0}
 
-pub record AreSound (lines : List Line) : Type 0 where
-  pub each : All IsSoundLine lines
-  pub apart : AllPairs AreApartLines lines
+pub record AreSound (lines : List Entry) : Type 0 where
+  pub each : All IsSoundEntry lines
+  pub apart : AllPairs AreApartEntries lines
 
 slots_apart : (d e : DeviceLine) → has_slot e.first e.last (Device d) ≡ false → (d.last < e.first) ⊎ (e.last < d.first)
 slots_apart d e none = go (leb d.first e.last) refl
@@ -137,13 +143,11 @@ slots_apart d e none = go (leb d.first e.last) refl
     go false is = inr (leb-false d.first e.last is)
     go true is = inl (leb-false e.first d.last (sym (ap (λ (t : Bool). t && leb e.first d.last) is) ∙ none))
 
-apart_by : (x : Line) (e : DeviceLine) → has_port e.offset x ≡ false → has_slot e.first e.last x ≡ false → AreApartLines x (Device e)
-apart_by Skipped e port slot = tt
+apart_by : (x : Entry) (e : DeviceLine) → has_port e.offset x ≡ false → has_slot e.first e.last x ≡ false → AreApartEntries x (Device e)
 apart_by (NameCheck o on) e port slot = tt
 apart_by (Device d) e port slot = (eqb-false d.offset e.offset port, slots_apart d e slot)
 
-apart_check : (x : Line) (offset : ℕ) (on : Bool) → AreApartLines x (NameCheck offset on)
-apart_check Skipped offset on = tt
+apart_check : (x : Entry) (offset : ℕ) (on : Bool) → AreApartEntries x (NameCheck offset on)
 apart_check (NameCheck o b) offset on = tt
 apart_check (Device d) offset on = tt
 
@@ -151,30 +155,30 @@ or_parts : (a b : Bool) → (a || b) ≡ false → (a ≡ false) × (b ≡ false
 or_parts true b none = absurd (true≢false none)
 or_parts false b none = (refl, none)
 
-none_passes : (p : Line → Bool) (xs : List Line) (k : ℕ) (d : Line) → list_any p xs ≡ false → k < length xs → p (get_or xs k d) ≡ false
+none_passes : (p : Entry → Bool) (xs : List Entry) (k : ℕ) (d : Entry) → list_any p xs ≡ false → k < length xs → p (get_or xs k d) ≡ false
 none_passes p [] k d none within = absurd (omega arith)
 none_passes p (x ∷ xs) zero d none within = (or_parts (p x) (list_any p xs) none).0
 none_passes p (x ∷ xs) (suc j) d none within = none_passes p xs j d (or_parts (p x) (list_any p xs) none).1 (omega arith)
 
-push_device : (before : List Line) (d : DeviceLine) → AreSound before → IsSoundDevice d → list_any (has_port d.offset) before ≡ false → list_any (has_slot d.first d.last) before ≡ false → AreSound (before ++ Device d ∷ [])
+push_device : (before : List Entry) (d : DeviceLine) → AreSound before → IsSoundDevice d → list_any (has_port d.offset) before ≡ false → list_any (has_slot d.first d.last) before ≡ false → AreSound (before ++ Device d ∷ [])
 push_device before d sound device ports slots = record {
-  each = All-push IsSoundLine before (Device d) sound.each device;
-  apart = all_pairs_push AreApartLines before (Device d) sound.apart (λ k default within. apart_by (get_or before k default) d (none_passes (has_port d.offset) before k default ports within) (none_passes (has_slot d.first d.last) before k default slots within));
+  each = All-push IsSoundEntry before (Device d) sound.each device;
+  apart = all_pairs_push AreApartEntries before (Device d) sound.apart (λ k default within. apart_by (get_or before k default) d (none_passes (has_port d.offset) before k default ports within) (none_passes (has_slot d.first d.last) before k default slots within));
 }
 
-push_check : (before : List Line) (offset : ℕ) (on : Bool) → AreSound before → AreSound (before ++ NameCheck offset on ∷ [])
+push_check : (before : List Entry) (offset : ℕ) (on : Bool) → AreSound before → AreSound (before ++ NameCheck offset on ∷ [])
 push_check before offset on sound = record {
-  each = All-push IsSoundLine before (NameCheck offset on) sound.each tt;
-  apart = all_pairs_push AreApartLines before (NameCheck offset on) sound.apart (λ k default within. apart_check (get_or before k default) offset on);
+  each = All-push IsSoundEntry before (NameCheck offset on) sound.each tt;
+  apart = all_pairs_push AreApartEntries before (NameCheck offset on) sound.apart (λ k default within. apart_check (get_or before k default) offset on);
 }
 
-ok_is : (a b : List Line) → (let x : Result (List Line) ConfigFault = Ok a in x) ≡ Ok b → a ≡ b
+ok_is : (a b : List Entry) → (let x : Result (List Entry) ConfigFault = Ok a in x) ≡ Ok b → a ≡ b
 ok_is a b e = cc
 
-not_ok : (f : ConfigFault) (a : List Line) → (let x : Result (List Line) ConfigFault = Err f in x) ≡ Ok a → ⊥
+not_ok : (f : ConfigFault) (a : List Entry) → (let x : Result (List Entry) ConfigFault = Err f in x) ≡ Ok a → ⊥
 not_ok f a e = cc
 
-device_next : (number : ℕ) (before after : List Line) (d : DeviceLine) → AreSound before → IsSoundDevice d → next_device number before d ≡ Ok after → AreSound after
+device_next : (number : ℕ) (before after : List Entry) (d : DeviceLine) → AreSound before → IsSoundDevice d → next_device number before d ≡ Ok after → AreSound after
 device_next number before after d sound device e = go (list_any (has_port d.offset) before) (list_any (has_slot d.first d.last) before) refl refl e
   where
     go : (s t : Bool) → list_any (has_port d.offset) before ≡ s → list_any (has_slot d.first d.last) before ≡ t → cond s (Err (PortTwice number)) (cond t (Err (SlotTwice number)) (Ok (before ++ Device d ∷ []))) ≡ Ok after → AreSound after
@@ -182,38 +186,55 @@ device_next number before after d sound device e = go (list_any (has_port d.offs
     go false true ports slots e = absurd (not_ok (SlotTwice number) after e)
     go false false ports slots e = subst AreSound (ok_is (before ++ Device d ∷ []) after e) (push_device before d sound device ports slots)
 
-line_next : (number : ℕ) (before after : List Line) (r : Option Line) → AreSound before → IfSome r IsSoundLine → next_line number before r ≡ Ok after → AreSound after
-line_next number before after None sound line e = absurd (not_ok (BadLine number) after e)
-line_next number before after (Some Skipped) sound line e = subst AreSound (ok_is before after e) sound
-line_next number before after (Some (Device d)) sound line e = device_next number before after d sound line e
-line_next number before after (Some (NameCheck offset on)) sound line e = subst AreSound (ok_is (before ++ NameCheck offset on ∷ []) after e) (push_check before offset on sound)
+entry_next : (number : ℕ) (before after : List Entry) (r : Option Line) → AreSound before → IfSome r IsSoundLine → next_entry number before r ≡ Ok after → AreSound after
+entry_next number before after None sound line e = absurd (not_ok (BadLine number) after e)
+entry_next number before after (Some Nothing) sound line e = subst AreSound (ok_is before after e) sound
+entry_next number before after (Some (Says (Device d))) sound line e = device_next number before after d sound line e
+entry_next number before after (Some (Says (NameCheck offset on))) sound line e = subst AreSound (ok_is (before ++ NameCheck offset on ∷ []) after e) (push_check before offset on sound)
 
-says_sound : (lines : List (List ℕ)) (number : ℕ) (before after : List Line) → AreSound before → lines_say number before lines ≡ Ok after → AreSound after
-says_sound [] number before after sound e = subst AreSound (ok_is before after e) sound
-says_sound (line ∷ rest) number before after sound e = go (λ later. says_sound rest (next_number number) later after) (next_line number before (line_says line)) refl e
+settings_ok : (a b : Settings) → (let x : Result Settings ConfigFault = Ok a in x) ≡ Ok b → a ≡ b
+settings_ok a b e = cc
+
+settings_not_ok : (f : ConfigFault) (a : Settings) → (let x : Result Settings ConfigFault = Err f in x) ≡ Ok a → ⊥
+settings_not_ok f a e = cc
+
+with_entries_sound : (before after : Settings) (r : Result (List Entry) ConfigFault) → ((entries : List Entry) → r ≡ Ok entries → AreSound entries) → with_entries before r ≡ Ok after → AreSound after.entries
+with_entries_sound before after (Err fault) sound e = absurd (settings_not_ok fault after e)
+with_entries_sound before after (Ok entries) sound e = subst (λ (s : Settings). AreSound s.entries) (settings_ok (record before { entries = entries }) after e) (sound entries refl)
+
+with_cell_sound : (before after : Settings) (r : Result (Option (List ℕ)) ConfigFault) → AreSound before.entries → with_cell before r ≡ Ok after → AreSound after.entries
+with_cell_sound before after (Err fault) sound e = absurd (settings_not_ok fault after e)
+with_cell_sound before after (Ok cell) sound e = subst (λ (s : Settings). AreSound s.entries) (settings_ok (record before { cell = cell }) after e) sound
+
+line_next : (number : ℕ) (before after : Settings) (cell : Option (List ℕ)) (r : Option Line) → AreSound before.entries → IfSome r IsSoundLine → next_line number before cell r ≡ Ok after → AreSound after.entries
+line_next number before after (Some name) r sound line e = with_cell_sound before after (next_cell number before.cell name) sound e
+line_next number before after None r sound line e = with_entries_sound before after (next_entry number before.entries r) (λ entries is. entry_next number before.entries entries r sound line is) e
+
+says_sound : (lines : List (List ℕ)) (number : ℕ) (before after : Settings) → AreSound before.entries → lines_say number before lines ≡ Ok after → AreSound after.entries
+says_sound [] number before after sound e = subst (λ (s : Settings). AreSound s.entries) (settings_ok before after e) sound
+says_sound (line ∷ rest) number before after sound e = go (λ later. says_sound rest (next_number number) later after) (next_line number before (cell_of line) (line_says line)) refl e
   where
-    go : ((later : List Line) → AreSound later → lines_say (next_number number) later rest ≡ Ok after → AreSound after) → (r : Result (List Line) ConfigFault) → next_line number before (line_says line) ≡ r → ◌≡◌ {A = Result (List Line) ConfigFault} (elim r [ Ok later ↦ lines_say (next_number number) later rest | Err fault ↦ Err fault ]) (Ok after) → AreSound after
-    go on (Ok later) is e = on later (line_next number before later (line_says line) sound (line_sound line) is) e
-    go on (Err fault) is e = absurd (not_ok fault after e)
+    go : ((later : Settings) → AreSound later.entries → lines_say (next_number number) later rest ≡ Ok after → AreSound after.entries) → (r : Result Settings ConfigFault) → next_line number before (cell_of line) (line_says line) ≡ r → ◌≡◌ {A = Result Settings ConfigFault} (elim r [ Ok later ↦ lines_say (next_number number) later rest | Err fault ↦ Err fault ]) (Ok after) → AreSound after.entries
+    go on (Ok later) is e = on later (line_next number before later (cell_of line) (line_says line) sound (line_sound line) is) e
+    go on (Err fault) is e = absurd (settings_not_ok fault after e)
 
 nothing_sound : AreSound []
-nothing_sound = record { each = All-nil IsSoundLine; apart = λ i j d before below. absurd (omega arith) }
+nothing_sound = record { each = All-nil IsSoundEntry; apart = λ i j d before below. absurd (omega arith) }
 
-pub config_sound : (lines : List Line) → IsConfig lines → AreSound lines
-config_sound kept is = says_sound (lines is.bytes) 1 [] kept nothing_sound is.says
+pub config_sound : (settings : Settings) → IsConfig settings → AreSound settings.entries
+config_sound kept is = says_sound (lines is.bytes) 1 no_settings kept nothing_sound is.says
 
 some_is : (f d : DeviceLine) → Some f ≡ Some d → f ≡ d
 some_is f d e = cc
 
 -- the device line of a port is one of the lines
-pub record StandsAt (lines : List Line) (offset : ℕ) (d : DeviceLine) : Type 0 where
+pub record StandsAt (lines : List Entry) (offset : ℕ) (d : DeviceLine) : Type 0 where
   pub at : ℕ
   pub within : at < length lines
-  pub is : (default : Line) → get_or lines at default ≡ Device d
+  pub is : (default : Entry) → get_or lines at default ≡ Device d
   pub offset_is : d.offset ≡ offset
 
-found_if : (offset : ℕ) (x : Line) (d : DeviceLine) → device_if offset x ≡ Some d → (x ≡ Device d) × (d.offset ≡ offset)
-found_if offset Skipped d e = absurd cc
+found_if : (offset : ℕ) (x : Entry) (d : DeviceLine) → device_if offset x ≡ Some d → (x ≡ Device d) × (d.offset ≡ offset)
 found_if offset (NameCheck o on) d e = absurd cc
 found_if offset (Device f) d e = go (eqb f.offset offset) refl e
   where
@@ -221,10 +242,10 @@ found_if offset (Device f) d e = go (eqb f.offset offset) refl e
     go true is e = (cc, sym (ap (λ (x : DeviceLine). x.offset) (some_is f d e)) ∙ eqb-true f.offset offset is)
     go false is e = absurd cc
 
-stands_next : (x : Line) (xs : List Line) (offset : ℕ) (d : DeviceLine) → StandsAt xs offset d → StandsAt (x ∷ xs) offset d
+stands_next : (x : Entry) (xs : List Entry) (offset : ℕ) (d : DeviceLine) → StandsAt xs offset d → StandsAt (x ∷ xs) offset d
 stands_next x xs offset d stands = record { at = suc stands.at; within = omega (arith, stands.within); is = stands.is; offset_is = stands.offset_is }
 
-pub stands_at : (lines : List Line) (offset : ℕ) (d : DeviceLine) → device_at offset lines ≡ Some d → StandsAt lines offset d
+pub stands_at : (lines : List Entry) (offset : ℕ) (d : DeviceLine) → device_at offset lines ≡ Some d → StandsAt lines offset d
 stands_at [] offset d e = absurd cc
 stands_at (x ∷ xs) offset d e = go (stands_at xs offset d) (device_if offset x) refl e
   where
@@ -232,10 +253,10 @@ stands_at (x ∷ xs) offset d e = go (stands_at xs offset d) (device_if offset x
     go on None is e = stands_next x xs offset d (on e)
     go on (Some f) is e = let there = found_if offset x d (is ∙ e) in record { at = 0; within = omega arith; is = λ default. there.0; offset_is = there.1 }
 
-line_device : (lines : List Line) (offset : ℕ) (d : DeviceLine) → AreSound lines → StandsAt lines offset d → IsSoundDevice d
-line_device lines offset d sound stands = subst IsSoundLine (stands.is Skipped) (All-get_or IsSoundLine lines stands.at Skipped stands.within sound.each)
+line_device : (lines : List Entry) (offset : ℕ) (d : DeviceLine) → AreSound lines → StandsAt lines offset d → IsSoundDevice d
+line_device lines offset d sound stands = subst IsSoundEntry (stands.is (NameCheck 0 true)) (All-get_or IsSoundEntry lines stands.at (NameCheck 0 true) stands.within sound.each)
 
-pub device_within : (lines : List Line) (offset : ℕ) (on : Bool) (r : Option DeviceLine) → AreSound lines → device_at offset lines ≡ r → IfSome (port_with offset on r) IsWithinLimits
+pub device_within : (lines : List Entry) (offset : ℕ) (on : Bool) (r : Option DeviceLine) → AreSound lines → device_at offset lines ≡ r → IfSome (port_with offset on r) IsWithinLimits
 device_within lines offset on None sound e = tt
 device_within lines offset on (Some d) sound e =
     let stands = stands_at lines offset d e in
@@ -250,30 +271,30 @@ swapped : (d e : DeviceLine) → HaveNone d e → HaveNone e d
 swapped d e (inl before) = inr before
 swapped d e (inr behind) = inl behind
 
-pair_at : (lines : List Line) (i j : ℕ) (d e : DeviceLine) → AllPairs AreApartLines lines → i < j → j < length lines → ((x : Line) → get_or lines i x ≡ Device d) → ((x : Line) → get_or lines j x ≡ Device e) → HaveNone d e
-pair_at lines i j d e pairs before within is_d is_e = (subst (λ (x : Line). AreApartLines (Device d) x) (is_e Skipped) (subst (λ (x : Line). AreApartLines x (get_or lines j Skipped)) (is_d Skipped) (pairs i j Skipped before within))).1
+pair_at : (lines : List Entry) (i j : ℕ) (d e : DeviceLine) → AllPairs AreApartEntries lines → i < j → j < length lines → ((x : Entry) → get_or lines i x ≡ Device d) → ((x : Entry) → get_or lines j x ≡ Device e) → HaveNone d e
+pair_at lines i j d e pairs before within is_d is_e = (subst (λ (x : Entry). AreApartEntries (Device d) x) (is_e (NameCheck 0 true)) (subst (λ (x : Entry). AreApartEntries x (get_or lines j (NameCheck 0 true))) (is_d (NameCheck 0 true)) (pairs i j (NameCheck 0 true) before within))).1
 
 same_device : (d e : DeviceLine) → Device d ≡ Device e → d ≡ e
 same_device d e same = cc
 
-devices_apart : (lines : List Line) (a b : ℕ) (d e : DeviceLine) → AreSound lines → a ≢ b → StandsAt lines a d → StandsAt lines b e → HaveNone d e
+devices_apart : (lines : List Entry) (a b : ℕ) (d e : DeviceLine) → AreSound lines → a ≢ b → StandsAt lines a d → StandsAt lines b e → HaveNone d e
 devices_apart lines a b d e sound other at_a at_b = elim (cases_lt at_a.at at_b.at) [
   | inl before ↦ pair_at lines at_a.at at_b.at d e sound.apart before at_b.within at_a.is at_b.is
   | inr rest ↦ elim (cases_lt at_b.at at_a.at) [
     | inl behind ↦ swapped e d (pair_at lines at_b.at at_a.at e d sound.apart behind at_a.within at_b.is at_a.is)
     | inr not_behind ↦
         let place : at_a.at ≡ at_b.at = omega arith in
-        let same : d ≡ e = same_device d e (sym (at_a.is Skipped) ∙ ap (λ (k : ℕ). get_or lines k Skipped) place ∙ at_b.is Skipped) in
+        let same : d ≡ e = same_device d e (sym (at_a.is (NameCheck 0 true)) ∙ ap (λ (k : ℕ). get_or lines k (NameCheck 0 true)) place ∙ at_b.is (NameCheck 0 true)) in
         absurd (other (sym at_a.offset_is ∙ ap (λ (x : DeviceLine). x.offset) same ∙ at_b.offset_is))
   ]
 ]
 
-some_port : (q port : Port) → Some q ≡ Some port → q ≡ port
+some_port : (q port : PortFields) → Some q ≡ Some port → q ≡ port
 some_port q port e = cc
 
-pub apart_by_devices : (lines : List Line) (a b : ℕ) (on said : Bool) (r s : Option DeviceLine) (port : Port) → AreSound lines → a ≢ b → device_at a lines ≡ r → device_at b lines ≡ s → port_with b said s ≡ Some port → IfSome (port_with a on r) (λ p. AreApart p port)
+pub apart_by_devices : (lines : List Entry) (a b : ℕ) (on said : Bool) (r s : Option DeviceLine) (port : PortFields) → AreSound lines → a ≢ b → device_at a lines ≡ r → device_at b lines ≡ s → port_with b said s ≡ Some port → IfSome (port_with a on r) (λ p. AreApart p port)
 apart_by_devices lines a b on said None s port sound other is_r is_s e = tt
 apart_by_devices lines a b on said (Some d) None port sound other is_r is_s e = absurd cc
 apart_by_devices lines a b on said (Some d) (Some f) port sound other is_r is_s e =
-    let told : Port = record { offset = b; capacity = f.capacity; filemark = f.filemark; first = f.first; last = f.last; name_check = said } in
-    subst (λ (q : Port). (d.last < q.first) ⊎ (q.last < d.first)) (some_port told port e) (devices_apart lines a b d f sound other (stands_at lines a d is_r) (stands_at lines b f is_s))
+    let told : PortFields = record { offset = b; capacity = f.capacity; filemark = f.filemark; first = f.first; last = f.last; name_check = said } in
+    subst (λ (q : PortFields). (d.last < q.first) ⊎ (q.last < d.first)) (some_port told port e) (devices_apart lines a b d f sound other (stands_at lines a d is_r) (stands_at lines b f is_s))

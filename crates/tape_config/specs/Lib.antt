@@ -1,6 +1,6 @@
 pub mod Numbers
 pub mod Words
 pub mod Lines
+pub mod Ports
 pub mod Configs
 pub mod Adds
-pub mod Ports

@@ -1,16 +1,9 @@
 -- What holds of every port of a configuration.
 use Rattle.std.specs.Prelude.{◌≡◌, ◌⊎◌, ℕ, ◌<◌, ◌≤◌, List, Ok}
-use Rattle.tape_config.specs.declared.line.Line.{Line}
-use Rattle.tape_config.specs.declared.port.Port.{Port}
-use Rattle.tape_config.specs.Configs.{config_of}
-
--- lines that some configuration says
-pub record IsConfig (lines : List Line) : Type 0 where
-  pub bytes : List ℕ
-  pub says : config_of bytes ≡ Ok lines
+use Rattle.tape_config.specs.declared.port.PortFields.{PortFields}
 
 -- a port within its limits
-pub record IsWithinLimits (port : Port) : Type 0 where
+pub record IsWithinLimits (port : PortFields) : Type 0 where
   pub offset : port.offset ≤ 58510
   pub some : 0 < port.capacity
   pub capacity : port.capacity ≤ 4000000000
@@ -19,5 +12,5 @@ pub record IsWithinLimits (port : Port) : Type 0 where
   pub last : port.last ≤ 65535
 
 -- two ports that have no slot in common
-abbrev pub AreApart : Port → Port → Type 0
+abbrev pub AreApart : PortFields → PortFields → Type 0
 AreApart p q = (p.last < q.first) ⊎ (q.last < p.first)

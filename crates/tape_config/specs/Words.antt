@@ -1,31 +1,28 @@
 -- The words of a configuration line.
-use Rattle.std.specs.Prelude.{ℕ, List, [], ◌∷◌, drop, Bool, ◌==◌, nat_eq, nat_le, if◌then◌else◌, Option, Some, None, true, false}
+use Rattle.std.specs.Prelude.{ℕ, List, drop, Bool, ◌==◌, nat_eq, nat_le, if◌then◌else◌, Option, Some, None, true, false, codes}
 use Rattle.std.specs.List.{starts_with, before_first, after_first}
 use Rattle.bk_text.specs.Blanks.{is_same_word}
 use Rattle.tape_config.specs.Numbers.{plain_of}
 
--- "name_check", "yes" and "no"
+-- the first word of a line on name checking, in either case, and of the one that names the cell
 abbrev pub name_check_word : List ℕ
-name_check_word = 110 ∷ 97 ∷ 109 ∷ 101 ∷ 95 ∷ 99 ∷ 104 ∷ 101 ∷ 99 ∷ 107 ∷ []
+name_check_word = codes "name_check"
 
-abbrev pub yes_word : List ℕ
-yes_word = 121 ∷ 101 ∷ 115 ∷ []
+abbrev pub cell_word : List ℕ
+cell_word = codes "cell"
 
-abbrev pub no_word : List ℕ
-no_word = 110 ∷ 111 ∷ []
-
--- yes or no
+-- yes or no, in either case
 abbrev pub switch_of : List ℕ → Option Bool
-switch_of word = if is_same_word word yes_word then Some true else if is_same_word word no_word then Some false else None
+switch_of word = if is_same_word word (codes "yes") then Some true else if is_same_word word (codes "no") then Some false else None
 
 -- two slots, of which the second isn't below the first
 abbrev pub in_order : Option ℕ → Option ℕ → Option (ℕ × ℕ)
 in_order (Some first) (Some last) = if nat_le first last then Some (first, last) else None
 in_order _ _ = None
 
--- "slots:", in front of the slots of a device
+-- what stands in front of the slots of a device
 abbrev pub slots_word : List ℕ
-slots_word = 115 ∷ 108 ∷ 111 ∷ 116 ∷ 115 ∷ 58 ∷ []
+slots_word = codes "slots:"
 
 abbrev pub is_dash : ℕ → Bool
 is_dash b = b == 45

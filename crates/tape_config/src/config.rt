@@ -1,114 +1,22 @@
 //! The configuration as a whole.
 
-ghost use Rattle.std.specs.Prelude.{◌≡◌, ◌≢◌, ◌∷◌, ◌<◌, ℕ, length, IfSome};
-ghost use Rattle.std.specs.List.{list_any};
+ghost use Rattle.std.specs.Prelude.{◌≡◌, ◌≢◌, ◌∷◌, ◌<◌, ◌⊎◌, ℕ, [], length, IfSome};
 ghost use Rattle.std.specs.Str.Lines.{lines, strip_carriage_return};
-ghost use Rattle.tape_config.specs.Configs.{has_port, has_slot, device_if, device_at, check_after, checks_names, port_in, next_device, next_line, ParsesConfig};
+ghost use Rattle.bk_text.specs.Alphabets.{IsHost};
+ghost use Rattle.bk_text.specs.Tests.{host_test};
+ghost use Rattle.tape_config.specs.Configs.{port_in, next_cell, next_line, name_or_nothing, no_settings, with_cell, ParsesConfig};
+ghost use Rattle.tape_config.specs.Lines.{cell_of, line_says};
 ghost use Rattle.tape_config.specs.Adds.{Adds};
-ghost use Rattle.tape_config.specs.Ports.{IsWithinLimits, AreApart};
-ghost use Rattle.tape_config.specs.declared.port.Port.{Port};
-ghost use Rattle.tape_config.specs.declared.config.ConfigFault.TheVariants.{Memory};
+ghost use Rattle.tape_config.specs.Ports.{AreApart};
+ghost use Rattle.tape_config.specs.declared.port.PortFields.{PortFields as AnyPort};
 
-use crate::line::{DeviceLine, Line, read_line};
-use crate::port::Port;
-use bk_text::{List, place_of};
-use std::alloc::{AllocError, Global};
+use crate::entries::{add_entry, checks_at, find_device};
+use crate::fault::ConfigFault;
+use crate::line::{Entry, cell_in, read_line};
+use crate::port::{Port, PortFields};
+use bk_text::{Host, List, place_of};
+use std::alloc::Global;
 use std::marker::Model;
-use thiserror::Error;
-
-/// Why a configuration was refused. Lines count from 1; a number above 4,294,967,295 is told as that. The first faulty
-/// line is told, and of its faults the first in this order.
-#[derive(Clone, Copy, Debug, PartialEq, Eq, Drop, Error)]
-pub enum ConfigFault {
-    /// The line is of no form.
-    #[error("line {line} has no known form")]
-    BadLine { line: u32 },
-    /// It is a second device line for its port.
-    #[error("line {line} is a second one for its port")]
-    PortTwice { line: u32 },
-    /// It has a slot that an earlier line has.
-    #[error("line {line} has a slot that an earlier line has")]
-    SlotTwice { line: u32 },
-    /// Memory was refused.
-    #[error("memory was refused")]
-    Memory,
-}
-
-impl From<AllocError> for ConfigFault {
-    ghost from_gives = { λ _ e. e ≡ Memory };
-
-    fn from(_e: AllocError) -> ConfigFault {
-        ConfigFault::Memory
-    }
-}
-
-fn is_of_port(line: Line, offset: u16) -> bool
-    ensures { result ≡ has_port offset line }
-{
-    match line {
-        Line::Device(device) => device.offset == offset,
-        _ => false,
-    }
-}
-
-fn is_of_slots(line: Line, first: u32, last: u32) -> bool
-    ensures { result ≡ has_slot first last line }
-{
-    match line {
-        Line::Device(device) => device.first <= last && first <= device.last,
-        _ => false,
-    }
-}
-
-fn any_of_port(lines: &[Line], offset: u16) -> bool
-    ensures { result ≡ list_any (has_port offset) lines.now }
-{
-    for line in lines {
-        if is_of_port(*line, offset) {
-            return true;
-        }
-    }
-    false
-}
-
-fn any_of_slots(lines: &[Line], first: u32, last: u32) -> bool
-    ensures { result ≡ list_any (has_slot first last) lines.now }
-{
-    for line in lines {
-        if is_of_slots(*line, first, last) {
-            return true;
-        }
-    }
-    false
-}
-
-fn add_device(lines: &mut List<Line>, number: u32, device: DeviceLine) -> Result<(), ConfigFault>
-    ensures { Adds (next_device number lines.old device) result lines.new }
-{
-    if any_of_port(lines.as_slice(), device.offset) {
-        return Err(ConfigFault::PortTwice { line: number });
-    }
-    if any_of_slots(lines.as_slice(), device.first, device.last) {
-        return Err(ConfigFault::SlotTwice { line: number });
-    }
-    lines.push(Line::Device(device))?;
-    Ok(())
-}
-
-/// Puts a line behind those before it.
-fn add(lines: &mut List<Line>, number: u32, line: Option<Line>) -> Result<(), ConfigFault>
-    ensures { Adds (next_line number lines.old line) result lines.new }
-{
-    match line {
-        None => Err(ConfigFault::BadLine { line: number }),
-        Some(Line::Skipped) => Ok(()),
-        Some(Line::Device(device)) => add_device(lines, number, device),
-        Some(Line::NameCheck { offset, on }) => {
-            lines.push(Line::NameCheck { offset, on })?;
-            Ok(())
-        }
-    }
-}
 
 fn without_return(line: &[u8]) -> &[u8]
     ensures { result.now ≡ strip_carriage_return line.now }
@@ -133,64 +41,69 @@ fn split_line(bytes: &[u8]) -> (&[u8], &[u8])
     (without_return(&bytes[..end]), &bytes[end + 1..])
 }
 
-fn device_of(line: Line, offset: u16) -> Option<DeviceLine>
-    ensures { result ≡ device_if offset line }
-{
-    match line {
-        Line::Device(device) if device.offset == offset => Some(device),
-        _ => None,
-    }
-}
-
-fn find_device(lines: &[Line], offset: u16) -> Option<DeviceLine>
-    ensures { result ≡ device_at offset lines.now }
-{
-    for line in lines {
-        if let Some(device) = device_of(*line, offset) {
-            return Some(device);
-        }
-    }
-    None
-}
-
-fn check_behind(line: Line, offset: u16, on: bool) -> bool
-    ensures { result ≡ check_after offset on line }
-{
-    match line {
-        Line::NameCheck {
-            offset: port,
-            on: said,
-        } if port == offset => said,
-        _ => on,
-    }
-}
-
-fn checks_at(lines: &[Line], offset: u16) -> bool
-    ensures { result ≡ checks_names offset lines.now }
-{
-    let mut on = true;
-    for line in lines {
-        on = check_behind(*line, offset, on);
-    }
-    on
-}
-
-/// A configuration: its device lines and its lines on name checking, in order.
+/// A configuration: its device lines and its lines on name checking, in order, and the name of the cell.
 #[derive(Debug, Drop)]
 pub struct Config {
-    lines: List<Line>,
+    entries: List<Entry>,
+    cell: Option<Host>,
 }
 
 impl Model for Config {
-    ghost use Rattle.std.specs.Prelude.{List};
-    ghost use Rattle.tape_config.specs.Ports.{IsConfig};
-    ghost use Rattle.tape_config.specs.declared.line.Line.{Line};
+    ghost use Rattle.tape_config.specs.Configs.{Settings, IsConfig};
 
-    ghost Value = { List Line };
+    ghost Value = { Settings };
 
-    ghost view = { λ a. a.lines };
+    ghost view = { λ a. record { entries = a.entries; cell = a.cell } };
 
-    ghost invariant = { λ a. IsConfig a.lines };
+    ghost invariant = { λ a. IsConfig (record { entries = a.entries; cell = a.cell }) };
+}
+
+/// What the lines so far said.
+#[derive(Debug, Drop)]
+struct Draft {
+    entries: List<Entry>,
+    cell: Option<Host>,
+}
+
+impl Model for Draft {
+    ghost use Rattle.tape_config.specs.Configs.{Settings};
+
+    ghost Value = { Settings };
+
+    ghost view = { λ a. record { entries = a.entries; cell = a.cell } };
+}
+
+impl Draft {
+    fn new(alloc: Global) -> Self
+        ensures { result ≡ no_settings }
+    {
+        Draft {
+            entries: List::new(alloc),
+            cell: None,
+        }
+    }
+
+    /// Keeps the name of the cell where no line before said it.
+    fn add_cell(&mut self, alloc: Global, number: u32, name: &[u8]) -> Result<(), ConfigFault>
+        requires { IsHost name.now }
+        ensures { Adds (with_cell self.old (next_cell number self.old.cell name.now)) result self.new }
+    {
+        if self.cell.is_some() {
+            return Err(ConfigFault::BadLine { line: number });
+        }
+        self.cell = Some(Host::from_bytes(alloc, name)?);
+        Ok(())
+    }
+
+    /// Puts a line behind those before it.
+    fn add(&mut self, alloc: Global, number: u32, line: &[u8]) -> Result<(), ConfigFault>
+        ensures { Adds (next_line number self.old (cell_of line.now) (line_says line.now)) result self.new }
+    {
+        match cell_in(line) {
+            Some(name) => self.add_cell(alloc, number, name),
+            None => add_entry(&mut self.entries, number, read_line(line)),
+        }
+    }
 }
 
 impl Config {
@@ -198,34 +111,45 @@ impl Config {
     pub fn parse(alloc: Global, bytes: &[u8]) -> Result<Config, ConfigFault>
         ensures { ParsesConfig bytes.now result }
     {
-        let mut lines = List::new(alloc);
+        let mut draft = Draft::new(alloc);
         let mut rest = bytes;
         let mut number: u32 = 1;
         while !rest.is_empty() {
             let (line, behind) = split_line(rest);
-            add(&mut lines, number, read_line(line))?;
+            draft.add(alloc, number, line)?;
             number = number.saturating_add(1);
             rest = behind;
         }
-        Ok(Config { lines })
+        let Draft { entries, cell } = draft;
+        Ok(Config { entries, cell })
+    }
+
+    /// The name of the cell; nothing where no line says it. It takes no memory.
+    pub fn cell(&self) -> &[u8]
+        ensures is { result.now ≡ name_or_nothing self.now.cell }
+        ensures form { IsHost result.now ⊎ (result.now ≡ []) }
+    {
+        match &self.cell {
+            Some(name) => name.bytes(),
+            None => &[],
+        }
     }
 
     /// The port of this offset; `None` where no device line has it. Ports of two offsets have no slot in common. It
     /// takes no memory.
     pub fn port(&self, offset: u16) -> Option<Port>
-        ensures is { result ≡ port_in offset self.now }
-        ensures within { IfSome result IsWithinLimits }
-        ensures apart { (other : ℕ) (port : Port) → offset ≢ other → port_in other self.now ≡ Some port → IfSome result (λ found. AreApart found port) }
+        ensures is { result ≡ port_in offset self.now.entries }
+        ensures apart { (other : ℕ) (port : AnyPort) → offset ≢ other → port_in other self.now.entries ≡ Some port → IfSome result (λ found. AreApart found port) }
     {
-        let lines = self.lines.as_slice();
-        let device = find_device(lines, offset)?;
-        Some(Port {
+        let entries = self.entries.as_slice();
+        let device = find_device(entries, offset)?;
+        Some(Port::new(PortFields {
             offset,
             capacity: device.capacity,
             filemark: device.filemark,
             first: device.first,
             last: device.last,
-            name_check: checks_at(lines, offset),
-        })
+            name_check: checks_at(entries, offset),
+        }))
     }
 }

@@ -1,15 +1,18 @@
-//! The tape configuration: which slots a port has, how much its tapes hold, and whether tape names are checked there.
+//! The tape configuration: which slots a port has, how much its tapes hold, whether tape names are checked there, and the
+//! name of the cell.
 #![tactic(auto)]
 
 mod config;
+mod entries;
+mod fault;
 mod line;
 mod numbers;
 mod port;
 mod words;
 
-pub use config::{Config, ConfigFault};
-pub use line::{DeviceLine, Line, read_line};
-pub use port::Port;
+pub use config::Config;
+pub use fault::ConfigFault;
+pub use port::{Port, PortFields};
 
 #[cfg(test)]
 mod tests;

@@ -1,12 +1,12 @@
 //! Configurations and what they say.
 
-use crate::{Config, ConfigFault, Port};
+use crate::{Config, ConfigFault, Port, PortFields};
 use std::alloc::Global;
 use std::test::Fail;
 
 /// A port with name checking and no filemarks.
-fn plain(offset: u16, capacity: u64, first: u32, last: u32) -> Port {
-    Port {
+fn plain(offset: u16, capacity: u64, first: u32, last: u32) -> PortFields {
+    PortFields {
         offset,
         capacity,
         filemark: 0,
@@ -17,11 +17,17 @@ fn plain(offset: u16, capacity: u64, first: u32, last: u32) -> Port {
 }
 
 /// Whether a configuration says this of a port.
-fn says(alloc: Global, text: &[u8], offset: u16, port: Option<Port>) -> bool {
+fn says(alloc: Global, text: &[u8], offset: u16, port: Option<PortFields>) -> bool {
     match Config::parse(alloc, text) {
-        Ok(config) => config.port(offset) == port,
+        Ok(config) => fields_at(&config, offset) == port,
         Err(_) => false,
     }
+}
+
+/// A port's fields, by way of a port that is made of them.
+fn fields_at(config: &Config, offset: u16) -> Option<PortFields> {
+    let port = config.port(offset)?;
+    Some(Port::new(port.fields()).fields())
 }
 
 fn is_refused(alloc: Global, text: &[u8], wanted: ConfigFault) -> bool {
@@ -34,7 +40,7 @@ fn is_refused(alloc: Global, text: &[u8], wanted: ConfigFault) -> bool {
 #[test]
 fn ports(rt: HostRuntime) {
     let gib2 = 2_147_483_648;
-    let table: [(&[u8], u16, Option<Port>); 16] = [
+    let table: [(&[u8], u16, Option<PortFields>); 16] = [
         (b"".as_slice(), 0, None),
         (b"slots:0-3 0".as_slice(), 0, Some(plain(0, gib2, 0, 3))),
         (b"slots:0-3 0".as_slice(), 1, None),
@@ -110,23 +116,23 @@ fn filemarks_and_name_checks(rt: HostRuntime) -> Result<(), Fail> {
     let text =
         b"name_check no 0\nNAME_Check YES 0\n8k 5g slots:0-3 0\n0 16 slots:4-4 1\nName_Check NO 1\n";
     let config = Config::parse(rt.alloc(), text)?;
-    let zero = Port {
+    let zero = PortFields {
         filemark: 4_000_000_000,
         ..plain(0, 8192, 0, 3)
     };
-    assert_eq!(rt; config.port(0), Some(zero));
-    let one = Port {
+    assert_eq!(rt; fields_at(&config, 0), Some(zero));
+    let one = PortFields {
         filemark: 16,
         name_check: false,
         ..plain(1, 2_147_483_648, 4, 4)
     };
-    assert_eq!(rt; config.port(1), Some(one));
+    assert_eq!(rt; fields_at(&config, 1), Some(one));
     Ok(())
 }
 
 #[test]
 fn bad_lines(rt: HostRuntime) {
-    let table: [(&[u8], u32); 27] = [
+    let table: [(&[u8], u32); 33] = [
         (b"slots:0-3 0\ntape 0\n".as_slice(), 2),
         (b"#\n\n\t\nslots:0-3".as_slice(), 4),
         (b"slots:0-3 0\r".as_slice(), 1),
@@ -154,6 +160,15 @@ fn bad_lines(rt: HostRuntime) {
         (b"name_check maybe 0".as_slice(), 1),
         (b"name_check yes 01".as_slice(), 1),
         (b"name_check yes".as_slice(), 1),
+        (b"cell a\n\ncell a\n".as_slice(), 3),
+        (b"cell a\ncell b\n".as_slice(), 2),
+        (b"Cell x".as_slice(), 1),
+        (b"cell a b".as_slice(), 1),
+        (b"cell".as_slice(), 1),
+        (
+            b"cell 0123456789012345678901234567890123456789012345678901234567890123".as_slice(),
+            1,
+        ),
     ];
     for (text, line) in table {
         assert!(rt;
@@ -206,4 +221,30 @@ fn ports_and_slots_twice(rt: HostRuntime) {
             Some(plain(0, 2_147_483_648, 0, 1))
         )
     );
+}
+
+#[test]
+fn cells(rt: HostRuntime) -> Result<(), Fail> {
+    let table: [(&[u8], &[u8]); 6] = [
+        (b"".as_slice(), b"".as_slice()),
+        (
+            b"slots:0-3 0\n# cell x\n#cell x\n".as_slice(),
+            b"".as_slice(),
+        ),
+        (
+            b"\tcell  example.org\r\nslots:0-0 0\n".as_slice(),
+            b"example.org".as_slice(),
+        ),
+        (b"slots:0-0 0\ncell 0".as_slice(), b"0".as_slice()),
+        (b"cell cell".as_slice(), b"cell".as_slice()),
+        (
+            b"cell 012345678901234567890123456789012345678901234567890123456789012".as_slice(),
+            b"012345678901234567890123456789012345678901234567890123456789012".as_slice(),
+        ),
+    ];
+    for (text, cell) in table {
+        let config = Config::parse(rt.alloc(), text)?;
+        assert_eq!(rt; config.cell(), cell);
+    }
+    Ok(())
 }

@@ -2,8 +2,8 @@
 
 ghost use Rattle.std.specs.Prelude.{◌≡◌, ◌≤◌, length};
 ghost use Rattle.std.specs.List.{position_or_len};
-ghost use Rattle.bk_text.specs.Blanks.{is_same_word};
-ghost use Rattle.tape_config.specs.Words.{is_dash, switch_of, slots_of, name_check_word};
+ghost use Rattle.bk_text.specs.Blanks.{is_same_text, is_same_word};
+ghost use Rattle.tape_config.specs.Words.{is_dash, switch_of, slots_of, name_check_word, cell_word};
 
 use crate::numbers::plain_in;
 use bk_text::place_of;
@@ -13,6 +13,13 @@ pub fn is_name_check(word: &[u8]) -> bool
     ensures { result ≡ is_same_word word.now name_check_word }
 {
     word.eq_ignore_ascii_case(b"name_check")
+}
+
+/// Whether the word for the cell begins the line, in exactly this case.
+pub fn is_cell(word: &[u8]) -> bool
+    ensures { result ≡ is_same_text word.now cell_word }
+{
+    word == b"cell".as_slice()
 }
 
 /// Yes or no.

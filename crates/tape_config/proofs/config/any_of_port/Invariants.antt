@@ -1,7 +1,0 @@
-use Rattle.std.proofs.Common.{◌≡◌, take, false}
-use Rattle.std.specs.List.{list_any}
-use Rattle.tape_config.specs.Configs.{has_port}
-use Rattle.tape_config.proofs.config.any_of_port.Given as goal
-
-abbrev pub invariant-loop-line : goal.invariant-loop-line
-invariant-loop-line l = list_any (has_port l.offset) (take l.line-index l.lines) ≡ false
