@@ -28,6 +28,8 @@ pub use writer::Writer;
 pub use writing::write;
 
 #[cfg(test)]
+mod increment_tests;
+#[cfg(test)]
 mod tests;
 #[cfg(test)]
 mod writing_tests;

@@ -53,19 +53,19 @@ fn both_written(alloc: Global) -> Result<Bytes, AllocError> {
     Ok(bytes)
 }
 
-fn increment_of(alloc: Global, bytes: &[u8]) -> Result<Increment, Fail> {
+pub fn increment_of(alloc: Global, bytes: &[u8]) -> Result<Increment, Fail> {
     let (increment, _) = read(alloc, bytes).ok().ok_or("it is a stream")?;
     Ok(increment)
 }
 
-fn written_of(alloc: Global, increment: &Increment) -> Result<Bytes, AllocError> {
+pub fn written_of(alloc: Global, increment: &Increment) -> Result<Bytes, AllocError> {
     let mut out = Out::new(alloc);
     write(increment, &mut out)?;
     Ok(out.into_bytes())
 }
 
 /// The volume of a stream with no kept entry.
-fn volume_of(alloc: Global, bytes: &[u8]) -> Result<Volume, Fail> {
+pub fn volume_of(alloc: Global, bytes: &[u8]) -> Result<Volume, Fail> {
     let increment = increment_of(alloc, bytes)?;
     match apply(alloc, None, increment) {
         Ok(volume) => Ok(volume),
@@ -74,7 +74,7 @@ fn volume_of(alloc: Global, bytes: &[u8]) -> Result<Volume, Fail> {
 }
 
 /// All that a writer gives, in pieces that are read off from this room, at most 600 of them.
-fn given_by(alloc: Global, mut writer: Writer, room: &mut [u8]) -> Result<Bytes, AllocError> {
+pub fn given_by(alloc: Global, mut writer: Writer, room: &mut [u8]) -> Result<Bytes, AllocError> {
     let mut bytes = Bytes::new(alloc);
     for _ in 0..600 {
         let count = writer.next(room);
@@ -159,11 +159,11 @@ const CASES: [Case; 12] = [
 
 const LETTERS: [u8; 300] = [b'x'; 300];
 
-fn front(bytes: &[u8], count: usize) -> &[u8] {
+pub fn front(bytes: &[u8], count: usize) -> &[u8] {
     &bytes[..count.min(bytes.len())]
 }
 
-fn behind(bytes: &[u8], count: usize) -> &[u8] {
+pub fn behind(bytes: &[u8], count: usize) -> &[u8] {
     &bytes[count.min(bytes.len())..]
 }
 
@@ -188,13 +188,13 @@ fn sizes(rt: HostRuntime) -> Result<(), Fail> {
 }
 
 /// What is written of a volume's increment from a time on.
-fn stream_from(alloc: Global, volume: &Volume, from: u32) -> Result<Bytes, Fail> {
+pub fn stream_from(alloc: Global, volume: &Volume, from: u32) -> Result<Bytes, Fail> {
     let increment = select(alloc, volume, from, 9)?;
     let bytes = written_of(alloc, &increment)?;
     Ok(bytes)
 }
 
-fn applied_to(alloc: Global, volume: Volume, increment: Increment) -> Result<Volume, Fail> {
+pub fn applied_to(alloc: Global, volume: Volume, increment: Increment) -> Result<Volume, Fail> {
     match apply(alloc, Some(volume), increment) {
         Ok(volume) => Ok(volume),
         Err(_) => Err("the base has all".into()),
@@ -212,7 +212,7 @@ fn restored(alloc: Global, bytes: &[u8], from: u32) -> Result<Bytes, Fail> {
 }
 
 /// Number, uniquifier, type, server modify time and size of data.
-type Row = (u32, u32, u8, u32, u16);
+pub type Row = (u32, u32, u8, u32, u16);
 
 const VOLUMES: [&[Row]; 9] = [
     &[],
@@ -240,7 +240,7 @@ fn put_number(bytes: &mut Bytes, tag: u8, number: u32) -> Result<(), AllocError>
     bytes.extend_from_slice(&number.to_be_bytes())
 }
 
-fn put_vnode(bytes: &mut Bytes, row: &Row) -> Result<(), AllocError> {
+pub fn put_vnode(bytes: &mut Bytes, row: &Row) -> Result<(), AllocError> {
     put_number(bytes, 3, row.0)?;
     bytes.extend_from_slice(&row.1.to_be_bytes())?;
     bytes.extend_from_slice(&[b't', row.2])?;

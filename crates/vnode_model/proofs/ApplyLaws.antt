@@ -1,6 +1,6 @@
 -- What applying gives is fit, and an increment gives a volume that follows back.
 use Rattle.std.proofs.Common.{◌≡◌, ℕ, suc, ◌<◌, ◌≤◌, ◌⊎◌, true, leb, zero, Option, Some, None, Ok, List, [], ◌∷◌, length, map, refl, sym, ap, subst, ◌∙◌, inl, inr, arith}
-use Rattle.std.specs.Prelude.{All, AllPairs, Contains, find, sum_by, ◌==◌}
+use Rattle.std.specs.Prelude.{All, AllPairs, Contains, find, sum_by, ◌==◌, ◌||◌}
 use Rattle.std.specs.List.{filter_map}
 use Rattle.std.proofs.lemmas.Bool.{cases_Bool, and_parts, and_from, eqb-true, eq-eqb, or_parts, leb-false, le-leb}
 use Rattle.std.proofs.lemmas.List.Elements.{All-nil, All-cons, All-head, All-tail, All-contains}
@@ -11,7 +11,7 @@ use Rattle.vnode_model.specs.declared.increments.Entry.TheVariants.{Whole, Kept}
 use Rattle.vnode_model.specs.declared.increments.IncrementFields.{IncrementFields}
 use Rattle.vnode_model.specs.declared.volumes.VolumeFields.{VolumeFields}
 use Rattle.vnode_model.specs.Limits.{StandsBefore, IsFit, IsFitVnode, AreFit, AreVolume, number_of, data_len, all_data}
-use Rattle.vnode_model.specs.Increments.{is_whole_from, entry_from, is_named, vnode_for, first_lacking, data_of, vnodes_of, applied, selected, Follows}
+use Rattle.vnode_model.specs.Increments.{is_directory, is_whole_from, entry_from, is_named, vnode_for, first_lacking, data_of, vnodes_of, applied, selected, Follows}
 use Rattle.vnode_model.specs.Taking.{AreOrdered}
 use Rattle.vnode_model.proofs.IncrementLaws.{fit_like}
 use Rattle.vnode_model.proofs.TakingLaws.{pairs_first, pairs_rest, before_not_same, find_further, find_here}
@@ -108,7 +108,8 @@ find_contained (w ∷ vs) v ordered (suc k, within, is) =
 stands_again : (since : ℕ) (old : List Vnode) (v : Vnode) → AreOrdered old → (v.server_modified < since → Contains old v) → vnode_for old (entry_from since v) ≡ Some v
 stands_again since old v ordered follows = elim (cases_Bool (is_whole_from since v)) [
   | inl whole ↦ rw whole refl
-  | inr kept ↦ rw kept (find_contained old v ordered (follows (leb-false since v.server_modified (or_parts (since == 0) (leb since v.server_modified) kept).1)))
+  | inr kept ↦ rw kept (find_contained old v ordered (follows (leb-false since v.server_modified
+      (or_parts (is_directory v.kind) (leb since v.server_modified) (or_parts (since == 0) (is_directory v.kind || leb since v.server_modified) kept).1).1)))
 ]
 
 module _ (since : ℕ) (old : List Vnode) (ordered : AreOrdered old) where

@@ -1,6 +1,8 @@
 -- Increments of a volume, and volumes made from increments.
-use Rattle.std.specs.Prelude.{◌≡◌, ℕ, ◌<◌, Bool, ◌&&◌, ◌||◌, ◌==◌, nat_le, if◌then◌else◌, Option, Some, None, is_none, Result, Ok, Err, List, [], length, map, find, sum_by, All, Contains, ⊤}
+use Rattle.std.specs.Prelude.{◌≡◌, ℕ, ◌<◌, Bool, true, false, ◌&&◌, ◌||◌, ◌==◌, nat_le, if◌then◌else◌, Option, Some, None, is_none, Result, Ok, Err, List, [], length, map, find, sum_by, All, Contains, ⊤}
 use Rattle.std.specs.List.{filter_map}
+use Rattle.vnode_model.specs.declared.vnodes.VnodeKind.{VnodeKind}
+use Rattle.vnode_model.specs.declared.vnodes.VnodeKind.TheVariants.{File, Directory, Symlink}
 use Rattle.vnode_model.specs.declared.vnodes.Vnode.{Vnode}
 use Rattle.vnode_model.specs.declared.headers.HeaderFields.{HeaderFields}
 use Rattle.vnode_model.specs.declared.increments.Entry.{Entry}
@@ -13,10 +15,15 @@ use Rattle.vnode_model.specs.Limits.{all_data, number_of}
 
 -- ---- the increment of a volume from a time on
 
--- whether a vnode stands whole in an increment from this time on: always from 0, else where the server changed it then
--- or later
+abbrev pub is_directory : VnodeKind → Bool
+is_directory File = false
+is_directory Directory = true
+is_directory Symlink = false
+
+-- whether a vnode stands whole in an increment from this time on: always from 0; else where it is a directory, or the
+-- server changed it then or later
 abbrev pub is_whole_from : ℕ → Vnode → Bool
-is_whole_from since v = (since == 0) || nat_le since v.server_modified
+is_whole_from since v = (since == 0) || (is_directory v.kind || nat_le since v.server_modified)
 
 -- what it says of a vnode: all of it, or its number and uniquifier alone
 abbrev pub entry_from : ℕ → Vnode → Entry

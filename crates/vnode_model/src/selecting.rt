@@ -41,12 +41,13 @@ impl<'a> Model for SelectIter<'a> {
     ghost view = { λ a. map (entry_from a.from) a.vnodes.now };
 }
 
-/// Whether a vnode stands whole in an increment from this time on: always from 0, else where the server changed it then
-/// or later.
+/// Whether a vnode stands whole in an increment from this time on, in seconds since 1970: always from 0; else where it is
+/// a directory, or the server changed it then or later. With its directories whole an increment shows the tree of its
+/// volume, as the increments of OpenAFS do.
 pub fn is_whole_from(from: u32, vnode: &Vnode) -> bool
     ensures { result ≡ is_whole_from from vnode.now }
 {
-    from == 0 || vnode.server_modified >= from
+    from == 0 || vnode.kind.is_directory() || vnode.server_modified >= from
 }
 
 fn entry_from(from: u32, vnode: &Vnode) -> EntryRef<'_>
@@ -89,8 +90,8 @@ impl<'a> Iterator for SelectIter<'a> {
     }
 }
 
-/// The entries of a volume's increment from a time on, in seconds since 1970; from 0 every vnode is whole. They are
-/// those of `select`, by reference. It takes no memory.
+/// The entries of a volume's increment from a time on, in seconds since 1970; `is_whole_from` says which are whole. They
+/// are those of `select`, by reference. It takes no memory.
 pub fn select_iter(volume: &Volume, from: u32) -> SelectIter<'_>
     ensures value { result ≡ entries_from volume.now from }
     ensures form { AreFit result }
@@ -114,8 +115,8 @@ fn entries_of(alloc: Global, volume: &Volume, from: u32) -> Result<List<Entry>, 
     Ok(entries)
 }
 
-/// The increment of a volume from a time on, in seconds since 1970; from 0 every vnode is whole. `to` is the time of
-/// the volume's state.
+/// The increment of a volume from a time on, in seconds since 1970; `is_whole_from` says which vnodes are whole. `to` is
+/// the time of the volume's state.
 pub fn select(alloc: Global, volume: &Volume, from: u32, to: u32) -> Result<Increment, Memory>
     ensures { IfOk result (λ increment. increment ≡ selected volume.now from to) }
 {

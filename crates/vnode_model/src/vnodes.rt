@@ -14,6 +14,20 @@ pub enum VnodeKind {
     Symlink,
 }
 
+impl VnodeKind {
+    ghost use Rattle.vnode_model.specs.Increments.{is_directory};
+
+    /// Whether it is a directory.
+    pub fn is_directory(self) -> bool
+        ensures { result ≡ is_directory self }
+    {
+        match self {
+            VnodeKind::Directory => true,
+            VnodeKind::File | VnodeKind::Symlink => false,
+        }
+    }
+}
+
 /// A vnode: a file, a directory or a symbolic link of a volume, with its data.
 #[derive(Debug, Drop)]
 pub struct Vnode {

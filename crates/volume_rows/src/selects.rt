@@ -16,9 +16,9 @@ const ROWS: [Row; 3] = [
 ];
 
 const TABLE: [(u32, [Shown; 3]); 5] = [
-    (2000, [(false, 1, 1), (false, 2, 2), (true, 4, 3)]),
-    (2001, [(false, 1, 1), (false, 2, 2), (false, 4, 3)]),
-    (1999, [(false, 1, 1), (true, 2, 2), (true, 4, 3)]),
+    (2000, [(true, 1, 1), (false, 2, 2), (true, 4, 3)]),
+    (2001, [(true, 1, 1), (false, 2, 2), (false, 4, 3)]),
+    (1999, [(true, 1, 1), (true, 2, 2), (true, 4, 3)]),
     (1, [(true, 1, 1), (true, 2, 2), (true, 4, 3)]),
     (0, [(true, 1, 1), (true, 2, 2), (true, 4, 3)]),
 ];
@@ -59,7 +59,7 @@ fn selected_refs(alloc: Global, from: u32) -> Result<List<Shown>, AllocError> {
 }
 
 #[test]
-fn changed_vnodes_are_whole(rt: HostRuntime) -> Result<(), Fail> {
+fn directories_and_changed_vnodes_are_whole(rt: HostRuntime) -> Result<(), Fail> {
     for (from, entries) in TABLE {
         assert_eq!(rt;
             selected(rt.alloc(), from)?.as_slice(),
