@@ -2,9 +2,12 @@
 use Rattle.std.specs.Prelude.{◌≢◌, ℕ, ◌≤◌, List, length, All}
 use Rattle.vnode_model.specs.declared.headers.HeaderFields.{HeaderFields}
 
--- an offline message or a message of the day has at most 1,024 bytes, none of them 0
+abbrev pub most_message : ℕ
+most_message = 1024
+
+-- an offline message or a message of the day has at most so many bytes, none of them 0
 pub record IsMessage (text : List ℕ) : Type 0 where
-  pub short : length text ≤ 1024
+  pub short : length text ≤ most_message
   pub each : All (λ b. b ≢ 0) text
 
 -- the volume types are 0 read/write, 1 read-only and 2 backup

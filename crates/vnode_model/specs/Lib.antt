@@ -3,5 +3,6 @@ pub mod Limits
 pub mod Follows
 pub mod Volumes
 pub mod Increments
+pub mod Chains
 pub mod EntryRefs
 pub mod Taking

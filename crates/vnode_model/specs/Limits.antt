@@ -24,6 +24,10 @@ KindFits Symlink n = IsEven n
 abbrev pub StandsBefore : ℕ → ℕ → Type 0
 StandsBefore m n = (IsOdd m × IsEven n) ⊎ ((m % 2 ≡ n % 2) × (m < n))
 
+-- a vnode's number is 1 or more and comes after the last one in this order, where 0 stands for none
+abbrev pub ComesAfter : ℕ → ℕ → Type 0
+ComesAfter last n = (1 ≤ n) × ((last ≡ 0) ⊎ StandsBefore last n)
+
 -- ---- limits
 
 -- the vnodes of a volume, the bytes of one vnode's data, and those of all of them

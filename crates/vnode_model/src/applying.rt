@@ -6,6 +6,7 @@ ghost use Rattle.vnode_model.specs.Increments.{data_of, applied, Answers};
 ghost use Rattle.vnode_model.specs.declared.applying.ApplyFault.TheVariants.{Memory};
 
 use crate::increments::{Increment, IncrementFields};
+use crate::limits::ALL_DATA;
 use crate::taking::{take_all, vnodes_in};
 use crate::vnodes::Vnode;
 use crate::volumes::{Volume, VolumeFields};
@@ -38,7 +39,7 @@ impl From<AllocError> for ApplyFault {
 pub fn is_small(vnodes: &[Vnode]) -> bool
     ensures { result ≡ nat_le (data_of vnodes.now) all_data }
 {
-    let mut room = 268_435_456;
+    let mut room = ALL_DATA;
     for vnode in vnodes {
         if vnode.body.len() > room {
             return false;

@@ -6,7 +6,8 @@ ghost use Rattle.vnode_model.specs.Follows.{NumberMayFollow, MayFollow};
 ghost use Rattle.vnode_model.specs.declared.increments.Entry.TheVariants.{Whole};
 
 use crate::increments::Entry;
-use crate::vnodes::{Vnode, VnodeKind, stands_before};
+use crate::limits::{ALL_DATA, MOST_DATA, MOST_VNODES};
+use crate::vnodes::{Vnode, VnodeKind, comes_after};
 
 fn kind_fits(kind: VnodeKind, number: u32) -> bool
     ensures { IsTrue result ↔ KindFits kind number }
@@ -31,7 +32,7 @@ fn is_fit_vnode(vnode: &Vnode) -> bool
 {
     kind_fits(vnode.kind, vnode.number)
         && access_fits(vnode.kind, &vnode.access)
-        && vnode.body.len() <= 16_777_216
+        && vnode.body.len() <= MOST_DATA
 }
 
 fn is_fit(entry: &Entry) -> bool
@@ -71,7 +72,7 @@ impl Entry {
 fn number_may_follow(count: usize, last: u32, number: u32) -> bool
     ensures { IsTrue result ↔ NumberMayFollow count last number }
 {
-    count < 65_536 && number >= 1 && (last == 0 || stands_before(last, number))
+    count < MOST_VNODES && comes_after(last, number)
 }
 
 /// Whether a vnode may follow so many others, the last of which has this number, where there is room for so much data.
@@ -96,7 +97,7 @@ pub fn fault_in(entries: &[Entry]) -> Option<usize>
     ensures { MatchOption result (AreFit entries.now) (λ at. BreakAt entries.now at) }
 {
     let mut last = 0;
-    let mut room = 268_435_456;
+    let mut room = ALL_DATA;
     for (at, entry) in entries.iter().enumerate() {
         if !may_follow(at, last, room, entry) {
             return Some(at);
@@ -112,7 +113,7 @@ pub fn fault_in_vnodes(vnodes: &[Vnode]) -> Option<usize>
     ensures { MatchOption result (AreVolume vnodes.now) (λ at. BreakAt (map Whole vnodes.now) at) }
 {
     let mut last = 0;
-    let mut room = 268_435_456;
+    let mut room = ALL_DATA;
     for (at, vnode) in vnodes.iter().enumerate() {
         if !vnode_may_follow(at, last, room, vnode) {
             return Some(at);

@@ -3,6 +3,7 @@
 ghost use Rattle.std.specs.Prelude.{◌≡◌, ◌↔◌, IsTrue};
 ghost use Rattle.vnode_model.specs.Headers.{IsMessage, IsVolHeader};
 
+use crate::limits::MOST_MESSAGE;
 use bk_text::{Bytes, Name};
 use std::alloc::AllocError;
 use std::marker::Model;
@@ -82,10 +83,11 @@ impl Clone for VolHeader {
     }
 }
 
-fn is_message(text: &[u8]) -> bool
+/// Whether this is an offline message or a message of the day: at most 1,024 bytes, none of them 0.
+pub fn is_message(text: &[u8]) -> bool
     ensures { IsTrue result ↔ IsMessage text.now }
 {
-    text.len() <= 1024 && text.iter().all(|byte| *byte != 0)
+    text.len() <= MOST_MESSAGE && text.iter().all(|byte| *byte != 0)
 }
 
 impl VolHeader {

@@ -1,7 +1,7 @@
 //! Vnodes.
 
 ghost use Rattle.std.specs.Prelude.{◌≡◌, ◌↔◌, IsTrue};
-ghost use Rattle.vnode_model.specs.Limits.{StandsBefore};
+ghost use Rattle.vnode_model.specs.Limits.{StandsBefore, ComesAfter};
 
 use bk_text::Bytes;
 use std::alloc::AllocError;
@@ -75,4 +75,12 @@ pub fn stands_before(first: u32, second: u32) -> bool
         (false, true) => false,
         (true, true) | (false, false) => first < second,
     }
+}
+
+/// Whether a vnode of a number may come behind the last one, of which 0 stands for none: its number is 1 or more, and the
+/// last one stands before it.
+pub fn comes_after(last: u32, number: u32) -> bool
+    ensures { IsTrue result ↔ ComesAfter last number }
+{
+    number >= 1 && (last == 0 || stands_before(last, number))
 }
