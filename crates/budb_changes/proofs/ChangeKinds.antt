@@ -4,6 +4,7 @@ use Rattle.bk_text.specs.Alphabets.{IsName, IsHost, IsSetName}
 use Rattle.bk_text.specs.LevelPaths.{IsLevelPath}
 use Rattle.bk_text.specs.declared.expiry.Expiry.{Expiry}
 use Rattle.bk_text.specs.declared.expiry.Expiry.TheVariants as expiries
+use Rattle.budb_changes.specs.declared.version.Version.TheVariants.{One, Two}
 use Rattle.budb_changes.specs.declared.records.DumpRecordFields.{DumpRecordFields}
 use Rattle.budb_changes.specs.declared.change.Change.{Change}
 use Rattle.budb_changes.specs.declared.change.Change.TheVariants as changes
@@ -193,7 +194,7 @@ abbrev pub hosting : Format (List ℕ × ℕ)
 hosting = pair (text1_of IsHost) any_two
 
 pub no_dump : DumpRecordFields
-no_dump = record { id = 0; initial = 0; parent = 0; expires = 0; set = []; level = []; base = []; tapes = []; volumes = [] }
+no_dump = record { id = 0; initial = 0; parent = 0; expires = 0; set = []; level = []; base = []; tapes = []; volumes = []; cell = [] }
 
 -- AddSet
 pub from_1 : Change → List ℕ
@@ -492,30 +493,30 @@ unfoldable pub like_11 : Like any_four (of_kind 11)
 unfolding from_11 to_11 kind_of
 like_11 = record { to = to_11; from = from_11; there = λ p is. (refl, is); back = back_11; again = λ p is. refl; restored = restored_11; same = same_11 }
 
--- Done
+-- Done1
 pub from_12 : Change → DumpRecordFields
-from_12 (changes.Done dump) = dump
+from_12 (changes.Done1 dump) = dump
 from_12 other = no_dump
 
 abbrev pub to_12 : DumpRecordFields → Change
-to_12 p = changes.Done p
+to_12 p = changes.Done1 p
 
-pub back_12 : (c : Change) → (kind_of c ≡ 12) × IsChange c → dump_form.Is (from_12 c)
+pub back_12 : (c : Change) → (kind_of c ≡ 12) × IsChange c → (dump_form One).Is (from_12 c)
 unfolding from_12 kind_of
-back_12 (changes.Done dump) h = h.1
+back_12 (changes.Done1 dump) h = h.1
 back_12 other h = absurd (omega (arith, h.0))
 
 pub restored_12 : (c : Change) → (kind_of c ≡ 12) × IsChange c → to_12 (from_12 c) ≡ c
 unfolding from_12 to_12 kind_of
-restored_12 (changes.Done dump) h = refl
+restored_12 (changes.Done1 dump) h = refl
 restored_12 other h = absurd (omega (arith, h.0))
 
-pub same_12 : (c : Change) → (kind_of c ≡ 12) × IsChange c → fields_of c ≡ dump_form.spelled (from_12 c)
+pub same_12 : (c : Change) → (kind_of c ≡ 12) × IsChange c → fields_of c ≡ (dump_form One).spelled (from_12 c)
 unfolding from_12 kind_of fields_of
-same_12 (changes.Done dump) h = refl
+same_12 (changes.Done1 dump) h = refl
 same_12 other h = absurd (omega (arith, h.0))
 
-unfoldable pub like_12 : Like dump_form (of_kind 12)
+unfoldable pub like_12 : Like (dump_form One) (of_kind 12)
 unfolding from_12 to_12 kind_of
 like_12 = record { to = to_12; from = from_12; there = λ p is. (refl, is); back = back_12; again = λ p is. refl; restored = restored_12; same = same_12 }
 
@@ -546,32 +547,86 @@ unfoldable pub like_13 : Like any_four (of_kind 13)
 unfolding from_13 to_13 kind_of
 like_13 = record { to = to_13; from = from_13; there = λ p is. (refl, is); back = back_13; again = λ p is. refl; restored = restored_13; same = same_13 }
 
--- Found
+-- Found1
 pub from_14 : Change → DumpRecordFields
-from_14 (changes.Found dump) = dump
+from_14 (changes.Found1 dump) = dump
 from_14 other = no_dump
 
 abbrev pub to_14 : DumpRecordFields → Change
-to_14 p = changes.Found p
+to_14 p = changes.Found1 p
 
-pub back_14 : (c : Change) → (kind_of c ≡ 14) × IsChange c → dump_form.Is (from_14 c)
+pub back_14 : (c : Change) → (kind_of c ≡ 14) × IsChange c → (dump_form One).Is (from_14 c)
 unfolding from_14 kind_of
-back_14 (changes.Found dump) h = h.1
+back_14 (changes.Found1 dump) h = h.1
 back_14 other h = absurd (omega (arith, h.0))
 
 pub restored_14 : (c : Change) → (kind_of c ≡ 14) × IsChange c → to_14 (from_14 c) ≡ c
 unfolding from_14 to_14 kind_of
-restored_14 (changes.Found dump) h = refl
+restored_14 (changes.Found1 dump) h = refl
 restored_14 other h = absurd (omega (arith, h.0))
 
-pub same_14 : (c : Change) → (kind_of c ≡ 14) × IsChange c → fields_of c ≡ dump_form.spelled (from_14 c)
+pub same_14 : (c : Change) → (kind_of c ≡ 14) × IsChange c → fields_of c ≡ (dump_form One).spelled (from_14 c)
 unfolding from_14 kind_of fields_of
-same_14 (changes.Found dump) h = refl
+same_14 (changes.Found1 dump) h = refl
 same_14 other h = absurd (omega (arith, h.0))
 
-unfoldable pub like_14 : Like dump_form (of_kind 14)
+unfoldable pub like_14 : Like (dump_form One) (of_kind 14)
 unfolding from_14 to_14 kind_of
 like_14 = record { to = to_14; from = from_14; there = λ p is. (refl, is); back = back_14; again = λ p is. refl; restored = restored_14; same = same_14 }
+
+-- Done
+pub from_15 : Change → DumpRecordFields
+from_15 (changes.Done dump) = dump
+from_15 other = no_dump
+
+abbrev pub to_15 : DumpRecordFields → Change
+to_15 p = changes.Done p
+
+pub back_15 : (c : Change) → (kind_of c ≡ 15) × IsChange c → (dump_form Two).Is (from_15 c)
+unfolding from_15 kind_of
+back_15 (changes.Done dump) h = (h.1, tt)
+back_15 other h = absurd (omega (arith, h.0))
+
+pub restored_15 : (c : Change) → (kind_of c ≡ 15) × IsChange c → to_15 (from_15 c) ≡ c
+unfolding from_15 to_15 kind_of
+restored_15 (changes.Done dump) h = refl
+restored_15 other h = absurd (omega (arith, h.0))
+
+pub same_15 : (c : Change) → (kind_of c ≡ 15) × IsChange c → fields_of c ≡ (dump_form Two).spelled (from_15 c)
+unfolding from_15 kind_of fields_of
+same_15 (changes.Done dump) h = refl
+same_15 other h = absurd (omega (arith, h.0))
+
+unfoldable pub like_15 : Like (dump_form Two) (of_kind 15)
+unfolding from_15 to_15 kind_of
+like_15 = record { to = to_15; from = from_15; there = λ p is. (refl, is.0); back = back_15; again = λ p is. refl; restored = restored_15; same = same_15 }
+
+-- Found
+pub from_16 : Change → DumpRecordFields
+from_16 (changes.Found dump) = dump
+from_16 other = no_dump
+
+abbrev pub to_16 : DumpRecordFields → Change
+to_16 p = changes.Found p
+
+pub back_16 : (c : Change) → (kind_of c ≡ 16) × IsChange c → (dump_form Two).Is (from_16 c)
+unfolding from_16 kind_of
+back_16 (changes.Found dump) h = (h.1, tt)
+back_16 other h = absurd (omega (arith, h.0))
+
+pub restored_16 : (c : Change) → (kind_of c ≡ 16) × IsChange c → to_16 (from_16 c) ≡ c
+unfolding from_16 to_16 kind_of
+restored_16 (changes.Found dump) h = refl
+restored_16 other h = absurd (omega (arith, h.0))
+
+pub same_16 : (c : Change) → (kind_of c ≡ 16) × IsChange c → fields_of c ≡ (dump_form Two).spelled (from_16 c)
+unfolding from_16 kind_of fields_of
+same_16 (changes.Found dump) h = refl
+same_16 other h = absurd (omega (arith, h.0))
+
+unfoldable pub like_16 : Like (dump_form Two) (of_kind 16)
+unfolding from_16 to_16 kind_of
+like_16 = record { to = to_16; from = from_16; there = λ p is. (refl, is.0); back = back_16; again = λ p is. refl; restored = restored_16; same = same_16 }
 
 -- ---- changes
 
@@ -588,11 +643,13 @@ sole_kind (changes.AddHost host port) = sole_like hosting (of_kind 8) like_8 (so
 sole_kind (changes.DelHost port) = sole_like any_two (of_kind 9) like_9 sole_any_two
 sole_kind (changes.Begin id) = sole_like any_four (of_kind 10) like_10 sole_four
 sole_kind (changes.Take initial) = sole_like any_four (of_kind 11) like_11 sole_four
-sole_kind (changes.Done dump) = sole_like dump_form (of_kind 12) like_12 sole_dump
+sole_kind (changes.Done1 dump) = sole_like (dump_form One) (of_kind 12) like_12 (sole_dump One)
 sole_kind (changes.Forget id) = sole_like any_four (of_kind 13) like_13 sole_four
-sole_kind (changes.Found dump) = sole_like dump_form (of_kind 14) like_14 sole_dump
+sole_kind (changes.Found1 dump) = sole_like (dump_form One) (of_kind 14) like_14 (sole_dump One)
+sole_kind (changes.Done dump) = sole_like (dump_form Two) (of_kind 15) like_15 (sole_dump Two)
+sole_kind (changes.Found dump) = sole_like (dump_form Two) (of_kind 16) like_16 (sole_dump Two)
 
-pub has_kind : (k : ℕ) → (1 ≤ k) × (k ≤ 14) → Has (of_kind k)
+pub has_kind : (k : ℕ) → (1 ≤ k) × (k ≤ 16) → Has (of_kind k)
 has_kind zero is = absurd (omega (arith, is.0))
 has_kind (suc zero) is = has_like (text1_of IsSetName) (of_kind 1) like_1 has_set
 has_kind (suc (suc zero)) is = has_like (text1_of IsSetName) (of_kind 2) like_2 has_set
@@ -605,12 +662,14 @@ has_kind (suc (suc (suc (suc (suc (suc (suc (suc zero)))))))) is = has_like host
 has_kind (suc (suc (suc (suc (suc (suc (suc (suc (suc zero))))))))) is = has_like any_two (of_kind 9) like_9 has_any_two
 has_kind (suc (suc (suc (suc (suc (suc (suc (suc (suc (suc zero)))))))))) is = has_like any_four (of_kind 10) like_10 has_four
 has_kind (suc (suc (suc (suc (suc (suc (suc (suc (suc (suc (suc zero))))))))))) is = has_like any_four (of_kind 11) like_11 has_four
-has_kind (suc (suc (suc (suc (suc (suc (suc (suc (suc (suc (suc (suc zero)))))))))))) is = has_like dump_form (of_kind 12) like_12 has_dump
+has_kind (suc (suc (suc (suc (suc (suc (suc (suc (suc (suc (suc (suc zero)))))))))))) is = has_like (dump_form One) (of_kind 12) like_12 (has_dump One)
 has_kind (suc (suc (suc (suc (suc (suc (suc (suc (suc (suc (suc (suc (suc zero))))))))))))) is = has_like any_four (of_kind 13) like_13 has_four
-has_kind (suc (suc (suc (suc (suc (suc (suc (suc (suc (suc (suc (suc (suc (suc zero)))))))))))))) is = has_like dump_form (of_kind 14) like_14 has_dump
-has_kind (suc (suc (suc (suc (suc (suc (suc (suc (suc (suc (suc (suc (suc (suc (suc k))))))))))))))) is = absurd (omega (arith, is.1))
+has_kind (suc (suc (suc (suc (suc (suc (suc (suc (suc (suc (suc (suc (suc (suc zero)))))))))))))) is = has_like (dump_form One) (of_kind 14) like_14 (has_dump One)
+has_kind (suc (suc (suc (suc (suc (suc (suc (suc (suc (suc (suc (suc (suc (suc (suc zero))))))))))))))) is = has_like (dump_form Two) (of_kind 15) like_15 (has_dump Two)
+has_kind (suc (suc (suc (suc (suc (suc (suc (suc (suc (suc (suc (suc (suc (suc (suc (suc zero)))))))))))))))) is = has_like (dump_form Two) (of_kind 16) like_16 (has_dump Two)
+has_kind (suc (suc (suc (suc (suc (suc (suc (suc (suc (suc (suc (suc (suc (suc (suc (suc (suc k))))))))))))))))) is = absurd (omega (arith, is.1))
 
-pub kind_bounds : (c : Change) → (1 ≤ kind_of c) × (kind_of c ≤ 14)
+pub kind_bounds : (c : Change) → (1 ≤ kind_of c) × (kind_of c ≤ 16)
 unfolding kind_of
 kind_bounds (changes.AddSet set) = (lit≤ tt, lit≤ tt)
 kind_bounds (changes.DelSet set) = (lit≤ tt, lit≤ tt)
@@ -623,11 +682,13 @@ kind_bounds (changes.AddHost host port) = (lit≤ tt, lit≤ tt)
 kind_bounds (changes.DelHost port) = (lit≤ tt, lit≤ tt)
 kind_bounds (changes.Begin id) = (lit≤ tt, lit≤ tt)
 kind_bounds (changes.Take initial) = (lit≤ tt, lit≤ tt)
-kind_bounds (changes.Done dump) = (lit≤ tt, lit≤ tt)
+kind_bounds (changes.Done1 dump) = (lit≤ tt, lit≤ tt)
 kind_bounds (changes.Forget id) = (lit≤ tt, lit≤ tt)
+kind_bounds (changes.Found1 dump) = (lit≤ tt, lit≤ tt)
+kind_bounds (changes.Done dump) = (lit≤ tt, lit≤ tt)
 kind_bounds (changes.Found dump) = (lit≤ tt, lit≤ tt)
 
-unfoldable pub like_change : Like (both (one_in 1 14) of_kind) change_form
+unfoldable pub like_change : Like (both (one_in 1 16) of_kind) change_form
 unfolding encoded_change
 like_change = record {
   to = λ p. p.1;

@@ -1,3 +1,4 @@
+pub mod Names
 pub mod Layouts
 pub mod ChangeKinds
 pub mod Logs

@@ -1,12 +1,18 @@
 -- The formats of changes and their parts, as what reading one answers.
-use Rattle.std.specs.Prelude.{◌≡◌, ℕ, ◌≤◌, List, length, All}
-use Rattle.byte_formats.specs.Formats.{Format, pair, any_four}
+use Rattle.std.specs.Prelude.{◌≡◌, ℕ, ◌≤◌, List, [], length, All}
+use Rattle.bk_text.specs.Alphabets.{IsHost, IsSetName, IsTapeName}
+use Rattle.bk_text.specs.LevelPaths.{IsLevelPath}
+use Rattle.byte_formats.specs.Forms.{IsBase}
+use Rattle.byte_formats.specs.Formats.{Format, pair, any_four, text1_of, text2_of, maybe, absent}
 use Rattle.bk_text.specs.declared.expiry.Expiry.{Expiry}
+use Rattle.budb_changes.specs.declared.version.Version.{Version}
+use Rattle.budb_changes.specs.declared.version.Version.TheVariants.{One, Two}
 use Rattle.budb_changes.specs.declared.records.TapePart.{TapePart}
 use Rattle.budb_changes.specs.declared.records.Frag.{Frag}
 use Rattle.budb_changes.specs.declared.records.VolRecordFields.{VolRecordFields}
 use Rattle.budb_changes.specs.declared.records.DumpRecordFields.{DumpRecordFields}
 use Rattle.budb_changes.specs.declared.change.Change.{Change}
+use Rattle.budb_changes.specs.Plain.{IsPlainPart, IsPlain}
 use Rattle.budb_changes.specs.Bytes.{expiry_kind, expiry_fields, expiry_bytes, tape_bytes, tapes_bytes, frag_bytes, frags_bytes, volume_bytes, volumes_bytes, dump_bytes, kind_of, fields_of, encoded_change}
 use Rattle.budb_changes.specs.Forms.{IsExpiry, IsTapePart, IsFrag, IsVolRecord, IsDumpRecord, IsChange}
 
@@ -18,11 +24,32 @@ expiry_form = record { Is = IsExpiry; spelled = expiry_bytes }
 abbrev pub expiry_of_kind : ℕ → Format Expiry
 expiry_of_kind k = record { Is = λ e. (expiry_kind e ≡ k) × IsExpiry e; spelled = expiry_fields }
 
-abbrev pub tape_form : Format TapePart
-tape_form = record { Is = IsTapePart; spelled = tape_bytes }
+-- the fields that version 2 has besides
+abbrev pub use_form : Version → Format (ℕ × List ℕ)
+use_form One = absent (0, [])
+use_form Two = pair any_four (maybe IsTapeName)
 
-abbrev pub tapes_form : Format (List TapePart)
-tapes_form = record { Is = λ ts. (length ts ≤ 65535) × All IsTapePart ts; spelled = tapes_bytes }
+abbrev pub cell_form : Version → Format (List ℕ)
+cell_form One = absent []
+cell_form Two = maybe IsHost
+
+-- what a version can tell of a tape, and of a dump
+abbrev pub TellsPart : Version → TapePart → Type 0
+TellsPart One t = IsPlainPart t
+TellsPart Two t = Unit {0}
+
+abbrev pub Tells : Version → DumpRecordFields → Type 0
+Tells One d = IsPlain d
+Tells Two d = Unit {0}
+
+abbrev pub IsTape : Version → TapePart → Type 0
+IsTape version t = IsTapePart t × TellsPart version t
+
+abbrev pub tape_form : Version → Format TapePart
+tape_form version = record { Is = IsTape version; spelled = tape_bytes version }
+
+abbrev pub tapes_form : Version → Format (List TapePart)
+tapes_form version = record { Is = λ ts. (length ts ≤ 65535) × All (IsTape version) ts; spelled = tapes_bytes version }
 
 abbrev pub frag_form : Format Frag
 frag_form = record { Is = IsFrag; spelled = frag_bytes }
@@ -36,8 +63,8 @@ volume_form = record { Is = IsVolRecord; spelled = volume_bytes }
 abbrev pub volumes_form : Format (List VolRecordFields)
 volumes_form = record { Is = λ vs. (length vs ≤ 4294967295) × All IsVolRecord vs; spelled = volumes_bytes }
 
-abbrev pub dump_form : Format DumpRecordFields
-dump_form = record { Is = IsDumpRecord; spelled = dump_bytes }
+abbrev pub dump_form : Version → Format DumpRecordFields
+dump_form version = record { Is = λ d. IsDumpRecord d × Tells version d; spelled = dump_bytes version }
 
 abbrev pub change_form : Format Change
 change_form = record { Is = IsChange; spelled = encoded_change }
@@ -49,3 +76,7 @@ of_kind k = record { Is = λ c. (kind_of c ≡ k) × IsChange c; spelled = field
 -- four numbers one behind another
 abbrev pub numbers : Format (ℕ × (ℕ × (ℕ × ℕ)))
 numbers = pair any_four (pair any_four (pair any_four any_four))
+
+-- what a record begins with: four numbers, then set, level and base
+abbrev pub heading : Format ((ℕ × (ℕ × (ℕ × ℕ))) × (List ℕ × (List ℕ × List ℕ)))
+heading = pair numbers (pair (text1_of IsSetName) (pair (text2_of IsLevelPath) (text1_of IsBase)))

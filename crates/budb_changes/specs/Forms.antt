@@ -1,17 +1,18 @@
 -- The forms of changes: what the format can write.
 use Rattle.std.specs.Prelude.{◌≡◌, ℕ, ◌≤◌, List, length, All}
-use Rattle.bk_text.specs.Alphabets.{IsName, IsHost, IsSetName}
+use Rattle.bk_text.specs.Alphabets.{IsName, IsHost, IsSetName, IsTapeName}
 use Rattle.bk_text.specs.LevelPaths.{IsLevelPath}
 use Rattle.bk_text.specs.declared.expiry.Expiry.{Expiry}
 use Rattle.bk_text.specs.declared.expiry.Expiry.TheVariants.{Unset, Never, At, In}
-use Rattle.byte_formats.specs.Forms.{IsTwo, IsFour, IsBase, IsAnyOr}
+use Rattle.byte_formats.specs.Forms.{IsTwo, IsFour, IsBase, IsAnyOr, IsMaybe}
 use Rattle.budb_changes.specs.declared.records.TapePart.{TapePart}
 use Rattle.budb_changes.specs.declared.records.Frag.{Frag}
 use Rattle.budb_changes.specs.declared.records.VolRecordFields.{VolRecordFields}
 use Rattle.budb_changes.specs.declared.records.DumpRecordFields.{DumpRecordFields}
 use Rattle.budb_changes.specs.declared.change.Change.{Change}
-use Rattle.budb_changes.specs.declared.change.Change.TheVariants.{AddSet, DelSet, AddEntry, DelEntry, AddLevel, SetExpiry, DelLevel, AddHost, DelHost, Begin, Take, Done, Forget, Found}
+use Rattle.budb_changes.specs.declared.change.Change.TheVariants.{AddSet, DelSet, AddEntry, DelEntry, AddLevel, SetExpiry, DelLevel, AddHost, DelHost, Begin, Take, Done1, Forget, Found1, Done, Found}
 use Rattle.budb_changes.specs.Printable.{IsPatternBytes}
+use Rattle.budb_changes.specs.Plain.{IsPlain}
 use Rattle.budb_changes.specs.Bytes.{encoded}
 
 abbrev pub IsExpiry : Expiry → Type 0
@@ -25,6 +26,8 @@ pub record IsTapePart (t : TapePart) : Type 0 where
   pub first : IsFour t.first
   pub end : IsFour t.end
   pub marks : IsFour t.marks
+  pub uses : IsFour t.uses
+  pub permanent : IsMaybe IsTapeName t.permanent
 
 pub record IsFrag (f : Frag) : Type 0 where
   pub tape : IsFour f.tape
@@ -53,6 +56,7 @@ pub record IsDumpRecord (d : DumpRecordFields) : Type 0 where
   pub each_tape : All IsTapePart d.tapes
   pub few_volumes : length d.volumes ≤ 4294967295
   pub each_volume : All IsVolRecord d.volumes
+  pub cell : IsMaybe IsHost d.cell
 
 abbrev pub IsChange : Change → Type 0
 IsChange (AddSet set) = IsSetName set
@@ -66,8 +70,10 @@ IsChange (AddHost host port) = IsHost host × IsTwo port
 IsChange (DelHost port) = IsTwo port
 IsChange (Begin id) = IsFour id
 IsChange (Take initial) = IsFour initial
-IsChange (Done dump) = IsDumpRecord dump
+IsChange (Done1 dump) = IsDumpRecord dump × IsPlain dump
 IsChange (Forget id) = IsFour id
+IsChange (Found1 dump) = IsDumpRecord dump × IsPlain dump
+IsChange (Done dump) = IsDumpRecord dump
 IsChange (Found dump) = IsDumpRecord dump
 
 abbrev pub AreChanges : List Change → Type 0

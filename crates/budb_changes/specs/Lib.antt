@@ -1,6 +1,7 @@
 pub mod Printable
 pub mod Frags
-pub mod Counts
+pub mod Dumps
+pub mod Plain
 pub mod Bytes
 pub mod Forms
 pub mod Formats

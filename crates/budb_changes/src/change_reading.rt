@@ -5,8 +5,14 @@ ghost use Rattle.byte_formats.specs.Formats.{Took, Stops};
 ghost use Rattle.budb_changes.specs.Formats.{expiry_form, expiry_of_kind, change_form, of_kind};
 
 use crate::change::Change;
+use crate::kinds::{
+    ADD_ENTRY, ADD_HOST, ADD_LEVEL, ADD_SET, BEGIN, DEL_ENTRY, DEL_HOST, DEL_LEVEL, DEL_SET, DONE,
+    DONE_1, FORGET, FOUND, FOUND_1, SET_EXPIRY, TAKE,
+};
 use crate::pattern_reading::read_pattern;
+use crate::plain_record::PlainRecord;
 use crate::record_reading::read_dump;
+use crate::version::Version;
 use bk_text::Expiry;
 use byte_formats::{
     ReadFault, read_any_host, read_any_part, read_four, read_host, read_level, read_one, read_set,
@@ -176,13 +182,13 @@ fn read_take<'a>(bytes: &'a [u8]) -> Result<(Change, &'a [u8]), ReadFault>
     }
 }
 
-/// A dump that is done.
-fn read_done<'a>(alloc: Global, bytes: &'a [u8]) -> Result<(Change, &'a [u8]), ReadFault>
+/// A dump that is done, in the form of version 1.
+fn read_done_1<'a>(alloc: Global, bytes: &'a [u8]) -> Result<(Change, &'a [u8]), ReadFault>
     ensures { MatchResult result (λ x. Took (of_kind 12) bytes.now x.0 x.1.now) (λ fault. Stops (of_kind 12) bytes.now fault) }
 {
-    match read_dump(alloc, bytes) {
+    match read_dump(alloc, Version::One, bytes) {
         Err(fault) => Err(fault),
-        Ok((dump, rest)) => Ok((Change::Done(dump), rest)),
+        Ok((dump, rest)) => Ok((Change::Done1(PlainRecord::new(dump)), rest)),
     }
 }
 
@@ -196,11 +202,31 @@ fn read_forget<'a>(bytes: &'a [u8]) -> Result<(Change, &'a [u8]), ReadFault>
     }
 }
 
-/// A dump that was found.
-fn read_found<'a>(alloc: Global, bytes: &'a [u8]) -> Result<(Change, &'a [u8]), ReadFault>
+/// A dump that was found, in the form of version 1.
+fn read_found_1<'a>(alloc: Global, bytes: &'a [u8]) -> Result<(Change, &'a [u8]), ReadFault>
     ensures { MatchResult result (λ x. Took (of_kind 14) bytes.now x.0 x.1.now) (λ fault. Stops (of_kind 14) bytes.now fault) }
 {
-    match read_dump(alloc, bytes) {
+    match read_dump(alloc, Version::One, bytes) {
+        Err(fault) => Err(fault),
+        Ok((dump, rest)) => Ok((Change::Found1(PlainRecord::new(dump)), rest)),
+    }
+}
+
+/// A dump that is done.
+fn read_done<'a>(alloc: Global, bytes: &'a [u8]) -> Result<(Change, &'a [u8]), ReadFault>
+    ensures { MatchResult result (λ x. Took (of_kind 15) bytes.now x.0 x.1.now) (λ fault. Stops (of_kind 15) bytes.now fault) }
+{
+    match read_dump(alloc, Version::Two, bytes) {
+        Err(fault) => Err(fault),
+        Ok((dump, rest)) => Ok((Change::Done(dump), rest)),
+    }
+}
+
+/// A dump that was found.
+fn read_found<'a>(alloc: Global, bytes: &'a [u8]) -> Result<(Change, &'a [u8]), ReadFault>
+    ensures { MatchResult result (λ x. Took (of_kind 16) bytes.now x.0 x.1.now) (λ fault. Stops (of_kind 16) bytes.now fault) }
+{
+    match read_dump(alloc, Version::Two, bytes) {
         Err(fault) => Err(fault),
         Ok((dump, rest)) => Ok((Change::Found(dump), rest)),
     }
@@ -217,22 +243,10 @@ fn read_set_change<'a>(
     ensures { MatchResult result (λ x. Took (of_kind kind) bytes.now x.0 x.1.now) (λ fault. Stops (of_kind kind) bytes.now fault) }
 {
     match kind {
-        1 => match read_add_set(alloc, bytes) {
-            Err(fault) => Err(fault),
-            Ok((change, rest)) => Ok((change, rest)),
-        },
-        2 => match read_del_set(alloc, bytes) {
-            Err(fault) => Err(fault),
-            Ok((change, rest)) => Ok((change, rest)),
-        },
-        3 => match read_add_entry(alloc, bytes) {
-            Err(fault) => Err(fault),
-            Ok((change, rest)) => Ok((change, rest)),
-        },
-        _ => match read_del_entry(alloc, bytes) {
-            Err(fault) => Err(fault),
-            Ok((change, rest)) => Ok((change, rest)),
-        },
+        ADD_SET => read_add_set(alloc, bytes),
+        DEL_SET => read_del_set(alloc, bytes),
+        ADD_ENTRY => read_add_entry(alloc, bytes),
+        _ => read_del_entry(alloc, bytes),
     }
 }
 
@@ -247,26 +261,11 @@ fn read_level_change<'a>(
     ensures { MatchResult result (λ x. Took (of_kind kind) bytes.now x.0 x.1.now) (λ fault. Stops (of_kind kind) bytes.now fault) }
 {
     match kind {
-        5 => match read_add_level(alloc, bytes) {
-            Err(fault) => Err(fault),
-            Ok((change, rest)) => Ok((change, rest)),
-        },
-        6 => match read_set_expiry(alloc, bytes) {
-            Err(fault) => Err(fault),
-            Ok((change, rest)) => Ok((change, rest)),
-        },
-        7 => match read_del_level(alloc, bytes) {
-            Err(fault) => Err(fault),
-            Ok((change, rest)) => Ok((change, rest)),
-        },
-        8 => match read_add_host(alloc, bytes) {
-            Err(fault) => Err(fault),
-            Ok((change, rest)) => Ok((change, rest)),
-        },
-        _ => match read_del_host(bytes) {
-            Err(fault) => Err(fault),
-            Ok((change, rest)) => Ok((change, rest)),
-        },
+        ADD_LEVEL => read_add_level(alloc, bytes),
+        SET_EXPIRY => read_set_expiry(alloc, bytes),
+        DEL_LEVEL => read_del_level(alloc, bytes),
+        ADD_HOST => read_add_host(alloc, bytes),
+        _ => read_del_host(bytes),
     }
 }
 
@@ -277,30 +276,17 @@ fn read_dump_change<'a>(
     bytes: &'a [u8],
 ) -> Result<(Change, &'a [u8]), ReadFault>
     requires some { 10 ≤ kind }
-    requires most { kind ≤ 14 }
+    requires most { kind ≤ 16 }
     ensures { MatchResult result (λ x. Took (of_kind kind) bytes.now x.0 x.1.now) (λ fault. Stops (of_kind kind) bytes.now fault) }
 {
     match kind {
-        10 => match read_begin(bytes) {
-            Err(fault) => Err(fault),
-            Ok((change, rest)) => Ok((change, rest)),
-        },
-        11 => match read_take(bytes) {
-            Err(fault) => Err(fault),
-            Ok((change, rest)) => Ok((change, rest)),
-        },
-        12 => match read_done(alloc, bytes) {
-            Err(fault) => Err(fault),
-            Ok((change, rest)) => Ok((change, rest)),
-        },
-        13 => match read_forget(bytes) {
-            Err(fault) => Err(fault),
-            Ok((change, rest)) => Ok((change, rest)),
-        },
-        _ => match read_found(alloc, bytes) {
-            Err(fault) => Err(fault),
-            Ok((change, rest)) => Ok((change, rest)),
-        },
+        BEGIN => read_begin(bytes),
+        TAKE => read_take(bytes),
+        DONE_1 => read_done_1(alloc, bytes),
+        FORGET => read_forget(bytes),
+        FOUND_1 => read_found_1(alloc, bytes),
+        DONE => read_done(alloc, bytes),
+        _ => read_found(alloc, bytes),
     }
 }
 
@@ -311,12 +297,12 @@ fn read_change_of<'a>(
     bytes: &'a [u8],
 ) -> Result<(Change, &'a [u8]), ReadFault>
     requires some { 1 ≤ kind }
-    requires most { kind ≤ 14 }
+    requires most { kind ≤ 16 }
     ensures { MatchResult result (λ x. Took (of_kind kind) bytes.now x.0 x.1.now) (λ fault. Stops (of_kind kind) bytes.now fault) }
 {
-    if kind <= 4 {
+    if kind <= DEL_ENTRY {
         read_set_change(alloc, kind, bytes)
-    } else if kind <= 9 {
+    } else if kind <= DEL_HOST {
         read_level_change(alloc, kind, bytes)
     } else {
         read_dump_change(alloc, kind, bytes)
@@ -327,7 +313,7 @@ fn read_change_of<'a>(
 pub fn read_change<'a>(alloc: Global, bytes: &'a [u8]) -> Result<(Change, &'a [u8]), ReadFault>
     ensures { MatchResult result (λ x. Took change_form bytes.now x.0 x.1.now) (λ fault. Stops change_form bytes.now fault) }
 {
-    match read_one(1, 14, bytes) {
+    match read_one(ADD_SET, FOUND, bytes) {
         Err(fault) => Err(fault),
         Ok((kind, after_kind)) => match read_change_of(alloc, kind, after_kind) {
             Err(fault) => Err(fault),

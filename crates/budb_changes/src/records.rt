@@ -1,12 +1,16 @@
 //! The record of a dump: where it lies on tapes, and which volumes it has.
 
-ghost use Rattle.std.specs.Prelude.{◌≡◌, ◌↔◌, IsTrue};
+ghost use Rattle.std.specs.Prelude.{◌≡◌, ◌↔◌, IsTrue, All};
+ghost use Rattle.bk_text.specs.Alphabets.{IsHost, IsTapeName};
+ghost use Rattle.byte_formats.specs.Forms.{IsMaybe};
+ghost use Rattle.budb_changes.specs.Dumps.{IsNamed};
 
-use bk_text::{Host, LevelPath, List, Name, Part, SetName, TapeName};
+use bk_text::{Bytes, Host, LevelPath, List, Name, Part, SetName, TapeName};
+use std::alloc::AllocError;
 use std::marker::Model;
 
 /// The part of a dump on one tape.
-#[derive(Clone, Copy, Debug, PartialEq, Eq)]
+#[derive(Debug, Drop)]
 pub struct TapePart {
     /// The number of the tape in its dump set.
     pub tape: u32,
@@ -16,6 +20,25 @@ pub struct TapePart {
     pub end: u32,
     /// How many of the records before `end` are marks.
     pub marks: u32,
+    /// How often the tape was used, this use counted in; 0 where that isn't known.
+    pub uses: u32,
+    /// The permanent name of the tape, a `TapeName`; empty where it has none.
+    pub permanent: Bytes,
+}
+
+impl Clone for TapePart {
+    ghost is_clone = { λ a b. b ≡ a };
+
+    fn clone(&self) -> Result<TapePart, AllocError> {
+        Ok(TapePart {
+            tape: self.tape,
+            first: self.first,
+            end: self.end,
+            marks: self.marks,
+            uses: self.uses,
+            permanent: self.permanent.copy()?,
+        })
+    }
 }
 
 /// Where a fragment of a volume lies.
@@ -46,6 +69,22 @@ pub struct VolRecordFields {
     pub frags: List<Frag>,
 }
 
+impl Clone for VolRecordFields {
+    ghost is_clone = { λ a b. b ≡ a };
+
+    fn clone(&self) -> Result<VolRecordFields, AllocError> {
+        Ok(VolRecordFields {
+            name: self.name.clone()?,
+            id: self.id,
+            server: self.server.clone()?,
+            partition: self.partition.clone()?,
+            clone: self.clone,
+            from: self.from,
+            frags: self.frags.copy()?,
+        })
+    }
+}
+
 /// A volume of a dump's record. It has 1 to 65,535 fragments.
 #[derive(Debug, Drop)]
 pub struct VolRecord {
@@ -61,6 +100,16 @@ impl Model for VolRecord {
     ghost view = { λ a. a.fields };
 
     ghost invariant = { λ a. KeepsFrags a.fields };
+}
+
+impl Clone for VolRecord {
+    ghost is_clone = { λ a b. b ≡ a };
+
+    fn clone(&self) -> Result<VolRecord, AllocError> {
+        Ok(VolRecord {
+            fields: self.fields.clone()?,
+        })
+    }
 }
 
 impl VolRecordFields {
@@ -124,9 +173,31 @@ pub struct DumpRecordFields {
     pub tapes: List<TapePart>,
     /// Its volumes, fewer than 2^32 of them, in order.
     pub volumes: List<VolRecord>,
+    /// The cell that it was dumped in, a `Host`; empty where that isn't known.
+    pub cell: Bytes,
 }
 
-/// A dump's record: at most 65,535 parts on tapes, fewer than 2^32 volumes, and a base of at most 69 bytes.
+impl Clone for DumpRecordFields {
+    ghost is_clone = { λ a b. b ≡ a };
+
+    fn clone(&self) -> Result<DumpRecordFields, AllocError> {
+        Ok(DumpRecordFields {
+            id: self.id,
+            initial: self.initial,
+            parent: self.parent,
+            expires: self.expires,
+            set: self.set.clone()?,
+            level: self.level.clone()?,
+            base: self.base.clone()?,
+            tapes: self.tapes.clone()?,
+            volumes: self.volumes.clone()?,
+            cell: self.cell.copy()?,
+        })
+    }
+}
+
+/// A dump's record: at most 65,535 parts on tapes, fewer than 2^32 volumes, a base of at most 69 bytes, and permanent names
+/// and a cell that have their forms where they aren't empty.
 #[derive(Debug, Drop)]
 pub struct DumpRecord {
     fields: DumpRecordFields,
@@ -134,34 +205,69 @@ pub struct DumpRecord {
 
 impl Model for DumpRecord {
     ghost use Rattle.budb_changes.specs.declared.records.DumpRecordFields.{DumpRecordFields};
-    ghost use Rattle.budb_changes.specs.Counts.{KeepsCounts};
+    ghost use Rattle.budb_changes.specs.Dumps.{KeepsDump};
 
     ghost Value = { DumpRecordFields };
 
     ghost view = { λ a. a.fields };
 
-    ghost invariant = { λ a. KeepsCounts a.fields };
+    ghost invariant = { λ a. KeepsDump a.fields };
+}
+
+impl Clone for DumpRecord {
+    ghost is_clone = { λ a b. b ≡ a };
+
+    fn clone(&self) -> Result<DumpRecord, AllocError> {
+        Ok(DumpRecord {
+            fields: self.fields.clone()?,
+        })
+    }
+}
+
+/// Whether a text is a server's name or empty.
+fn may_be_cell(text: &[u8]) -> bool
+    ensures { IsTrue result ↔ IsMaybe IsHost text.now }
+{
+    text.is_empty() || Host::is_host(text)
+}
+
+/// Whether a text is a tape's name or empty.
+fn may_be_permanent(text: &[u8]) -> bool
+    ensures { IsTrue result ↔ IsMaybe IsTapeName text.now }
+{
+    text.is_empty() || TapeName::is_tape_name(text)
+}
+
+/// Whether each permanent name is a tape's name or empty.
+fn are_named(tapes: &[TapePart]) -> bool
+    ensures { IsTrue result ↔ All IsNamed tapes.now }
+{
+    tapes
+        .iter()
+        .all(|tape| may_be_permanent(tape.permanent.as_slice()))
 }
 
 impl DumpRecordFields {
-    ghost use Rattle.budb_changes.specs.Counts.{KeepsCounts};
+    ghost use Rattle.budb_changes.specs.Dumps.{KeepsDump};
 
     /// Whether a dump's record may have these fields.
     pub fn is_dump_record(&self) -> bool
-        ensures { IsTrue result ↔ KeepsCounts self.now }
+        ensures { IsTrue result ↔ KeepsDump self.now }
     {
         self.base.bytes().len() <= 69
             && self.tapes.len() <= 65535
+            && are_named(self.tapes.as_slice())
             && self.volumes.len() <= 4294967295
+            && may_be_cell(self.cell.as_slice())
     }
 }
 
 impl DumpRecord {
-    ghost use Rattle.budb_changes.specs.Counts.{KeepsCounts};
+    ghost use Rattle.budb_changes.specs.Dumps.{KeepsDump};
 
     /// The record of these fields, which `DumpRecordFields::is_dump_record` tests.
     pub fn new(fields: DumpRecordFields) -> Self
-        requires { KeepsCounts fields }
+        requires { KeepsDump fields }
         ensures { result ≡ fields }
     {
         DumpRecord { fields }
@@ -170,7 +276,7 @@ impl DumpRecord {
     /// Its fields.
     pub fn fields(&self) -> &DumpRecordFields
         ensures value { result.now ≡ self.now }
-        ensures form { KeepsCounts self.now }
+        ensures form { KeepsDump self.now }
     {
         &self.fields
     }
@@ -178,7 +284,7 @@ impl DumpRecord {
     /// Its fields, for whoever changes them.
     pub fn into_fields(self) -> DumpRecordFields
         ensures value { result ≡ self }
-        ensures form { KeepsCounts self }
+        ensures form { KeepsDump self }
     {
         let DumpRecord { fields } = self;
         fields

@@ -1,18 +1,24 @@
 //! Writing changes.
 
-ghost use Rattle.std.specs.Prelude.{◌≡◌, ◌≤◌, ◌++◌, ◌∷◌, length, All, OnOk, OnErr};
+ghost use Rattle.std.specs.Prelude.{◌≡◌, ◌<◌, ◌≤◌, ◌++◌, ◌∷◌, length, All, OnOk, OnErr};
 ghost use Rattle.std.specs.List.{flat_map};
 ghost use Rattle.bk_text.specs.Alphabets.{IsName, IsHost, IsSetName};
 ghost use Rattle.bk_text.specs.LevelPaths.{IsLevelPath};
 ghost use Rattle.byte_formats.specs.Bytes.{two, four, text1, text2, any_or};
-ghost use Rattle.budb_changes.specs.Bytes.{expiry_bytes, tape_bytes, tapes_bytes, frag_bytes, frags_bytes, volume_bytes, volumes_bytes, dump_bytes, encoded_change, encoded};
+ghost use Rattle.budb_changes.specs.Bytes.{expiry_bytes, use_bytes, tape_bytes, tapes_bytes, frag_bytes, frags_bytes, volume_bytes, volumes_bytes, heading_bytes, cell_bytes, dump_bytes, encoded_change, encoded};
 ghost use Rattle.budb_changes.specs.Printable.{IsPatternBytes};
-ghost use Rattle.byte_formats.specs.Forms.{IsTwo, IsFour, IsAnyOr};
+ghost use Rattle.budb_changes.specs.Dumps.{IsNamed};
+ghost use Rattle.byte_formats.specs.Forms.{IsTwo, IsFour, IsBase, IsAnyOr};
 ghost use Rattle.budb_changes.specs.Forms.{IsExpiry, IsTapePart, IsFrag, IsVolRecord, IsDumpRecord, IsChange, AreChanges};
 
 use crate::change::Change;
+use crate::kinds::{
+    ADD_ENTRY, ADD_HOST, ADD_LEVEL, ADD_SET, BEGIN, DEL_ENTRY, DEL_HOST, DEL_LEVEL, DEL_SET, DONE,
+    DONE_1, FORGET, FOUND, FOUND_1, SET_EXPIRY, TAKE,
+};
 use crate::pattern_bytes::PatternBytes;
 use crate::records::{DumpRecord, DumpRecordFields, Frag, TapePart, VolRecord};
+use crate::version::Version;
 use bk_text::{Expiry, Host, LevelPath, Out, Part, SetName};
 use byte_formats::{put_any_host, put_any_part, put_four, put_text1, put_text2, put_two};
 use std::alloc::{AllocError, Global};
@@ -49,24 +55,43 @@ fn put_expiry(out: &mut Out, expiry: Expiry) -> Result<(), AllocError>
     Ok(())
 }
 
-#[tactic(auto, unfolding(crate::specs::Bytes::tape_bytes))]
-fn put_tape(out: &mut Out, tape: TapePart) -> Result<(), AllocError>
-    ensures bytes { OnOk result (out.new ≡ out.old ++ tape_bytes tape) }
-    ensures form { OnOk result (IsTapePart tape) }
+/// Writes the uses and the permanent name of a tape, where the version tells them.
+#[tactic(auto, unfolding(crate::specs::Bytes::use_bytes))]
+fn put_use(out: &mut Out, version: Version, uses: u32, permanent: &[u8]) -> Result<(), AllocError>
+    requires { length permanent.now < 256 }
+    ensures { OnOk result (out.new ≡ out.old ++ use_bytes version uses permanent.now) }
+{
+    match version {
+        Version::One => Ok(()),
+        Version::Two => {
+            put_four(out, uses)?;
+            put_text1(out, permanent)?;
+            Ok(())
+        }
+    }
+}
+
+#[tactic(auto, using(crate::proofs::Names::short_permanent), unfolding(crate::specs::Bytes::tape_bytes))]
+fn put_tape(out: &mut Out, version: Version, tape: &TapePart) -> Result<(), AllocError>
+    requires { IsNamed tape.now }
+    ensures bytes { OnOk result (out.new ≡ out.old ++ tape_bytes version tape.now) }
+    ensures form { OnOk result (IsTapePart tape.now) }
 {
     put_four(out, tape.tape)?;
     put_four(out, tape.first)?;
     put_four(out, tape.end)?;
     put_four(out, tape.marks)?;
+    put_use(out, version, tape.uses, tape.permanent.as_slice())?;
     Ok(())
 }
 
-fn put_tapes(out: &mut Out, tapes: &[TapePart]) -> Result<(), AllocError>
-    ensures bytes { OnOk result (out.new ≡ out.old ++ flat_map tape_bytes tapes.now) }
+fn put_tapes(out: &mut Out, version: Version, tapes: &[TapePart]) -> Result<(), AllocError>
+    requires { All IsNamed tapes.now }
+    ensures bytes { OnOk result (out.new ≡ out.old ++ flat_map (tape_bytes version) tapes.now) }
     ensures form { OnOk result (All IsTapePart tapes.now) }
 {
     for tape in tapes {
-        put_tape(out, *tape)?;
+        put_tape(out, version, tape)?;
     }
     Ok(())
 }
@@ -131,13 +156,14 @@ fn put_volumes(out: &mut Out, volumes: &[VolRecord]) -> Result<(), AllocError>
 
 /// Writes tapes behind their count.
 #[tactic(auto, unfolding(crate::specs::Bytes::tapes_bytes))]
-fn put_tape_list(out: &mut Out, tapes: &[TapePart]) -> Result<(), AllocError>
-    requires { length tapes.now ≤ 65535 }
-    ensures bytes { OnOk result (out.new ≡ out.old ++ tapes_bytes tapes.now) }
+fn put_tape_list(out: &mut Out, version: Version, tapes: &[TapePart]) -> Result<(), AllocError>
+    requires few { length tapes.now ≤ 65535 }
+    requires named { All IsNamed tapes.now }
+    ensures bytes { OnOk result (out.new ≡ out.old ++ tapes_bytes version tapes.now) }
     ensures form { OnOk result (All IsTapePart tapes.now) }
 {
     put_two(out, tapes.len() as u16)?;
-    put_tapes(out, tapes)?;
+    put_tapes(out, version, tapes)?;
     Ok(())
 }
 
@@ -168,18 +194,51 @@ fn put_numbers(out: &mut Out, a: &DumpRecordFields) -> Result<(), AllocError>
     Ok(())
 }
 
-#[tactic(auto, using(byte_formats::proofs::Bases::short_base), unfolding(crate::specs::Bytes::dump_bytes))]
-fn put_dump(out: &mut Out, dump: &DumpRecord) -> Result<(), AllocError>
-    ensures bytes { OnOk result (out.new ≡ out.old ++ dump_bytes dump.now) }
-    ensures form { OnOk result (IsDumpRecord dump.now) }
+/// Writes what a record begins with.
+#[tactic(auto, using(byte_formats::proofs::Bases::short_base), unfolding(crate::specs::Bytes::heading_bytes))]
+fn put_heading(out: &mut Out, a: &DumpRecordFields) -> Result<(), AllocError>
+    requires { length a.now.base ≤ 69 }
+    ensures bytes { OnOk result (out.new ≡ out.old ++ heading_bytes a.now) }
+    ensures id { OnOk result (IsFour a.now.id) }
+    ensures initial { OnOk result (IsFour a.now.initial) }
+    ensures parent { OnOk result (IsFour a.now.parent) }
+    ensures expires { OnOk result (IsFour a.now.expires) }
+    ensures set { OnOk result (IsSetName a.now.set) }
+    ensures level { OnOk result (IsLevelPath a.now.level) }
+    ensures base { OnOk result (IsBase a.now.base) }
 {
-    let a = dump.fields();
     put_numbers(out, a)?;
     put_text1(out, a.set.bytes())?;
     put_text2(out, a.level.bytes())?;
     put_text1(out, a.base.bytes())?;
-    put_tape_list(out, a.tapes.as_slice())?;
+    Ok(())
+}
+
+/// Writes the cell, where the version tells it.
+#[tactic(auto, unfolding(crate::specs::Bytes::cell_bytes))]
+fn put_cell(out: &mut Out, version: Version, cell: &[u8]) -> Result<(), AllocError>
+    requires { length cell.now < 256 }
+    ensures { OnOk result (out.new ≡ out.old ++ cell_bytes version cell.now) }
+{
+    match version {
+        Version::One => Ok(()),
+        Version::Two => {
+            put_text1(out, cell)?;
+            Ok(())
+        }
+    }
+}
+
+#[tactic(auto, using(crate::proofs::Names::short_cell), unfolding(crate::specs::Bytes::dump_bytes))]
+fn put_dump(out: &mut Out, version: Version, dump: &DumpRecord) -> Result<(), AllocError>
+    ensures bytes { OnOk result (out.new ≡ out.old ++ dump_bytes version dump.now) }
+    ensures form { OnOk result (IsDumpRecord dump.now) }
+{
+    let a = dump.fields();
+    put_heading(out, a)?;
+    put_tape_list(out, version, a.tapes.as_slice())?;
     put_volume_list(out, a.volumes.as_slice())?;
+    put_cell(out, version, a.cell.as_slice())?;
     Ok(())
 }
 
@@ -246,48 +305,56 @@ fn put_change(out: &mut Out, change: &Change) -> Result<(), AllocError>
     ensures form { OnOk result (IsChange change.now) }
 {
     match change {
-        Change::AddSet { set } => put_set(out, 1, set)?,
-        Change::DelSet { set } => put_set(out, 2, set)?,
+        Change::AddSet { set } => put_set(out, ADD_SET, set)?,
+        Change::DelSet { set } => put_set(out, DEL_SET, set)?,
         Change::AddEntry {
             set,
             server,
             partition,
             pattern,
         } => {
-            put_set(out, 3, set)?;
+            put_set(out, ADD_ENTRY, set)?;
             put_entry(out, server, partition, pattern)?;
         }
         Change::DelEntry { set, number } => {
-            put_set(out, 4, set)?;
+            put_set(out, DEL_ENTRY, set)?;
             put_four(out, *number)?;
         }
         Change::AddLevel { level, expiry } => {
-            put_level(out, 5, level)?;
+            put_level(out, ADD_LEVEL, level)?;
             put_expiry(out, *expiry)?;
         }
         Change::SetExpiry { level, expiry } => {
-            put_level(out, 6, level)?;
+            put_level(out, SET_EXPIRY, level)?;
             put_expiry(out, *expiry)?;
         }
-        Change::DelLevel { level } => put_level(out, 7, level)?,
+        Change::DelLevel { level } => put_level(out, DEL_LEVEL, level)?,
         Change::AddHost { host, port } => {
-            out.byte(8)?;
+            out.byte(ADD_HOST)?;
             put_host(out, host, *port)?;
         }
         Change::DelHost { port } => {
-            out.byte(9)?;
+            out.byte(DEL_HOST)?;
             put_two(out, *port)?;
         }
-        Change::Begin { id } => put_id(out, 10, *id)?,
-        Change::Take { initial } => put_id(out, 11, *initial)?,
-        Change::Done(dump) => {
-            out.byte(12)?;
-            put_dump(out, dump)?;
+        Change::Begin { id } => put_id(out, BEGIN, *id)?,
+        Change::Take { initial } => put_id(out, TAKE, *initial)?,
+        Change::Done1(dump) => {
+            out.byte(DONE_1)?;
+            put_dump(out, Version::One, dump.as_record())?;
         }
-        Change::Forget { id } => put_id(out, 13, *id)?,
+        Change::Forget { id } => put_id(out, FORGET, *id)?,
+        Change::Found1(dump) => {
+            out.byte(FOUND_1)?;
+            put_dump(out, Version::One, dump.as_record())?;
+        }
+        Change::Done(dump) => {
+            out.byte(DONE)?;
+            put_dump(out, Version::Two, dump)?;
+        }
         Change::Found(dump) => {
-            out.byte(14)?;
-            put_dump(out, dump)?;
+            out.byte(FOUND)?;
+            put_dump(out, Version::Two, dump)?;
         }
     }
     Ok(())

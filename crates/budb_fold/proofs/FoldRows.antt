@@ -14,7 +14,7 @@ abbrev volume : List ℕ → ℕ → ℕ → VolRecordFields
 volume name clone from = record { name = name; id = 3; server = 115 ∷ []; partition = 112 ∷ []; clone = clone; from = from; frags = [] }
 
 abbrev dump : ℕ → ℕ → ℕ → List ℕ → List VolRecordFields → DumpRecordFields
-dump id initial parent level volumes = record { id = id; initial = initial; parent = parent; expires = 0; set = 97 ∷ []; level = level; base = 97 ∷ []; tapes = []; volumes = volumes }
+dump id initial parent level volumes = record { id = id; initial = initial; parent = parent; expires = 0; set = 97 ∷ []; level = level; base = 97 ∷ []; tapes = []; volumes = volumes; cell = [] }
 
 abbrev only : ℕ → List DumpRecordFields → Database
 only greatest listed = record { sets = []; levels = []; hosts = []; greatest = greatest; listed = listed }

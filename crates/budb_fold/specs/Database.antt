@@ -9,7 +9,7 @@ use Rattle.dump_levels.specs.Trees.{after_add as after_add_level, after_set as a
 use Rattle.budb_changes.specs.declared.records.VolRecordFields.{VolRecordFields}
 use Rattle.budb_changes.specs.declared.records.DumpRecordFields.{DumpRecordFields}
 use Rattle.budb_changes.specs.declared.change.Change.{Change}
-use Rattle.budb_changes.specs.declared.change.Change.TheVariants.{AddSet, DelSet, AddEntry, DelEntry, AddLevel, SetExpiry, DelLevel, AddHost, DelHost, Begin, Take, Done, Forget, Found}
+use Rattle.budb_changes.specs.declared.change.Change.TheVariants.{AddSet, DelSet, AddEntry, DelEntry, AddLevel, SetExpiry, DelLevel, AddHost, DelHost, Begin, Take, Done1, Forget, Found1, Done, Found}
 use Rattle.budb_fold.specs.declared.database.HostPort.{HostPort}
 use Rattle.budb_fold.specs.declared.database.Database.{Database}
 
@@ -67,8 +67,10 @@ fits (AddHost host port) db = not (has_port db.hosts port)
 fits (DelHost port) db = has_port db.hosts port
 fits (Begin id) db = true
 fits (Take initial) db = has_initial db.listed initial
-fits (Done dump) db = fits_record dump db.listed
+fits (Done1 dump) db = fits_record dump db.listed
 fits (Forget id) db = has_dump db.listed id
+fits (Found1 dump) db = fits_record dump db.listed
+fits (Done dump) db = fits_record dump db.listed
 fits (Found dump) db = fits_record dump db.listed
 
 -- ---- what a change that fits makes
@@ -98,8 +100,10 @@ made (AddHost host port) db = record db { hosts = db.hosts ++ record { host = ho
 made (DelHost port) db = record db { hosts = without (is_port port) db.hosts }
 made (Begin id) db = record db { greatest = max db.greatest id }
 made (Take initial) db = record db { listed = without (is_initial initial) db.listed }
-made (Done dump) db = with_record db dump
+made (Done1 dump) db = with_record db dump
 made (Forget id) db = record db { listed = without (is_dump id) db.listed }
+made (Found1 dump) db = with_record db dump
+made (Done dump) db = with_record db dump
 made (Found dump) db = with_record db dump
 
 -- ---- the fold

@@ -151,6 +151,7 @@ impl Database {
                 self.take(initial);
                 Ok(())
             }
+            Change::Done1(dump) | Change::Found1(dump) => self.list(dump.into_record()),
             Change::Done(dump) | Change::Found(dump) => self.list(dump),
             Change::Forget { id } => {
                 self.forget(id);
@@ -266,6 +267,8 @@ impl Database {
 
     /// A dump is listed, last, and its id counts as begun.
     fn list(&mut self, dump: DumpRecord) -> Result<(), AllocError>
+        ensures done1 { OnOk result (self.new ≡ after_change (Change.Done1 dump) self.old) }
+        ensures found1 { OnOk result (self.new ≡ after_change (Change.Found1 dump) self.old) }
         ensures done { OnOk result (self.new ≡ after_change (Change.Done dump) self.old) }
         ensures found { OnOk result (self.new ≡ after_change (Change.Found dump) self.old) }
         ensures err { OnErr result (self.new ≡ self.old) }

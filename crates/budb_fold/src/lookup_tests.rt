@@ -1,7 +1,7 @@
 //! Look-ups in lists of dumps whose answers were worked out by hand.
 
 use crate::{ChainFault, chain_of, from_of, latest, parent_of, record_of, volume_of};
-use bk_text::{Host, LevelPath, List, Name, Part, SetName, TapeName};
+use bk_text::{Bytes, Host, LevelPath, List, Name, Part, SetName, TapeName};
 use budb_changes::{DumpRecord, DumpRecordFields, Frag, VolRecord, VolRecordFields};
 use std::alloc::Global;
 
@@ -66,6 +66,7 @@ fn dump(alloc: Global, (id, parent, set, level, held): Dump) -> Option<DumpRecor
         base: TapeName::parse(alloc, b"users.full").ok()?,
         tapes: List::new(alloc),
         volumes: volumes(alloc, held)?,
+        cell: Bytes::new(alloc),
     };
     if fields.is_dump_record() {
         Some(DumpRecord::new(fields))

@@ -5,8 +5,8 @@ mod fault;
 mod log;
 
 pub use budb_changes::{
-    Change, ChangeFault, DumpRecord, DumpRecordFields, Frag, PatternBytes, TapePart, VolRecord,
-    VolRecordFields, decode, encode, no_change_begins_another, one_encoding,
+    Change, ChangeFault, DumpRecord, DumpRecordFields, Frag, PatternBytes, PlainRecord, TapePart,
+    VolRecord, VolRecordFields, decode, encode, no_change_begins_another, one_encoding,
 };
 pub use budb_fold::{
     ChainFault, Database, Held, HostPort, chain_of, fold, fold_of_more, from_of, latest, parent_of,

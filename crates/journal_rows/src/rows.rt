@@ -18,8 +18,12 @@ const LEVELS: &[u8] = b"\x05\0\x05/full\0\x05\0\x09/full/mon\0\x05\0\x0d/full/mo
 /// A dump begun: 5 bytes.
 const BEGIN: &[u8] = b"\x0a\0\0\x07\xd0";
 
-/// The same dump done, of one volume in one fragment on one tape: 103 bytes.
+/// The same dump done, of one volume in one fragment on one tape without a permanent name: 109 bytes.
 const DONE: &[u8] =
+    b"\x0f\0\0\x07\xd0\0\0\x07\xd0\0\0\0\0\0\0\0\0\x05users\0\x05/full\x0ausers.full\0\x01\0\0\0\x01\0\0\0\x02\0\0\0\x09\0\0\0\x03\0\0\0\x01\0\0\0\0\x01\x06user.a\x20\0\0\0\x03fs1\x06vicepa\0\0\x07\xd0\0\0\0\0\0\x01\0\0\0\x01\0\0\0\x03\0";
+
+/// The same in the form of version 1: 103 bytes.
+const DONE_1: &[u8] =
     b"\x0c\0\0\x07\xd0\0\0\x07\xd0\0\0\0\0\0\0\0\0\x05users\0\x05/full\x0ausers.full\0\x01\0\0\0\x01\0\0\0\x02\0\0\0\x09\0\0\0\x03\0\0\0\x01\x06user.a\x20\0\0\0\x03fs1\x06vicepa\0\0\x07\xd0\0\0\0\0\0\x01\0\0\0\x01\0\0\0\x03";
 
 /// A later dump begun, and a tape taken: one commit of 10 bytes.
@@ -63,7 +67,7 @@ fn has<P: Plant>(alloc: Global, plant: &mut P, first: &[u8], second: &[u8]) -> b
 }
 
 /// The lengths of a log after four commits.
-fn lengths<P: Plant>(alloc: Global, plant: &mut P) -> Result<[u64; 4], AppendFault>
+fn lengths<P: Plant>(alloc: Global, plant: &mut P, done: &[u8]) -> Result<[u64; 4], AppendFault>
     requires { P.sound plant.old }
     ensures { OnOk result (P.sound plant.new) }
 {
@@ -73,22 +77,22 @@ fn lengths<P: Plant>(alloc: Global, plant: &mut P) -> Result<[u64; 4], AppendFau
     let levels = plant.log_len();
     commit(alloc, plant, BEGIN)?;
     let begun = plant.log_len();
-    commit(alloc, plant, DONE)?;
+    commit(alloc, plant, done)?;
     Ok([sets, levels, begun, plant.log_len()])
 }
 
-/// The log after these commits is of the worked lengths and replays to their bytes.
-fn is_worked<P: Plant>(alloc: Global, plant: &mut P) -> Result<bool, Fail>
+/// The log after these commits, the last of which has the dump done, is of the worked lengths and replays to their bytes.
+fn is_worked<P: Plant>(alloc: Global, plant: &mut P, done: &[u8], length: u64) -> Result<bool, Fail>
     requires { P.sound plant.old }
 {
-    let lengths = match lengths(alloc, plant) {
+    let lengths = match lengths(alloc, plant, done) {
         Ok(lengths) => lengths,
         Err(_) => return Ok(false),
     };
     let mut whole = Bytes::from_slice(alloc, SETS)?;
     whole.extend_from_slice(LEVELS)?;
     whole.extend_from_slice(BEGIN)?;
-    Ok(lengths == [32, 71, 76, 179] && has(alloc, plant, whole.as_slice(), DONE))
+    Ok(lengths == [32, 71, 76, length] && has(alloc, plant, whole.as_slice(), done))
 }
 
 /// The plant of a media.
@@ -105,10 +109,12 @@ fn opened(media: MemMedia) -> Result<MediaPlant<MemMedia>, OpenFault>
 fn worked_logs(rt: HostRuntime) -> Result<(), Fail> {
     let alloc = rt.alloc();
     let mut in_memory = MemPlant::new(alloc, 0)?;
-    assert!(rt; is_worked(alloc, &mut in_memory)?);
+    assert!(rt; is_worked(alloc, &mut in_memory, DONE, 185)?);
+    let mut with_version_1 = MemPlant::new(alloc, 0)?;
+    assert!(rt; is_worked(alloc, &mut with_version_1, DONE_1, 179)?);
     let media = MemMedia::new(alloc, 2)?;
     let mut over_files = opened(media)?;
-    assert!(rt; is_worked(alloc, &mut over_files)?);
+    assert!(rt; is_worked(alloc, &mut over_files, DONE, 185)?);
     Ok(())
 }
 

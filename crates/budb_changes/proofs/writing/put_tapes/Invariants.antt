@@ -7,6 +7,6 @@ use Rattle.budb_changes.proofs.writing.put_tapes.Given as goal
 
 abbrev pub invariant-loop-tape : goal.invariant-loop-tape
 invariant-loop-tape l = record {
-  bytes : l.out ≡ l.fn.out ++ flat_map tape_bytes (take l.tape-index l.tapes);
+  bytes : l.out ≡ l.fn.out ++ flat_map (tape_bytes l.version) (take l.tape-index l.tapes);
   form : All IsTapePart (take l.tape-index l.tapes);
 }
