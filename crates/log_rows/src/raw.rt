@@ -44,18 +44,19 @@ fn raw<M: Media>(alloc: Global, media: &mut M, f: u32) -> Result<Vec<u8>, Fail> 
     Ok(bytes)
 }
 
-/// A file with these slots, which are filled up with one byte, and what stands behind them.
+/// A file with the first bytes of its slots, each filled up to 4,096 bytes with one byte, and what stands behind them.
 fn file_of(
     alloc: Global,
     fill: u8,
-    first: &[u8; 24],
-    second: &[u8; 24],
+    first: &[u8],
+    second: &[u8],
     behind: &[u8],
 ) -> Result<Vec<u8>, AllocError> {
-    let mut slots = [fill; 8192];
-    slots[..24].copy_from_slice(first);
-    slots[4096..4120].copy_from_slice(second);
-    let mut file = slots.to_vec(alloc)?;
+    let rest = [fill; 4072];
+    let mut file = first.to_vec(alloc)?;
+    file.extend_from_slice(&rest)?;
+    file.extend_from_slice(second)?;
+    file.extend_from_slice(&rest)?;
     file.extend_from_slice(behind)?;
     Ok(file)
 }
