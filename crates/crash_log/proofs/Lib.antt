@@ -11,4 +11,5 @@ pub mod Reading
 mod Slots
 mod Spans
 mod Stale
+pub mod Telling
 mod WritingApart

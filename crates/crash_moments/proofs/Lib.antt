@@ -1,3 +1,4 @@
 pub mod Fronts
 pub mod Histories
 pub mod Joining
+pub mod Repeated
