@@ -1,8 +1,7 @@
 -- A cell with one more under its name, and with one less.
-use Rattle.std.proofs.Common.{suc, ◌≡◌, ◌≢◌, ℕ, ◌+◌, ◌<◌, ◌≤◌, Bool, true, false, cond, not, List, [], ◌∷◌, ◌++◌, length, take, drop, get_or, set, refl, sym, ◌∙◌, ap, subst, arith}
-use Rattle.std.specs.Prelude.{filter, Option, Some, None, Result, Ok, Err, OnOk, OnErr, All}
+use Rattle.std.proofs.Common.{◌≡◌, ℕ, ◌<◌, ◌≤◌, Bool, true, false, cond, not, List, [], ◌∷◌, length, get_or, set, refl, sym, ◌∙◌, ap, subst, arith}
+use Rattle.std.specs.Prelude.{filter, Some, Result, Ok, Err, OnOk, OnErr}
 use Rattle.std.specs.List.{insert, remove}
-use Rattle.std.specs.declared.cmp.Ordering.{Ordering}
 use Rattle.std.specs.declared.cmp.Ordering.TheVariants.{Equal}
 use Rattle.std.specs.Ordering.{is_eq}
 use Rattle.std.specs.Cmp.Lexicographic.{nat_list_cmp_total}
@@ -11,7 +10,8 @@ use Rattle.std.proofs.lemmas.List.Edits.{length-insert}
 use Rattle.std.specs.FinMap.{nat_cmp-IsAntisymmetric, slice_cmp-IsAntisymmetric}
 use Rattle.cell_core.specs.declared.stored.Stored.{Stored}
 use Rattle.cell_core.specs.Places.{FoundAt, FreeAt}
-use Rattle.cell_core.specs.Cells.{name_order, name_of, stored_as, with_stored, without_stored, most_volumes, IsImageOf, IsCell}
+use Rattle.cell_core.specs.Listings.{name_order, most_volumes}
+use Rattle.cell_core.specs.Cells.{name_of, stored_as, with_stored, without_stored, IsImageOf, IsCell}
 use Rattle.cell_core.proofs.OrderLaws.{placed_found, placed_free, placed_ascending, placed_all, without_ascending, without_all}
 
 pub same_name : (a b : List ℕ) → name_order a b ≡ Equal → a ≡ b

@@ -1,11 +1,11 @@
 -- What a volume is after a change of its vnodes.
-use Rattle.std.proofs.Common.{suc, ◌≡◌, ℕ, ◌+◌, ◌-◌, ◌*◌, ◌/◌, ◌%◌, ◌<◌, ◌≤◌, Bool, true, false, cond, eqb, List, [], ◌∷◌, ◌++◌, length, take, drop, get_or, set, refl, sym, ◌∙◌, ap, subst, arith}
-use Rattle.std.specs.Prelude.{◌&&◌, nat_le, Option, Some, None, Result, Ok, Err, sum_by, replicate}
+use Rattle.std.proofs.Common.{◌≡◌, ℕ, ◌+◌, ◌/◌, ◌%◌, ◌<◌, ◌≤◌, true, false, cond, eqb, List, ◌∷◌, length, take, drop, get_or, set, refl, sym, ◌∙◌, ap, subst, arith}
+use Rattle.std.specs.Prelude.{◌&&◌, nat_le, Option, Some, Ok, Err, replicate}
 use Rattle.std.specs.List.{insert, remove}
 use Rattle.std.proofs.lemmas.Bool.{cond-true, cond-false, eqb-true, eqb-false, and_from, and_left, and_right, le-leb, lt-leb}
 use Rattle.std.proofs.lemmas.Bool.Decides.{nat_tests}
 use Rattle.std.proofs.lemmas.Cmp.{tied_itself}
-use Rattle.std.proofs.lemmas.List.{get_or_default, length-set, take_more}
+use Rattle.std.proofs.lemmas.List.{get_or_default, length-set}
 use Rattle.std.proofs.lemmas.List.Edits.{length-insert}
 use Rattle.std.proofs.lemmas.List.Sums.{sum_by-set, sum_by-append, sum_by-cons, sum_by_more, sum_by-take-drop}
 use Rattle.std.specs.declared.cmp.Ordering.TheVariants.{Equal}
@@ -16,14 +16,13 @@ use Rattle.std.specs.Int.{div_ceil}
 use Rattle.vnode_model.specs.declared.vnodes.VnodeKind.TheVariants.{File, Directory}
 use Rattle.vnode_model.specs.Limits.{KindFits, AccessFits, IsFitVnode, AreVolume, most_vnodes, most_data, all_data}
 use Rattle.vnode_model.specs.Increments.{data_of}
-use Rattle.cell_core.specs.declared.fault.CellFault.{CellFault}
 use Rattle.cell_core.specs.declared.fault.CellFault.TheVariants.{TooLarge}
 use Rattle.cell_core.specs.Places.{FoundAt, FreeAt}
-use Rattle.cell_core.specs.Vnodes.{number_order, number_of_vnode, vnode_of, with_vnode, without_vnode, kind_of_number, made_vnode, rewritten_vnode, kib_of}
+use Rattle.cell_core.specs.Vnodes.{number_order, number_of_vnode, vnode_of, with_vnode, kind_of_number, made_vnode, rewritten_vnode, kib_of}
 use Rattle.cell_core.specs.Volumes.{within_limits, updated_header, updated_volume, written_over}
 use Rattle.cell_core.specs.Changing.{volume_from}
 use Rattle.cell_core.proofs.OrderLaws.{found_at, placed_found, placed_free}
-use Rattle.cell_core.proofs.VnodeLaws.{AreKept, kept_in, number_order_total, volume_with, volume_less, are_ascending}
+use Rattle.cell_core.proofs.VnodeLaws.{kept_in, number_order_total, volume_with, volume_less, are_ascending}
 
 -- ---- limits
 

@@ -1,23 +1,23 @@
 -- What keeps a cell fair.
-use Rattle.std.proofs.Common.{◌≡◌, ◌≢◌, ◌⊎◌, ℕ, ◌-◌, ◌<◌, ◌≤◌, ◌++◌, take, length-append, Bool, true, false, cond, List, length, refl, sym, ◌∙◌, ap, subst, inl, inr, arith}
-use Rattle.std.specs.Prelude.{Option, Some, None, All, Contains, ◌==◌}
+use Rattle.std.proofs.Common.{◌≡◌, ◌≢◌, ◌⊎◌, ℕ, ◌-◌, ◌<◌, ◌≤◌, take, length-append, true, false, cond, List, length, refl, sym, ◌∙◌, ap, subst, inl, inr, arith}
+use Rattle.std.specs.Prelude.{Some, None, IfSome, All, Contains, ◌==◌}
 use Rattle.std.specs.declared.cmp.Ordering.{Ordering}
 use Rattle.std.specs.declared.cmp.Ordering.TheVariants.{Less, Equal, Greater}
 use Rattle.std.specs.Cmp.Lexicographic.{nat_list_cmp_total}
-use Rattle.std.proofs.lemmas.Cmp.{tied_itself}
 use Rattle.std.proofs.lemmas.List.{append_cancel_right, take_at}
 use Rattle.std.proofs.lemmas.List.Elements.{All-weaker, All-contains, All-contains_itself, Contains-get_or}
 use Rattle.bk_text.specs.Bases.{backup_ending, is_backup_name, base_of}
 use Rattle.vnode_model.specs.declared.vnodes.Vnode.{Vnode}
 use Rattle.vnode_model.specs.declared.volumes.VolumeFields.{VolumeFields}
+use Rattle.vnode_model.specs.Limits.{AreVolume}
 use Rattle.vnode_model.specs.Increments.{Follows}
 use Rattle.cell_core.specs.declared.stored.Stored.{Stored}
-use Rattle.cell_core.specs.declared.stored.Image.{Image}
-use Rattle.cell_core.specs.declared.stored.Image.TheVariants.{Good, Bad}
+use Rattle.cell_core.specs.declared.stored.Image.TheVariants.{Good}
 use Rattle.cell_core.specs.Volumes.{backup_name}
-use Rattle.cell_core.specs.Cells.{name_order, name_of, stored_as, with_stored, without_stored, birth_of_image, birth_of, born}
-use Rattle.cell_core.specs.Fairness.{Dumped, IsFairTo, Fair, IsMadeBy, AreMadeBy}
-use Rattle.cell_core.proofs.LookupLaws.{contains_placed, contains_without, found_placed, found_beside, found_apart, found_without, key_found}
+use Rattle.cell_core.specs.Listings.{name_order}
+use Rattle.cell_core.specs.Cells.{name_of, stored_as, with_stored, without_stored, birth_of_image, birth_of, born}
+use Rattle.cell_core.specs.Fairness.{Dumped, IsFairTo, Fair, IsNotMadeAfter, NoneIsMadeAfter}
+use Rattle.cell_core.proofs.LookupLaws.{contains_placed, found_placed, found_beside, found_apart, found_without}
 use Rattle.cell_core.proofs.CellLaws.{same_name}
 
 -- ---- parts
@@ -74,12 +74,26 @@ fair_either : (b b' : ℕ) (new old : VolumeFields) (c : ℕ) → IsFairTo b new
 fair_either b b' new old c fair (inl same) = subst (λ (n : ℕ). IsFairTo n new c old) (sym same) fair
 fair_either b b' new old c fair (inr late) = inl late
 
+abbrev pub HasVolume : Dumped → Type 0
+HasVolume d = IfSome d.volume (λ old. AreVolume old.vnodes)
+
 pub fair_later : (cell : List Stored) (dumped : List Dumped) (time now : ℕ) → Fair cell dumped time → time ≤ now → Fair cell dumped now
 fair_later cell dumped time now fair le = record {
   times = All-weaker (λ (d : Dumped). d.time ≤ time) (λ (d : Dumped). d.time ≤ now) (λ d h. omega (arith, h, le)) dumped fair.times;
+  volumes = fair.volumes;
   own = fair.own;
   of_backup = fair.of_backup;
   backup = λ s new b old sc si sk bc bi bk bn. let h = fair.backup s new b old sc si sk bc bi bk bn in (omega (arith, h.0, le), h.1);
+}
+
+-- fewer dumps
+pub fair_fewer : (cell : List Stored) (dumped less : List Dumped) (now : ℕ) → Fair cell dumped now → ((d : Dumped) → Contains less d → Contains dumped d) → Fair cell less now
+fair_fewer cell dumped less now fair within = record {
+  times = All-weaker (Contains less) (λ (d : Dumped). d.time ≤ now) (λ d there. All-contains (λ (e : Dumped). e.time ≤ now) dumped d fair.times (within d there)) less (All-contains_itself less);
+  volumes = All-weaker (Contains less) HasVolume (λ d there. All-contains HasVolume dumped d fair.volumes (within d there)) less (All-contains_itself less);
+  own = λ s new d old sc si cd di dn. fair.own s new d old sc si (within d cd) di dn;
+  of_backup = λ s new d old sc si sk cd di dn. fair.of_backup s new d old sc si sk (within d cd) di dn;
+  backup = fair.backup;
 }
 
 time_of : (dumped : List Dumped) (time : ℕ) (d : Dumped) → All (λ d. d.time ≤ time) dumped → Contains dumped d → d.time ≤ time
@@ -129,6 +143,7 @@ module _ (cell : List Stored) (dumped : List Dumped) (time now : ℕ) (fair : Fa
     pub changed_fair : Fair (with_stored s' cell) dumped now
     changed_fair = record {
       times = (fair_later cell dumped time now fair le).times;
+      volumes = fair.volumes;
       own = λ t new d old ct ti cd di dn. elim (contains_placed name_order name_of nat_list_cmp_total s' cell t ct) [
         | inl same ↦
             subst (λ (x : VolumeFields). IsFairTo (born (with_stored s' cell) x) x d.time old) (one_image s' t w new same s'_is ti)
@@ -144,7 +159,7 @@ module _ (cell : List Stored) (dumped : List Dumped) (time now : ℕ) (fair : Fa
         | inr o ↦ fair.of_backup t new d old o.0 ti tk cd di dn
       ];
       backup = λ t new b old ct ti tk cb bi bk bn. elim (contains_placed name_order name_of nat_list_cmp_total s' cell b cb) [
-        | inl same_b ↦ absurd (kinds_apart w (change.kind ∙ kind) (ap (λ (x : VolumeFields). x.header.kind) (one_image s' b w old same_b s'_is bi) ∙ bk))
+        | inl same_b ↦ absurd (bk (sym (ap (λ (x : VolumeFields). x.header.kind) (one_image s' b w old same_b s'_is bi)) ∙ (change.kind ∙ kind)))
         | inr ob ↦ elim (contains_placed name_order name_of nat_list_cmp_total s' cell t ct) [
           | inl same ↦
               let h = fair.backup s v b old there s_is kind ob.0 bi bk (bn ∙ ap backup_name (sym (ap (λ (x : Stored). x.name) same) ∙ named)) in (
@@ -159,7 +174,7 @@ module _ (cell : List Stored) (dumped : List Dumped) (time now : ℕ) (fair : Fa
 
   -- ---- a read/write volume is made now
 
-  module _ (s' : Stored) (n : VolumeFields) (s'_is : s'.image ≡ Good n) (kind : n.header.kind ≡ 0) (created : n.header.created ≡ now) (made : AreMadeBy now cell) where
+  module _ (s' : Stored) (n : VolumeFields) (s'_is : s'.image ≡ Good n) (kind : n.header.kind ≡ 0) (created : n.header.created ≡ now) (made : NoneIsMadeAfter now cell) where
     birth_now : birth_of_image s'.image ≡ now
     birth_now = ap birth_of_image s'_is ∙ (ap (λ (k : ℕ). cond (k == 0) n.header.created 4294967295) kind ∙ created)
 
@@ -174,11 +189,12 @@ module _ (cell : List Stored) (dumped : List Dumped) (time now : ℕ) (fair : Fa
         ]
 
     made_before : (b : Stored) (old : VolumeFields) → Contains cell b → b.image ≡ Good old → old.header.created ≤ now
-    made_before b old there is = subst (IsMadeBy now) is (All-contains (λ (x : Stored). IsMadeBy now x.image) cell b made there)
+    made_before b old there is = subst (IsNotMadeAfter now) is (All-contains (λ (x : Stored). IsNotMadeAfter now x.image) cell b made there)
 
     pub made_fair : Fair (with_stored s' cell) dumped now
     made_fair = record {
       times = (fair_later cell dumped time now fair le).times;
+      volumes = fair.volumes;
       own = λ t new d old ct ti cd di dn. elim (contains_placed name_order name_of nat_list_cmp_total s' cell t ct) [
         | inl same ↦ subst (λ (x : VolumeFields). IsFairTo (born (with_stored s' cell) x) x d.time old) (one_image s' t n new same s'_is ti) (inl (omega (arith, own_now, time_of dumped time d fair.times cd, le)))
         | inr o ↦ fair_either (born cell new) (born (with_stored s' cell) new) new old d.time (fair.own t new d old o.0 ti cd di dn) (births_late new d.time (omega (arith, time_of dumped time d fair.times cd, le)))
@@ -188,7 +204,7 @@ module _ (cell : List Stored) (dumped : List Dumped) (time now : ℕ) (fair : Fa
         | inr o ↦ fair.of_backup t new d old o.0 ti tk cd di dn
       ];
       backup = λ t new b old ct ti tk cb bi bk bn. elim (contains_placed name_order name_of nat_list_cmp_total s' cell b cb) [
-        | inl same_b ↦ absurd (kinds_apart n kind (ap (λ (x : VolumeFields). x.header.kind) (one_image s' b n old same_b s'_is bi) ∙ bk))
+        | inl same_b ↦ absurd (bk (sym (ap (λ (x : VolumeFields). x.header.kind) (one_image s' b n old same_b s'_is bi)) ∙ kind))
         | inr ob ↦ elim (contains_placed name_order name_of nat_list_cmp_total s' cell t ct) [
           | inl same ↦
               let before = made_before b old ob.0 bi in
@@ -244,6 +260,7 @@ module _ (cell : List Stored) (dumped : List Dumped) (time now : ℕ) (fair : Fa
     pub copied_fair : Fair (with_stored copy cell) dumped now
     copied_fair = record {
       times = (fair_later cell dumped time now fair le).times;
+      volumes = fair.volumes;
       own = λ t new d old ct ti cd di dn. elim (contains_placed name_order name_of nat_list_cmp_total copy cell t ct) [
         | inl same ↦
             let low : d.time ≤ now = omega (arith, time_of dumped time d fair.times cd, le) in
@@ -285,6 +302,7 @@ module _ (cell : List Stored) (dumped : List Dumped) (time now : ℕ) (fair : Fa
     pub less_fair : Fair less dumped now
     less_fair = record {
       times = (fair_later cell dumped time now fair le).times;
+      volumes = fair.volumes;
       own = λ t new d old ct ti cd di dn. fair_either (born cell new) (born less new) new old d.time (fair.own t new d old (contained t ct) ti cd di dn) (births_less new d.time (omega (arith, time_of dumped time d fair.times cd, le)));
       of_backup = λ t new d old ct ti tk cd di dn. fair.of_backup t new d old (contained t ct) ti tk cd di dn;
       backup = λ t new b old ct ti tk cb bi bk bn. let h = fair.backup t new b old (contained t ct) ti tk (contained b cb) bi bk bn in (omega (arith, h.0, le), h.1);

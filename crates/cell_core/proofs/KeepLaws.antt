@@ -1,6 +1,6 @@
 -- What the calls keep: a cell that is fair, and that no volume is made after its time.
-use Rattle.std.proofs.Common.{◌≡◌, ◌≢◌, ◌⊎◌, ℕ, ◌+◌, ◌<◌, ◌≤◌, Bool, true, false, cond, List, length, refl, sym, ◌∙◌, ap, subst, inl, inr, arith}
-use Rattle.std.specs.Prelude.{Option, Some, None, Result, Ok, Err, All, Contains, ◌==◌, ◌||◌}
+use Rattle.std.proofs.Common.{◌≡◌, ℕ, ◌+◌, ◌≤◌, Bool, true, false, cond, List, [], refl, sym, ◌∙◌, ap, subst, inl, inr, arith}
+use Rattle.std.specs.Prelude.{Option, Some, None, is_none, Result, Ok, Err, Contains, ◌==◌}
 use Rattle.std.specs.declared.cmp.Ordering.TheVariants.{Equal}
 use Rattle.std.specs.Cmp.Lexicographic.{nat_list_cmp_total}
 use Rattle.std.proofs.lemmas.Bool.{eqb-true}
@@ -9,88 +9,22 @@ use Rattle.std.proofs.lemmas.List.Elements.{All-contains}
 use Rattle.vnode_model.specs.declared.vnodes.Vnode.{Vnode}
 use Rattle.vnode_model.specs.declared.volumes.VolumeFields.{VolumeFields}
 use Rattle.cell_core.specs.declared.fault.CellFault.{CellFault}
-use Rattle.cell_core.specs.declared.fault.CellFault.TheVariants.{Failed, NoVolume, VolumeExists, NoVnode, TooLarge, BadImage, Memory}
+use Rattle.cell_core.specs.declared.fault.CellFault.TheVariants.{NoVolume, TooLarge}
 use Rattle.cell_core.specs.declared.stored.Stored.{Stored}
 use Rattle.cell_core.specs.declared.stored.Image.{Image}
 use Rattle.cell_core.specs.declared.stored.Image.TheVariants.{Good, Bad}
-use Rattle.cell_core.specs.declared.changes.Change.{Change}
-use Rattle.cell_core.specs.declared.changes.Change.TheVariants.{Write, Remove}
 use Rattle.cell_core.specs.Vnodes.{number_order, number_of_vnode, vnode_of, with_vnode, without_vnode, made_vnode, rewritten_vnode}
-use Rattle.cell_core.specs.Volumes.{within_limits, updated_volume, written_over, removed_where, new_volume, backup_name, backup_copy, stamped_volume}
-use Rattle.cell_core.specs.Cells.{IsCell, IsImageOf, name_order, name_of, stored_as, with_stored, without_stored, is_full, free_id, birth_of}
-use Rattle.cell_core.specs.Calls.{Created, created_as, created_where, created, stored_volume, put_over, put_where, put_in, no_room, with_volume, changed_volume, changed_image, changed_stored, put_back, changed_where, changed, backup_id, backup_of, backed_up_image, backed_up_where, backed_up, is_of_kind, is_kind_image, without_backup, removed_with, removed_entry, removed}
-use Rattle.cell_core.specs.Answers.{Changes, Creates, Settles, SettlesNew}
-use Rattle.cell_core.specs.Fairness.{Dumped, Fair, IsMadeBy, AreMadeBy}
-use Rattle.cell_core.specs.Changing.{outcome_of}
+use Rattle.cell_core.specs.Volumes.{within_limits, updated_volume, written_over, written_volume, removed_where, volume_without, new_volume, backup_name, backup_copy, with_backup_date}
+use Rattle.cell_core.specs.Listings.{name_order, has_kind}
+use Rattle.cell_core.specs.Cells.{IsCell, IsImageOf, name_of, standing_of, id_for_new, stored_as, with_stored, without_stored, birth_of}
+use Rattle.cell_core.specs.Calls.{Creation, creation_with, creation_where, after_create, stored_volume, put_over, put_where, after_put, with_volume, with_outcome, image_after, put_back, after_change_where, after_change, backup_id, backup_of, after_backup_of, after_backup_where, after_backup, is_of_kind, without_backup, without_both, after_remove_where, after_remove}
+use Rattle.cell_core.specs.Fairness.{Dumped, Fair, IsNotMadeAfter, NoneIsMadeAfter, IsNoSourceUnder, NoSourceHasBackupName}
 use Rattle.cell_core.proofs.OrderLaws.{placed_all, without_all}
 use Rattle.cell_core.proofs.LookupLaws.{contains_placed, contains_without, key_found, found_beside, alone}
 use Rattle.cell_core.proofs.VnodeLaws.{number_order_total}
 use Rattle.cell_core.proofs.CellLaws.{same_name}
 use Rattle.cell_core.proofs.CallLaws.{backup_apart}
 use Rattle.cell_core.proofs.FairLaws.{ChangedBy, fair_later, changed_fair, made_fair, copied_fair, less_fair, found_less}
-
--- ---- from what is settled
-
-pub changes_from : (outcome : Result (List Stored) CellFault) (old : List Stored) (r : Result (Unit {0}) CellFault) (new : List Stored) → Settles outcome old r new → Changes outcome old r new
-changes_from outcome old (Ok done) new h = h
-changes_from outcome old (Err Failed) new h = absurd h
-changes_from outcome old (Err Memory) new h = h
-changes_from outcome old (Err NoVolume) new h = h
-changes_from outcome old (Err VolumeExists) new h = h
-changes_from outcome old (Err NoVnode) new h = h
-changes_from outcome old (Err TooLarge) new h = h
-changes_from outcome old (Err (BadImage at)) new h = h
-
-pub never_failed : (outcome : Result (List Stored) CellFault) (old : List Stored) (r : Result (Unit {0}) CellFault) (new : List Stored) → Settles outcome old r new → r ≢ Err Failed
-never_failed outcome old (Ok done) new h = λ e. cc
-never_failed outcome old (Err Failed) new h = absurd h
-never_failed outcome old (Err Memory) new h = λ e. cc
-never_failed outcome old (Err NoVolume) new h = λ e. cc
-never_failed outcome old (Err VolumeExists) new h = λ e. cc
-never_failed outcome old (Err NoVnode) new h = λ e. cc
-never_failed outcome old (Err TooLarge) new h = λ e. cc
-never_failed outcome old (Err (BadImage at)) new h = λ e. cc
-
--- a fact of the new list
-pub holds_after : (P : List Stored → Type 0) (outcome : Result (List Stored) CellFault) (old : List Stored) (r : Result (Unit {0}) CellFault) (new : List Stored) → Settles outcome old r new → ((l : List Stored) → outcome ≡ Ok l → P l) → P old → P new
-holds_after P outcome old (Ok done) new h done_so kept = done_so new h
-holds_after P outcome old (Err Failed) new h done_so kept = absurd h
-holds_after P outcome old (Err Memory) new h done_so kept = subst P (sym h) kept
-holds_after P outcome old (Err NoVolume) new h done_so kept = subst P (sym h.1) kept
-holds_after P outcome old (Err VolumeExists) new h done_so kept = subst P (sym h.1) kept
-holds_after P outcome old (Err NoVnode) new h done_so kept = subst P (sym h.1) kept
-holds_after P outcome old (Err TooLarge) new h done_so kept = subst P (sym h.1) kept
-holds_after P outcome old (Err (BadImage at)) new h done_so kept = subst P (sym h.1) kept
-
-pub creates_from : (outcome : Result Created CellFault) (old : List Stored) (r : Result ℕ CellFault) (new : List Stored) → SettlesNew outcome old r new → Creates outcome old r new
-creates_from outcome old (Ok id) new h = h
-creates_from outcome old (Err Failed) new h = absurd h
-creates_from outcome old (Err Memory) new h = h
-creates_from outcome old (Err NoVolume) new h = h
-creates_from outcome old (Err VolumeExists) new h = h
-creates_from outcome old (Err NoVnode) new h = h
-creates_from outcome old (Err TooLarge) new h = h
-creates_from outcome old (Err (BadImage at)) new h = h
-
-pub never_failed_new : (outcome : Result Created CellFault) (old : List Stored) (r : Result ℕ CellFault) (new : List Stored) → SettlesNew outcome old r new → r ≢ Err Failed
-never_failed_new outcome old (Ok id) new h = λ e. cc
-never_failed_new outcome old (Err Failed) new h = absurd h
-never_failed_new outcome old (Err Memory) new h = λ e. cc
-never_failed_new outcome old (Err NoVolume) new h = λ e. cc
-never_failed_new outcome old (Err VolumeExists) new h = λ e. cc
-never_failed_new outcome old (Err NoVnode) new h = λ e. cc
-never_failed_new outcome old (Err TooLarge) new h = λ e. cc
-never_failed_new outcome old (Err (BadImage at)) new h = λ e. cc
-
-pub holds_after_new : (P : List Stored → Type 0) (outcome : Result Created CellFault) (old : List Stored) (r : Result ℕ CellFault) (new : List Stored) → SettlesNew outcome old r new → ((made : Created) → outcome ≡ Ok made → P made.list) → P old → P new
-holds_after_new P outcome old (Ok id) new h done_so kept = done_so (record { id = id; list = new }) h
-holds_after_new P outcome old (Err Failed) new h done_so kept = absurd h
-holds_after_new P outcome old (Err Memory) new h done_so kept = subst P (sym h) kept
-holds_after_new P outcome old (Err NoVolume) new h done_so kept = subst P (sym h.1) kept
-holds_after_new P outcome old (Err VolumeExists) new h done_so kept = subst P (sym h.1) kept
-holds_after_new P outcome old (Err NoVnode) new h done_so kept = subst P (sym h.1) kept
-holds_after_new P outcome old (Err TooLarge) new h done_so kept = subst P (sym h.1) kept
-holds_after_new P outcome old (Err (BadImage at)) new h done_so kept = subst P (sym h.1) kept
 
 -- ---- what a change makes of a volume
 
@@ -129,13 +63,19 @@ removed_by (Some x) number now v w h =
     let is : updated_volume (without_vnode number v.vnodes) v.header.uniq now v ≡ w = cc in
     subst (ChangedBy now v) is (record { kind = refl; created = refl; vnodes = λ y there. inl (contains_without number_order number_of_vnode number_order_total number v.vnodes y there).0 })
 
-pub changed_by : (change : Change) (now : ℕ) (v w : VolumeFields) → outcome_of change now v ≡ Ok w → ChangedBy now v w
-changed_by (Write number body) now v w h = by (number == 0) h
+-- a change that leaves of each volume one that is changed so
+abbrev pub Changed : ℕ → (VolumeFields → Result VolumeFields CellFault) → Type 0
+Changed now change = (v w : VolumeFields) → change v ≡ Ok w → ChangedBy now v w
+
+pub write_changes : (number : ℕ) (body : List ℕ) (now : ℕ) → Changed now (written_volume number body now)
+write_changes number body now v w h = by (number == 0) h
   where
-    by : (b : Bool) → cond b (Err TooLarge) (written_over (vnode_of number v.vnodes) v number body.now now) ≡ Ok w → ChangedBy now v w
+    by : (b : Bool) → cond b (Err TooLarge) (written_over (vnode_of number v.vnodes) v number body now) ≡ Ok w → ChangedBy now v w
     by true g = absurd cc
-    by false g = written_by (vnode_of number v.vnodes) number body.now now v w g
-changed_by (Remove number) now v w h = removed_by (vnode_of number v.vnodes) number now v w h
+    by false g = written_by (vnode_of number v.vnodes) number body now v w g
+
+pub removal_changes : (number now : ℕ) → Changed now (volume_without number now)
+removal_changes number now v w h = removed_by (vnode_of number v.vnodes) number now v w h
 
 -- ---- a changed volume in its cell
 
@@ -149,22 +89,22 @@ record ChangedAt (cell : List Stored) (name : List ℕ) (f : VolumeFields → Re
   outcome : f v ≡ Ok w
   list : with_stored (with_volume s w) cell ≡ new
 
-changed_at : (cell : List Stored) (name : List ℕ) (f : VolumeFields → Result VolumeFields CellFault) (new : List Stored) → changed cell name f ≡ Ok new → ChangedAt cell name f new
+changed_at : (cell : List Stored) (name : List ℕ) (f : VolumeFields → Result VolumeFields CellFault) (new : List Stored) → after_change cell name f ≡ Ok new → ChangedAt cell name f new
 changed_at cell name f new h = at (stored_as name cell) refl h
   where
-    by : (s : Stored) (v : VolumeFields) (o : Result VolumeFields CellFault) → stored_as name cell ≡ Some s → s.image ≡ Good v → v.header.kind ≡ 0 → f v ≡ o → put_back cell (changed_volume s o) ≡ Ok new → ChangedAt cell name f new
+    by : (s : Stored) (v : VolumeFields) (o : Result VolumeFields CellFault) → stored_as name cell ≡ Some s → s.image ≡ Good v → v.header.kind ≡ 0 → f v ≡ o → put_back cell (with_outcome s o) ≡ Ok new → ChangedAt cell name f new
     by s v (Ok w) there is kind outcome g = let e : with_stored (with_volume s w) cell ≡ new = cc in record { s = s; v = v; w = w; there = there; is = is; kind = kind; outcome = outcome; list = e }
     by s v (Err x) there is kind outcome g = absurd cc
 
-    tested : (s : Stored) (v : VolumeFields) (b : Bool) → stored_as name cell ≡ Some s → s.image ≡ Good v → (v.header.kind == 0) ≡ b → put_back cell (cond b (changed_volume s (f v)) (Err NoVolume)) ≡ Ok new → ChangedAt cell name f new
+    tested : (s : Stored) (v : VolumeFields) (b : Bool) → stored_as name cell ≡ Some s → s.image ≡ Good v → (v.header.kind == 0) ≡ b → put_back cell (cond b (with_outcome s (f v)) (Err NoVolume)) ≡ Ok new → ChangedAt cell name f new
     tested s v true there is kind g = by s v (f v) there is (eqb-true v.header.kind 0 kind) refl g
     tested s v false there is kind g = absurd cc
 
-    image : (s : Stored) (i : Image) → stored_as name cell ≡ Some s → s.image ≡ i → put_back cell (changed_image i s f) ≡ Ok new → ChangedAt cell name f new
+    image : (s : Stored) (i : Image) → stored_as name cell ≡ Some s → s.image ≡ i → put_back cell (image_after i s f) ≡ Ok new → ChangedAt cell name f new
     image s (Good v) there is g = tested s v (v.header.kind == 0) there is refl g
     image s (Bad p) there is g = absurd cc
 
-    at : (o : Option Stored) → stored_as name cell ≡ o → changed_where o cell f ≡ Ok new → ChangedAt cell name f new
+    at : (o : Option Stored) → stored_as name cell ≡ o → after_change_where o cell f ≡ Ok new → ChangedAt cell name f new
     at None there g = absurd cc
     at (Some s) there g = image s s.image there refl g
 
@@ -172,62 +112,58 @@ module _ (cell : List Stored) (dumped : List Dumped) (time now : ℕ) where
   found_here : (name : List ℕ) (s : Stored) → stored_as name cell ≡ Some s → Contains cell s × (s.name ≡ name)
   found_here name s there = let k = key_found name_order name_of nat_list_cmp_total name cell s there in (k.0, same_name s.name name k.1)
 
-  pub changed_keeps : (name : List ℕ) (change : Change) (new : List Stored) → Fair cell dumped time → time ≤ now → changed cell name (outcome_of change now) ≡ Ok new → Fair new dumped now
-  changed_keeps name change new fair le h =
-      let at = changed_at cell name (outcome_of change now) new h in
+  pub changed_keeps : (name : List ℕ) (change : VolumeFields → Result VolumeFields CellFault) (new : List Stored) → Changed now change → Fair cell dumped time → time ≤ now → after_change cell name change ≡ Ok new → Fair new dumped now
+  changed_keeps name change new by fair le h =
+      let at = changed_at cell name change new h in
       let here = found_here name at.s at.there in
       subst (λ (l : List Stored). Fair l dumped now) at.list
-      (changed_fair cell dumped time now fair le at.s (with_volume at.s at.w) at.v at.w here.0 at.is at.kind refl refl (ap (λ (n : List ℕ). stored_as n cell) here.1 ∙ at.there) (changed_by change now at.v at.w at.outcome))
+      (changed_fair cell dumped time now fair le at.s (with_volume at.s at.w) at.v at.w here.0 at.is at.kind refl refl (ap (λ (n : List ℕ). stored_as n cell) here.1 ∙ at.there) (by at.v at.w at.outcome))
 
-  pub changed_made : (name : List ℕ) (change : Change) (new : List Stored) → AreMadeBy time cell → changed cell name (outcome_of change now) ≡ Ok new → AreMadeBy time new
-  changed_made name change new made h =
-      let at = changed_at cell name (outcome_of change now) new h in
+  pub changed_made : (name : List ℕ) (change : VolumeFields → Result VolumeFields CellFault) (new : List Stored) → Changed now change → NoneIsMadeAfter time cell → after_change cell name change ≡ Ok new → NoneIsMadeAfter time new
+  changed_made name change new by made h =
+      let at = changed_at cell name change new h in
       let here = found_here name at.s at.there in
-      let old : at.v.header.created ≤ time = subst (IsMadeBy time) at.is (All-contains (λ (s : Stored). IsMadeBy time s.image) cell at.s made here.0) in
-      subst (AreMadeBy time) at.list
-      (placed_all name_order name_of nat_list_cmp_total (λ (s : Stored). IsMadeBy time s.image) (with_volume at.s at.w) cell (omega (arith, (changed_by change now at.v at.w at.outcome).created, old)) made)
+      let old : at.v.header.created ≤ time = subst (IsNotMadeAfter time) at.is (All-contains (λ (s : Stored). IsNotMadeAfter time s.image) cell at.s made here.0) in
+      subst (NoneIsMadeAfter time) at.list
+      (placed_all name_order name_of nat_list_cmp_total (λ (s : Stored). IsNotMadeAfter time s.image) (with_volume at.s at.w) cell (omega (arith, (by at.v at.w at.outcome).created, old)) made)
 
   -- ---- new volumes
 
-  record CreatedAt (server partition name : List ℕ) (made : Created) : Type 0 where
+  record CreatedAt (server partition name : List ℕ) (made : Creation) : Type 0 where
     id : ℕ
     list : with_stored (record { name = name; server = server; partition = partition; image = Good (new_volume id name now) }) cell ≡ made.list
 
-  created_at : (server partition name : List ℕ) (made : Created) → created cell server partition name now ≡ Ok made → CreatedAt server partition name made
+  created_at : (server partition name : List ℕ) (made : Creation) → after_create cell server partition name now ≡ Ok made → CreatedAt server partition name made
   created_at server partition name made h = at (stored_as name cell) h
     where
-      from_id : (o : Option ℕ) → created_as o cell server partition name now ≡ Ok made → CreatedAt server partition name made
+      from_id : (o : Option ℕ) → creation_with o cell server partition name now ≡ Ok made → CreatedAt server partition name made
       from_id None g = absurd cc
       from_id (Some id) g =
-          let e : ◌≡◌ {A = Created} (record { id = id; list = with_stored (record { name = name; server = server; partition = partition; image = Good (new_volume id name now) }) cell }) made = cc in
-          record { id = id; list = ap (λ (m : Created). m.list) e }
+          let e : ◌≡◌ {A = Creation} (record { id = id; list = with_stored (record { name = name; server = server; partition = partition; image = Good (new_volume id name now) }) cell }) made = cc in
+          record { id = id; list = ap (λ (m : Creation). m.list) e }
 
-      tested : (b : Bool) → cond b (Err TooLarge) (created_as (free_id cell) cell server partition name now) ≡ Ok made → CreatedAt server partition name made
-      tested true g = absurd cc
-      tested false g = from_id (free_id cell) g
-
-      at : (o : Option Stored) → created_where o cell server partition name now ≡ Ok made → CreatedAt server partition name made
+      at : (o : Option Stored) → creation_where o cell server partition name now ≡ Ok made → CreatedAt server partition name made
       at (Some s) g = absurd cc
-      at None g = tested (is_full cell) g
+      at None g = from_id (id_for_new cell) g
 
-  pub created_keeps : (server partition name : List ℕ) (made : Created) → Fair cell dumped time → time ≤ now → AreMadeBy now cell → created cell server partition name now ≡ Ok made → Fair made.list dumped now
+  pub created_keeps : (server partition name : List ℕ) (made : Creation) → Fair cell dumped time → time ≤ now → NoneIsMadeAfter now cell → after_create cell server partition name now ≡ Ok made → Fair made.list dumped now
   created_keeps server partition name made fair le before h =
       let at = created_at server partition name made h in
       subst (λ (l : List Stored). Fair l dumped now) at.list
       (made_fair cell dumped time now fair le (record { name = name; server = server; partition = partition; image = Good (new_volume at.id name now) }) (new_volume at.id name now) refl refl refl before)
 
-  pub created_made : (server partition name : List ℕ) (made : Created) → AreMadeBy time cell → now ≤ time → created cell server partition name now ≡ Ok made → AreMadeBy time made.list
+  pub created_made : (server partition name : List ℕ) (made : Creation) → NoneIsMadeAfter time cell → now ≤ time → after_create cell server partition name now ≡ Ok made → NoneIsMadeAfter time made.list
   created_made server partition name made before le h =
       let at = created_at server partition name made h in
-      subst (AreMadeBy time) at.list
-      (placed_all name_order name_of nat_list_cmp_total (λ (s : Stored). IsMadeBy time s.image) (record { name = name; server = server; partition = partition; image = Good (new_volume at.id name now) }) cell le before)
+      subst (NoneIsMadeAfter time) at.list
+      (placed_all name_order name_of nat_list_cmp_total (λ (s : Stored). IsNotMadeAfter time s.image) (record { name = name; server = server; partition = partition; image = Good (new_volume at.id name now) }) cell le before)
 
 -- ---- a volume that is put in
 
 abbrev list_done : List Stored → Result (List Stored) CellFault
 list_done l = Ok l
 
-put_is : (cell : List Stored) (server partition : List ℕ) (volume : VolumeFields) (new : List Stored) → put_in cell server partition volume ≡ Ok new → with_stored (stored_volume server partition volume) cell ≡ new
+put_is : (cell : List Stored) (server partition : List ℕ) (volume : VolumeFields) (new : List Stored) → after_put cell server partition volume ≡ Ok new → with_stored (stored_volume server partition volume) cell ≡ new
 put_is cell server partition volume new h = at (stored_as volume.header.name cell) h
   where
     over : (i : Image) → put_over i cell (stored_volume server partition volume) ≡ Ok new → with_stored (stored_volume server partition volume) cell ≡ new
@@ -240,17 +176,17 @@ put_is cell server partition volume new h = at (stored_as volume.header.name cel
 
     at : (o : Option Stored) → put_where o cell (stored_volume server partition volume) ≡ Ok new → with_stored (stored_volume server partition volume) cell ≡ new
     at (Some old) g = over old.image g
-    at None g = tested (no_room cell) g
+    at None g = tested (is_none (id_for_new cell)) g
 
-pub put_keeps : (cell : List Stored) (dumped : List Dumped) (time : ℕ) (server partition : List ℕ) (volume : VolumeFields) (new : List Stored) → Fair cell dumped time → time ≤ volume.header.created → volume.header.kind ≡ 0 → AreMadeBy volume.header.created cell → put_in cell server partition volume ≡ Ok new → Fair new dumped volume.header.created
+pub put_keeps : (cell : List Stored) (dumped : List Dumped) (time : ℕ) (server partition : List ℕ) (volume : VolumeFields) (new : List Stored) → Fair cell dumped time → time ≤ volume.header.created → volume.header.kind ≡ 0 → NoneIsMadeAfter volume.header.created cell → after_put cell server partition volume ≡ Ok new → Fair new dumped volume.header.created
 put_keeps cell dumped time server partition volume new fair le kind before h =
     subst (λ (l : List Stored). Fair l dumped volume.header.created) (put_is cell server partition volume new h)
     (made_fair cell dumped time volume.header.created fair le (stored_volume server partition volume) volume refl kind refl before)
 
-pub put_made : (cell : List Stored) (time : ℕ) (server partition : List ℕ) (volume : VolumeFields) (new : List Stored) → AreMadeBy time cell → volume.header.created ≤ time → put_in cell server partition volume ≡ Ok new → AreMadeBy time new
+pub put_made : (cell : List Stored) (time : ℕ) (server partition : List ℕ) (volume : VolumeFields) (new : List Stored) → NoneIsMadeAfter time cell → volume.header.created ≤ time → after_put cell server partition volume ≡ Ok new → NoneIsMadeAfter time new
 put_made cell time server partition volume new before le h =
-    subst (AreMadeBy time) (put_is cell server partition volume new h)
-    (placed_all name_order name_of nat_list_cmp_total (λ (s : Stored). IsMadeBy time s.image) (stored_volume server partition volume) cell le before)
+    subst (NoneIsMadeAfter time) (put_is cell server partition volume new h)
+    (placed_all name_order name_of nat_list_cmp_total (λ (s : Stored). IsNotMadeAfter time s.image) (stored_volume server partition volume) cell le before)
 
 -- ---- a backup volume
 
@@ -261,15 +197,15 @@ record BackedUpAt (cell : List Stored) (name : List ℕ) (now : ℕ) (new : List
   there : stored_as name cell ≡ Some s
   is : s.image ≡ Good v
   kind : v.header.kind ≡ 0
-  list : with_stored (with_volume s (stamped_volume now v)) (with_stored (backup_of s id now v) cell) ≡ new
+  list : with_stored (with_volume s (with_backup_date now v)) (with_stored (backup_of s id now v) cell) ≡ new
 
-backed_up_at : (cell : List Stored) (name : List ℕ) (now : ℕ) (new : List Stored) → backed_up cell name now ≡ Ok new → BackedUpAt cell name now new
+backed_up_at : (cell : List Stored) (name : List ℕ) (now : ℕ) (new : List Stored) → after_backup cell name now ≡ Ok new → BackedUpAt cell name now new
 backed_up_at cell name now new h = at (stored_as name cell) refl h
   where
     tested : (s : Stored) (v : VolumeFields) (id : ℕ) (b : Bool) → stored_as name cell ≡ Some s → s.image ≡ Good v → (v.header.kind == 0) ≡ b
-        → cond b (list_done (with_stored (with_volume s (stamped_volume now v)) (with_stored (backup_of s id now v) cell))) (Err NoVolume) ≡ Ok new → BackedUpAt cell name now new
+        → cond b (list_done (with_stored (with_volume s (with_backup_date now v)) (with_stored (backup_of s id now v) cell))) (Err NoVolume) ≡ Ok new → BackedUpAt cell name now new
     tested s v id true there is kind g =
-        let e : with_stored (with_volume s (stamped_volume now v)) (with_stored (backup_of s id now v) cell) ≡ new = cc in
+        let e : with_stored (with_volume s (with_backup_date now v)) (with_stored (backup_of s id now v) cell) ≡ new = cc in
         record { s = s; v = v; id = id; there = there; is = is; kind = eqb-true v.header.kind 0 kind; list = e }
     tested s v id false there is kind g = absurd cc
 
@@ -277,18 +213,18 @@ backed_up_at cell name now new h = at (stored_as name cell) refl h
     no_id true g = cc
     no_id false g = cc
 
-    image : (s : Stored) (i : Image) (o : Option ℕ) → stored_as name cell ≡ Some s → s.image ≡ i → backed_up_image i o cell s now ≡ Ok new → BackedUpAt cell name now new
+    image : (s : Stored) (i : Image) (o : Option ℕ) → stored_as name cell ≡ Some s → s.image ≡ i → after_backup_of i o cell s now ≡ Ok new → BackedUpAt cell name now new
     image s (Good v) (Some id) there is g = tested s v id (v.header.kind == 0) there is refl g
     image s (Good v) None there is g = absurd (no_id (v.header.kind == 0) g)
     image s (Bad p) (Some id) there is g = absurd cc
     image s (Bad p) None there is g = absurd cc
 
-    at : (o : Option Stored) → stored_as name cell ≡ o → backed_up_where o cell name now ≡ Ok new → BackedUpAt cell name now new
+    at : (o : Option Stored) → stored_as name cell ≡ o → after_backup_where o cell name now ≡ Ok new → BackedUpAt cell name now new
     at (Some s) there g = image s s.image (backup_id cell (backup_name name)) there refl g
     at None there g = absurd cc
 
 module _ (cell : List Stored) (dumped : List Dumped) (time now : ℕ) (is_cell : IsCell cell) where
-  pub backed_up_keeps : (name : List ℕ) (new : List Stored) → Fair cell dumped time → time ≤ now → now ≤ 4294967295 → backed_up cell name now ≡ Ok new → Fair new dumped now
+  pub backed_up_keeps : (name : List ℕ) (new : List Stored) → Fair cell dumped time → time ≤ now → now ≤ 4294967295 → after_backup cell name now ≡ Ok new → Fair new dumped now
   backed_up_keeps name new fair le fits h =
       let at = backed_up_at cell name now new h in
       let here = found_here cell dumped time now name at.s at.there in
@@ -301,17 +237,18 @@ module _ (cell : List Stored) (dumped : List Dumped) (time now : ℕ) (is_cell :
       let still : stored_as at.s.name (with_stored copy cell) ≡ Some at.s = found_beside name_order name_of nat_list_cmp_total at.s.name copy (backup_apart at.s.name) cell ∙ found in
       let inside = key_found name_order name_of nat_list_cmp_total at.s.name (with_stored copy cell) at.s still in
       subst (λ (l : List Stored). Fair l dumped now) at.list
-      (changed_fair (with_stored copy cell) dumped now now first (omega arith) at.s (with_volume at.s (stamped_volume now at.v)) at.v (stamped_volume now at.v) inside.0 at.is at.kind refl refl still
+      (changed_fair (with_stored copy cell) dumped now now first (omega arith) at.s (with_volume at.s (with_backup_date now at.v)) at.v (with_backup_date now at.v) inside.0 at.is at.kind refl refl still
       (record { kind = refl; created = refl; vnodes = λ x there. inl there }))
 
-  pub backed_up_made : (name : List ℕ) (new : List Stored) → AreMadeBy time cell → now ≤ time → backed_up cell name now ≡ Ok new → AreMadeBy time new
+module _ (cell : List Stored) (dumped : List Dumped) (time now : ℕ) where
+  pub backed_up_made : (name : List ℕ) (new : List Stored) → NoneIsMadeAfter time cell → now ≤ time → after_backup cell name now ≡ Ok new → NoneIsMadeAfter time new
   backed_up_made name new made le h =
       let at = backed_up_at cell name now new h in
       let here = found_here cell dumped time now name at.s at.there in
-      let P : Stored → Type 0 = λ (s : Stored). IsMadeBy time s.image in
-      let old : at.v.header.created ≤ time = subst (IsMadeBy time) at.is (All-contains P cell at.s made here.0) in
-      subst (AreMadeBy time) at.list
-      (placed_all name_order name_of nat_list_cmp_total P (with_volume at.s (stamped_volume now at.v)) (with_stored (backup_of at.s at.id now at.v) cell) old
+      let P : Stored → Type 0 = λ (s : Stored). IsNotMadeAfter time s.image in
+      let old : at.v.header.created ≤ time = subst (IsNotMadeAfter time) at.is (All-contains P cell at.s made here.0) in
+      subst (NoneIsMadeAfter time) at.list
+      (placed_all name_order name_of nat_list_cmp_total P (with_volume at.s (with_backup_date now at.v)) (with_stored (backup_of at.s at.id now at.v) cell) old
       (placed_all name_order name_of nat_list_cmp_total P (backup_of at.s at.id now at.v) cell le made))
 
 -- ---- a removal
@@ -326,37 +263,97 @@ module _ (cell : List Stored) (dumped : List Dumped) (time now : ℕ) where
   backup_less_keeps name fair le fits =
       elim (is_of_kind 2 (stored_as name cell)) as (λ b. Fair (cond b (without_stored name cell) cell) dumped now) [ true ↦ without_keeps name fair le fits | false ↦ fair_later cell dumped time now fair le ]
 
-  backup_less_made : (name : List ℕ) → AreMadeBy time cell → AreMadeBy time (without_backup name cell)
+  backup_less_made : (name : List ℕ) → NoneIsMadeAfter time cell → NoneIsMadeAfter time (without_backup name cell)
   backup_less_made name made =
-      elim (is_of_kind 2 (stored_as name cell)) as (λ b. AreMadeBy time (cond b (without_stored name cell) cell)) [
-        | true ↦ without_all name_order name_of nat_list_cmp_total (λ (s : Stored). IsMadeBy time s.image) name cell made
+      elim (is_of_kind 2 (stored_as name cell)) as (λ b. NoneIsMadeAfter time (cond b (without_stored name cell) cell)) [
+        | true ↦ without_all name_order name_of nat_list_cmp_total (λ (s : Stored). IsNotMadeAfter time s.image) name cell made
         | false ↦ made
       ]
 
-removed_is : (cell : List Stored) (name : List ℕ) (new : List Stored) → removed cell name ≡ Ok new → (b : Bool) × (removed_with b name cell ≡ new)
+removed_is : (cell : List Stored) (name : List ℕ) (new : List Stored) → after_remove cell name ≡ Ok new → (b : Bool) × (without_both b name cell ≡ new)
 removed_is cell name new h = at (stored_as name cell) h
   where
-    at : (o : Option Stored) → removed_entry o name cell ≡ Ok new → (b : Bool) × (removed_with b name cell ≡ new)
+    at : (o : Option Stored) → after_remove_where o name cell ≡ Ok new → (b : Bool) × (without_both b name cell ≡ new)
     at None g = absurd cc
-    at (Some s) g = (is_kind_image 0 s.image, cc)
+    at (Some s) g = (has_kind 0 (standing_of s), cc)
 
 module _ (cell : List Stored) (dumped : List Dumped) (time now : ℕ) where
-  pub removed_keeps : (name : List ℕ) (new : List Stored) → Fair cell dumped time → time ≤ now → now ≤ 4294967295 → removed cell name ≡ Ok new → Fair new dumped now
+  pub removed_keeps : (name : List ℕ) (new : List Stored) → Fair cell dumped time → time ≤ now → now ≤ 4294967295 → after_remove cell name ≡ Ok new → Fair new dumped now
   removed_keeps name new fair le fits h =
       let r = removed_is cell name new h in
       let first = without_keeps cell dumped time now name fair le fits in
       subst (λ (l : List Stored). Fair l dumped now) r.1 (by r.0 first)
     where
-      by : (b : Bool) → Fair (without_stored name cell) dumped now → Fair (removed_with b name cell) dumped now
+      by : (b : Bool) → Fair (without_stored name cell) dumped now → Fair (without_both b name cell) dumped now
       by true first = backup_less_keeps (without_stored name cell) dumped now now (backup_name name) first (omega arith) fits
       by false first = first
 
-  pub removed_made : (name : List ℕ) (new : List Stored) → AreMadeBy time cell → removed cell name ≡ Ok new → AreMadeBy time new
+  pub removed_made : (name : List ℕ) (new : List Stored) → NoneIsMadeAfter time cell → after_remove cell name ≡ Ok new → NoneIsMadeAfter time new
   removed_made name new made h =
       let r = removed_is cell name new h in
-      let first : AreMadeBy time (without_stored name cell) = without_all name_order name_of nat_list_cmp_total (λ (s : Stored). IsMadeBy time s.image) name cell made in
-      subst (AreMadeBy time) r.1 (by r.0 first)
+      let first : NoneIsMadeAfter time (without_stored name cell) = without_all name_order name_of nat_list_cmp_total (λ (s : Stored). IsNotMadeAfter time s.image) name cell made in
+      subst (NoneIsMadeAfter time) r.1 (by r.0 first)
     where
-      by : (b : Bool) → AreMadeBy time (without_stored name cell) → AreMadeBy time (removed_with b name cell)
+      by : (b : Bool) → NoneIsMadeAfter time (without_stored name cell) → NoneIsMadeAfter time (without_both b name cell)
       by true first = backup_less_made (without_stored name cell) dumped time now (backup_name name) first
       by false first = first
+
+-- ---- no read/write volume's name ends in `.backup`
+
+abbrev NoSource : Stored → Type 0
+NoSource s = IsNoSourceUnder s.name s.image
+
+good_same : (v w : VolumeFields) → Good v ≡ Good w → v ≡ w
+good_same v w h = cc
+
+-- under the same name, of the same type
+source_same : (name : List ℕ) (v w : VolumeFields) → w.header.kind ≡ v.header.kind → IsNoSourceUnder name (Good v) → IsNoSourceUnder name (Good w)
+source_same name v w kind none base u named is zero =
+    none base v named refl (sym kind ∙ (ap (λ (x : VolumeFields). x.header.kind) (good_same w u is) ∙ zero))
+
+-- a volume that isn't read/write
+no_source : (name : List ℕ) (v : VolumeFields) → (v.header.kind ≡ 0 → ⊥) → IsNoSourceUnder name (Good v)
+no_source name v other base u named is zero = other (ap (λ (x : VolumeFields). x.header.kind) (good_same v u is) ∙ zero)
+
+at_source : (cell : List Stored) (s : Stored) (v : VolumeFields) → NoSourceHasBackupName cell → Contains cell s → s.image ≡ Good v → IsNoSourceUnder s.name (Good v)
+at_source cell s v none there is = subst (IsNoSourceUnder s.name) is (All-contains NoSource cell s none there)
+
+pub put_sources : (cell : List Stored) (server partition : List ℕ) (volume : VolumeFields) (new : List Stored) → NoSourceHasBackupName cell → IsNoSourceUnder volume.header.name (Good volume) → after_put cell server partition volume ≡ Ok new → NoSourceHasBackupName new
+put_sources cell server partition volume new none here h =
+    subst NoSourceHasBackupName (put_is cell server partition volume new h) (placed_all name_order name_of nat_list_cmp_total NoSource (stored_volume server partition volume) cell here none)
+
+module _ (cell : List Stored) (now : ℕ) where
+  pub changed_sources : (name : List ℕ) (change : VolumeFields → Result VolumeFields CellFault) (new : List Stored) → Changed now change → NoSourceHasBackupName cell → after_change cell name change ≡ Ok new → NoSourceHasBackupName new
+  changed_sources name change new by none h =
+      let at = changed_at cell name change new h in
+      let here = found_here cell [] now now name at.s at.there in
+      subst NoSourceHasBackupName at.list
+      (placed_all name_order name_of nat_list_cmp_total NoSource (with_volume at.s at.w) cell (source_same at.s.name at.v at.w (by at.v at.w at.outcome).kind (at_source cell at.s at.v none here.0 at.is)) none)
+
+  pub created_sources : (server partition name : List ℕ) (made : Creation) → NoSourceHasBackupName cell → ((base : List ℕ) → name ≡ backup_name base → ⊥) → after_create cell server partition name now ≡ Ok made → NoSourceHasBackupName made.list
+  created_sources server partition name made none apart h =
+      let at = created_at cell [] now now server partition name made h in
+      let s : Stored = record { name = name; server = server; partition = partition; image = Good (new_volume at.id name now) } in
+      subst NoSourceHasBackupName at.list (placed_all name_order name_of nat_list_cmp_total NoSource s cell (λ base u named is zero. apart base named) none)
+
+  pub backed_up_sources : (name : List ℕ) (new : List Stored) → NoSourceHasBackupName cell → after_backup cell name now ≡ Ok new → NoSourceHasBackupName new
+  backed_up_sources name new none h =
+      let at = backed_up_at cell name now new h in
+      let here = found_here cell [] now now name at.s at.there in
+      subst NoSourceHasBackupName at.list
+      (placed_all name_order name_of nat_list_cmp_total NoSource (with_volume at.s (with_backup_date now at.v)) (with_stored (backup_of at.s at.id now at.v) cell) (source_same at.s.name at.v (with_backup_date now at.v) refl (at_source cell at.s at.v none here.0 at.is))
+      (placed_all name_order name_of nat_list_cmp_total NoSource (backup_of at.s at.id now at.v) cell (no_source (backup_name at.s.name) (backup_copy at.id now at.v) (λ e. omega (arith, e))) none))
+
+pub removed_sources : (cell : List Stored) (name : List ℕ) (new : List Stored) → NoSourceHasBackupName cell → after_remove cell name ≡ Ok new → NoSourceHasBackupName new
+removed_sources cell name new none h =
+    let r = removed_is cell name new h in
+    let first : NoSourceHasBackupName (without_stored name cell) = without_all name_order name_of nat_list_cmp_total NoSource name cell none in
+    subst NoSourceHasBackupName r.1 (by r.0 first)
+  where
+    less : (b : Bool) (l : List Stored) (other : List ℕ) → NoSourceHasBackupName l → NoSourceHasBackupName (cond b (without_stored other l) l)
+    less true l other all = without_all name_order name_of nat_list_cmp_total NoSource other l all
+    less false l other all = all
+
+    by : (b : Bool) → NoSourceHasBackupName (without_stored name cell) → NoSourceHasBackupName (without_both b name cell)
+    by true first = less (is_of_kind 2 (stored_as (backup_name name) (without_stored name cell))) (without_stored name cell) (backup_name name) first
+    by false first = first

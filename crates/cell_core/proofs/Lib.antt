@@ -7,3 +7,6 @@ pub mod CellLaws
 pub mod CallLaws
 pub mod FairLaws
 pub mod KeepLaws
+pub mod AnswerLaws
+pub mod DumpLaws
+pub mod IdLaws

@@ -1,19 +1,17 @@
 -- Vnodes in order, and within the limits.
-use Rattle.std.proofs.Common.{zero, suc, ◌≡◌, ◌⊎◌, ℕ, ◌+◌, ◌%◌, ◌<◌, ◌≤◌, Bool, true, false, cond, List, [], ◌∷◌, ◌++◌, length, map, get_or, refl, sym, ◌∙◌, ap, subst, inl, inr, arith}
+use Rattle.std.proofs.Common.{zero, suc, ◌≡◌, ℕ, ◌%◌, ◌<◌, ◌≤◌, Bool, true, false, cond, List, [], ◌∷◌, length, map, get_or, refl, sym, ap, subst, inl, inr, arith}
 use Rattle.std.specs.Prelude.{not, filter, All, AllPairs, sum_by}
 use Rattle.std.specs.Ordering.{is_eq}
 use Rattle.std.proofs.lemmas.List.Elements.{All-nil, All-cons, All-head, All-tail}
 use Rattle.std.proofs.lemmas.List.Sums.{sum_by-cons}
-use Rattle.std.specs.declared.cmp.Ordering.{Ordering}
-use Rattle.std.specs.declared.cmp.Ordering.TheVariants.{Less, Equal, Greater}
-use Rattle.std.specs.Ordering.{nat_cmp, ordering_then}
+use Rattle.std.specs.declared.cmp.Ordering.TheVariants.{Less}
 use Rattle.std.specs.Cmp.{IsTotalOrder}
 use Rattle.std.proofs.lemmas.Cmp.{nat_cmp_total, on_total, then_total, back_total}
-use Rattle.std.proofs.lemmas.List.{get_or-map, length-map}
+use Rattle.std.proofs.lemmas.List.{length-map}
 use Rattle.std.proofs.lemmas.Bool.Decides.{nat_tests}
 use Rattle.vnode_model.specs.declared.increments.Entry.TheVariants.{Whole}
 use Rattle.vnode_model.specs.declared.vnodes.Vnode.{Vnode}
-use Rattle.vnode_model.specs.Limits.{StandsBefore, IsFitVnode, IsFit, AreFit, AreVolume, number_of, data_len, most_vnodes, most_data, all_data}
+use Rattle.vnode_model.specs.Limits.{StandsBefore, IsFitVnode, IsFit, AreVolume, number_of, data_len, most_vnodes, most_data, all_data}
 use Rattle.vnode_model.specs.Increments.{data_of}
 use Rattle.cell_core.specs.Orders.{AreAscending}
 use Rattle.cell_core.specs.Vnodes.{number_order, number_of_vnode, with_vnode, without_vnode}

@@ -1,21 +1,17 @@
 -- A cell: a list of stored volumes.
-use Rattle.std.specs.Prelude.{◌≡◌, ℕ, ◌+◌, ◌-◌, ◌*◌, ◌/◌, ◌^◌, ◌<◌, ◌≤◌, max, nat_lt, nat_le, ◌==◌, Bool, true, false, if◌then◌else◌, Option, Some, None, List, length, map, fold, All, ⊤}
-use Rattle.std.specs.declared.cmp.Ordering.{Ordering}
-use Rattle.std.specs.Ordering.{nat_cmp}
-use Rattle.std.specs.Cmp.Lexicographic.{slice_cmp}
+use Rattle.std.specs.Prelude.{◌≡◌, ℕ, ◌≤◌, ◌==◌, if◌then◌else◌, Option, Some, None, List, length, All, ⊤}
 use Rattle.bk_text.specs.Bases.{base_of}
 use Rattle.vnode_model.specs.declared.volumes.VolumeFields.{VolumeFields}
 use Rattle.vnode_model.specs.Limits.{AreVolume}
 use Rattle.cell_core.specs.declared.stored.Stored.{Stored}
 use Rattle.cell_core.specs.declared.stored.Image.{Image}
 use Rattle.cell_core.specs.declared.stored.Image.TheVariants.{Good, Bad}
+use Rattle.cell_core.specs.declared.standing.Standing.{Standing}
+use Rattle.cell_core.specs.declared.standing.Standing.TheVariants as standing
 use Rattle.cell_core.specs.Orders.{AreAscending, of_key, placed, without_key}
+use Rattle.cell_core.specs.Listings.{name_order, most_volumes, free_id, new_id}
 
 -- ---- names
-
--- the byte order of names
-abbrev pub name_order : List ℕ → List ℕ → Ordering
-name_order = slice_cmp nat_cmp
 
 abbrev pub name_of : Stored → List ℕ
 name_of s = s.name
@@ -33,9 +29,6 @@ without_stored name cell = without_key name_order name_of name cell
 
 -- ---- the list
 
-abbrev pub most_volumes : ℕ
-most_volumes = 65536
-
 -- A good image is a volume, and its name is the volume's.
 abbrev pub IsImageOf : List ℕ → Image → Type 0
 IsImageOf name (Good volume) = (volume.header.name ≡ name) × AreVolume volume.vnodes
@@ -47,27 +40,22 @@ pub record IsCell (cell : List Stored) : Type 0 where
   pub ordered : AreAscending name_order name_of cell
   pub images : All (λ s. IsImageOf s.name s.image) cell
 
--- no volume is free
-abbrev pub is_full : List Stored → Bool
-is_full cell = nat_le most_volumes (length cell)
+-- ---- what the rules of lists ask
 
--- ---- ids
+abbrev pub standing_of_image : Image → Standing
+standing_of_image (Good volume) = standing.Volume volume.header.id volume.header.kind
+standing_of_image (Bad at) = standing.Bad at
 
--- Bad images have no id; 0 is below all that count.
-abbrev pub id_of_image : Image → ℕ
-id_of_image (Good volume) = volume.header.id
-id_of_image (Bad at) = 0
+abbrev pub standing_of : Stored → Standing
+standing_of s = standing_of_image s.image
 
-abbrev pub greatest_id : List Stored → ℕ
-greatest_id cell = fold max 0 (map (λ s. id_of_image s.image) cell)
+-- the id of the next new volume, where one is free
+abbrev pub free_id_in : List Stored → Option ℕ
+free_id_in cell = free_id standing_of cell
 
--- the least of 536,870,912, 536,870,915 and so on, three by three, that is greater than this one
-abbrev pub id_after : ℕ → ℕ
-id_after id = if nat_lt id 536870912 then 536870912 else (536870912 + 3 * ((id - 536870912) / 3 + 1))
-
--- the id of the next new volume; none is free where it isn't below 2^32
-abbrev pub free_id : List Stored → Option ℕ
-free_id cell = let id = id_after (greatest_id cell) in if nat_lt id (2 ^ 32) then Some id else None
+-- the same, where a volume is free too
+abbrev pub id_for_new : List Stored → Option ℕ
+id_for_new cell = new_id standing_of cell
 
 -- ---- born
 

@@ -2,11 +2,13 @@ pub mod Orders
 pub mod Places
 pub mod Vnodes
 pub mod Volumes
+pub mod Listings
 pub mod Cells
 pub mod Calls
 pub mod Answers
 pub mod Changing
 pub mod Backups
 pub mod Fairness
+pub mod Spoiling
 pub mod Mem
 pub mod Props

@@ -1,5 +1,5 @@
 -- Lists in the order of their keys, each key once.
-use Rattle.std.specs.Prelude.{◌≡◌, List, [], ◌∷◌, ◌++◌, not, filter, find, Option, AllPairs}
+use Rattle.std.specs.Prelude.{◌≡◌, List, ◌∷◌, ◌++◌, not, filter, find, Option, AllPairs}
 use Rattle.std.specs.declared.cmp.Ordering.{Ordering}
 use Rattle.std.specs.declared.cmp.Ordering.TheVariants.{Less}
 use Rattle.std.specs.Ordering.{is_lt, is_eq, is_gt}

@@ -1,5 +1,5 @@
 -- Where a key stands in an ordered list.
-use Rattle.std.specs.Prelude.{◌≡◌, suc, ℕ, ◌<◌, ◌≤◌, List, ◌++◌, length, take, drop, slice_index_or, Option, Some, None}
+use Rattle.std.specs.Prelude.{◌≡◌, suc, ℕ, ◌<◌, ◌≤◌, List, ◌++◌, length, take, drop, slice_index_or, Some, None}
 use Rattle.std.specs.declared.cmp.Ordering.{Ordering}
 use Rattle.std.specs.declared.cmp.Ordering.TheVariants.{Equal}
 use Rattle.cell_core.specs.Orders.{of_key, before_key, behind_key, without_key}

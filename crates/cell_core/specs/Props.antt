@@ -5,7 +5,7 @@ use Rattle.vnode_model.specs.declared.vnodes.VnodeKind.{VnodeKind}
 use Rattle.vnode_model.specs.declared.vnodes.VnodeKind.TheVariants.{File, Directory, Symlink}
 use Rattle.vnode_model.specs.declared.increments.Entry.{Entry}
 use Rattle.vnode_model.specs.declared.increments.Entry.TheVariants.{Whole, Kept}
-use Rattle.vnode_model.specs.Limits.{IsOdd, IsEven, StandsBefore, KindFits, AccessFits, IsFitVnode, IsFit}
+use Rattle.vnode_model.specs.Limits.{IsOdd, IsEven, StandsBefore, KindFits, AccessFits, IsFit}
 use Rattle.cell_core.specs.declared.stored.Stored.{Stored}
 use Rattle.cell_core.specs.declared.stored.Image.{Image}
 use Rattle.cell_core.specs.declared.stored.Image.TheVariants.{Good, Bad}

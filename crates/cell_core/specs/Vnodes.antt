@@ -1,5 +1,5 @@
 -- The vnodes of a volume, by number, and what a file server makes of one.
-use Rattle.std.specs.Prelude.{zero, ℕ, ◌+◌, ◌%◌, ◌/◌, ◌^◌, ◌==◌, if◌then◌else◌, List, [], length, replicate, sum_by, Option}
+use Rattle.std.specs.Prelude.{ℕ, ◌+◌, ◌%◌, ◌/◌, ◌^◌, ◌==◌, if◌then◌else◌, List, [], length, replicate, sum_by, Option}
 use Rattle.std.specs.declared.cmp.Ordering.{Ordering}
 use Rattle.std.specs.Ordering.{nat_cmp, ordering_then}
 use Rattle.vnode_model.specs.declared.vnodes.VnodeKind.{VnodeKind}

@@ -97,5 +97,5 @@ backup_copy id now volume = record {
 }
 
 -- the volume's own backup date
-abbrev pub stamped_volume : ℕ → VolumeFields → VolumeFields
-stamped_volume now volume = record { header = record volume.header { backed_up = now }; vnodes = volume.vnodes }
+abbrev pub with_backup_date : ℕ → VolumeFields → VolumeFields
+with_backup_date now volume = record { header = record volume.header { backed_up = now }; vnodes = volume.vnodes }

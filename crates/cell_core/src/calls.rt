@@ -3,15 +3,14 @@
 ghost use Rattle.std.specs.Prelude.{◌≡◌, ℕ, List};
 ghost use Rattle.cell_core.specs.declared.stored.Stored.{Stored};
 ghost use Rattle.cell_core.specs.Places.{FoundAt, FreeAt};
-ghost use Rattle.cell_core.specs.Cells.{IsCell, IsImageOf, name_order, name_of};
-ghost use Rattle.cell_core.specs.Calls.{put_in, created, changed_stored, changed};
-ghost use Rattle.cell_core.specs.Answers.{Settles, SettlesNew};
-ghost use Rattle.cell_core.specs.Changing.{outcome_of};
+ghost use Rattle.cell_core.specs.Listings.{name_order};
+ghost use Rattle.cell_core.specs.Cells.{IsCell, IsImageOf, name_of};
+ghost use Rattle.cell_core.specs.Calls.{after_put, after_create, stored_after, after_change};
+ghost use Rattle.cell_core.specs.Changing.{outcome_of, Settles, SettlesNew};
 
 use crate::changes::{Change, change_volume};
 use crate::fault::CellFault;
-use crate::ids::{free_id, is_full};
-use crate::places::place_of_name;
+use crate::listed::{new_id, place_of};
 use crate::stored::{Image, Stored};
 use crate::storing::{store_new, store_over, stored_volume};
 use crate::volumes::new_volume;
@@ -30,7 +29,7 @@ fn put_over(
 ) -> Result<(), CellFault>
     requires cell { IsCell cell.old.items }
     requires found { FoundAt name_order name_of volume.header.name cell.old.items at }
-    ensures answer { Settles (put_in cell.old.items server.now partition.now volume) cell.old.items result cell.new.items }
+    ensures answer { Settles (after_put cell.old.items server.now partition.now volume) cell.old.items result cell.new.items }
     ensures cell { IsCell cell.new.items }
 {
     match &cell[at].image {
@@ -53,10 +52,10 @@ fn put_new(
 ) -> Result<(), CellFault>
     requires cell { IsCell cell.old.items }
     requires free { FreeAt name_order name_of volume.header.name cell.old.items at }
-    ensures answer { Settles (put_in cell.old.items server.now partition.now volume) cell.old.items result cell.new.items }
+    ensures answer { Settles (after_put cell.old.items server.now partition.now volume) cell.old.items result cell.new.items }
     ensures cell { IsCell cell.new.items }
 {
-    if is_full(cell) || free_id(cell).is_none() {
+    if new_id(cell).is_none() {
         return Err(CellFault::TooLarge);
     }
     let stored = stored_volume(server, partition, volume)?;
@@ -72,10 +71,10 @@ pub(crate) fn put_in(
     volume: Volume,
 ) -> Result<(), CellFault>
     requires { IsCell cell.old.items }
-    ensures answer { Settles (put_in cell.old.items server.now partition.now volume) cell.old.items result cell.new.items }
+    ensures answer { Settles (after_put cell.old.items server.now partition.now volume) cell.old.items result cell.new.items }
     ensures cell { IsCell cell.new.items }
 {
-    match place_of_name(cell, volume.header().fields().name.bytes()) {
+    match place_of(cell, volume.header().fields().name.bytes()) {
         Ok(at) => put_over(cell, at, server, partition, volume),
         Err(at) => put_new(cell, at, server, partition, volume),
     }
@@ -92,13 +91,10 @@ fn create_new(
 ) -> Result<u32, CellFault>
     requires cell { IsCell cell.old.items }
     requires free { FreeAt name_order name_of name.now cell.old.items at }
-    ensures answer { SettlesNew (created cell.old.items server.now partition.now name.now now) cell.old.items result cell.new.items }
+    ensures answer { SettlesNew (after_create cell.old.items server.now partition.now name.now now) cell.old.items result cell.new.items }
     ensures cell { IsCell cell.new.items }
 {
-    if is_full(cell) {
-        return Err(CellFault::TooLarge);
-    }
-    match free_id(cell) {
+    match new_id(cell) {
         None => Err(CellFault::TooLarge),
         Some(id) => {
             let volume = new_volume(*cell.allocator(), id, name, now)?;
@@ -118,10 +114,10 @@ pub(crate) fn create_in(
     now: u32,
 ) -> Result<u32, CellFault>
     requires { IsCell cell.old.items }
-    ensures answer { SettlesNew (created cell.old.items server.now partition.now name.now now) cell.old.items result cell.new.items }
+    ensures answer { SettlesNew (after_create cell.old.items server.now partition.now name.now now) cell.old.items result cell.new.items }
     ensures cell { IsCell cell.new.items }
 {
-    match place_of_name(cell, name.bytes()) {
+    match place_of(cell, name.bytes()) {
         Ok(_) => Err(CellFault::VolumeExists),
         Err(at) => create_new(cell, at, server, partition, name, now),
     }
@@ -134,7 +130,7 @@ fn change_image(
     change: Change<'_>,
     now: u32,
 ) -> Result<(), CellFault>
-    ensures answer { (s : Stored) → s.image ≡ image.old → Settles (changed_stored s (outcome_of change.entry now)) s result (record s { image = image.new }) }
+    ensures answer { (s : Stored) → s.image ≡ image.old → Settles (stored_after s (outcome_of change.entry now)) s result (record s { image = image.new }) }
     ensures form { (name : List ℕ) → IsImageOf name image.old → IsImageOf name image.new }
 {
     match mem::replace(image, Image::Bad { at: 0 }) {
@@ -163,11 +159,11 @@ pub(crate) fn change_in(
     now: u32,
 ) -> Result<(), CellFault>
     requires { IsCell cell.old.items }
-    ensures answer { Settles (changed cell.old.items name.now (outcome_of change.entry now)) cell.old.items result cell.new.items }
+    ensures answer { Settles (after_change cell.old.items name.now (outcome_of change.entry now)) cell.old.items result cell.new.items }
     ensures cell { IsCell cell.new.items }
 {
     let alloc = *cell.allocator();
-    match place_of_name(cell, name) {
+    match place_of(cell, name) {
         Ok(at) => change_image(alloc, &mut cell[at].image, change, now),
         Err(_) => Err(CellFault::NoVolume),
     }

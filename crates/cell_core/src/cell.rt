@@ -3,9 +3,9 @@
 ghost use Rattle.std.specs.Prelude.{◌≡◌, ℕ, ◌<◌, ◌≤◌, List, length, Some, IfOk, OnOk, IsTrue, slice_get};
 ghost use Rattle.cell_core.specs.declared.stored.Stored.{Stored};
 ghost use Rattle.cell_core.specs.Cells.{IsCell};
-ghost use Rattle.cell_core.specs.Calls.{entry_at, taken, is_good, created, put_in, written, vnode_removed, backed_up, removed};
-ghost use Rattle.cell_core.specs.Answers.{Changes, Creates, OnlyFromOutside, HasCellCause};
-ghost use Rattle.cell_core.specs.Fairness.{Dumped, Fair, AreMadeBy};
+ghost use Rattle.cell_core.specs.Calls.{entry_at, clone_at, is_good, after_create, after_put, after_write, after_remove_vnode, after_backup, after_remove};
+ghost use Rattle.crash_moments.specs.Moments.{HasCauseAt};
+ghost use Rattle.cell_core.specs.Answers.{Changes, Creates, OnlyFromOutside};
 
 use crate::fault::CellFault;
 use crate::stored::Taken;
@@ -41,25 +41,23 @@ pub trait Cell {
         ensures errors { OnlyFromOutside result }
         ensures list { tells → list self.new ≡ list self.old }
         ensures size { size self.new ≡ size self.old }
-        ensures cause { HasCellCause (faults self.old) (faults self.new) result };
+        ensures cause { HasCauseAt CellFault.Failed (faults self.old) (faults self.new) result };
 
     /// Clones a volume; its entry isn't bad. The list stays.
     fn take(&mut self, i: u32, now: u32) -> Result<Taken, CellFault>
         requires within { i < size self.old }
         requires good { tells → IsTrue (is_good (slice_get (list self.old) i)) }
-        ensures taken { tells → IfOk result (λ clone. taken (list self.old) i now ≡ Some clone) }
+        ensures clone { tells → IfOk result (λ clone. clone_at (list self.old) i now ≡ Some clone) }
         ensures errors { OnlyFromOutside result }
         ensures list { tells → list self.new ≡ list self.old }
         ensures size { size self.new ≡ size self.old }
-        ensures cause { HasCellCause (faults self.old) (faults self.new) result };
+        ensures cause { HasCauseAt CellFault.Failed (faults self.old) (faults self.new) result };
 
     /// Stores a volume under its name, in place of one that is there. `TooLarge` where the name is new and no volume or no
-    /// id is free, `BadImage` where what is there is no volume. A read/write volume that is made now keeps the cell fair.
+    /// id is free, `BadImage` where what is there is no volume.
     fn put(&mut self, server: &Host, partition: &Part, volume: Volume) -> Result<(), CellFault>
-        ensures answer { tells → Changes (put_in (list self.old) server.now partition.now volume) (list self.old) result (list self.new) }
-        ensures fair { tells → (dumped : List Dumped) (time : ℕ) → Fair (list self.old) dumped time → time ≤ volume.header.created → volume.header.kind ≡ 0 → AreMadeBy volume.header.created (list self.old) → Fair (list self.new) dumped volume.header.created }
-        ensures made { tells → (time : ℕ) → AreMadeBy time (list self.old) → volume.header.created ≤ time → AreMadeBy time (list self.new) }
-        ensures cause { HasCellCause (faults self.old) (faults self.new) result };
+        ensures answer { tells → Changes (after_put (list self.old) server.now partition.now volume) (list self.old) result (list self.new) }
+        ensures cause { HasCauseAt CellFault.Failed (faults self.old) (faults self.new) result };
 
     /// Makes a read/write volume with one empty directory, and says its id. `VolumeExists` where the name is there, and
     /// `TooLarge` where no volume or no id is free.
@@ -70,43 +68,33 @@ pub trait Cell {
         name: &Name,
         now: u32,
     ) -> Result<u32, CellFault>
-        ensures answer { tells → Creates (created (list self.old) server.now partition.now name.now now) (list self.old) result (list self.new) }
-        ensures fair { tells → (dumped : List Dumped) (time : ℕ) → Fair (list self.old) dumped time → time ≤ now → AreMadeBy now (list self.old) → Fair (list self.new) dumped now }
-        ensures made { tells → (time : ℕ) → AreMadeBy time (list self.old) → now ≤ time → AreMadeBy time (list self.new) }
-        ensures cause { HasCellCause (faults self.old) (faults self.new) result };
+        ensures answer { tells → Creates (after_create (list self.old) server.now partition.now name.now now) (list self.old) result (list self.new) }
+        ensures cause { HasCauseAt CellFault.Failed (faults self.old) (faults self.new) result };
 
     /// Replaces the data of a vnode, which is made where it isn't there: an odd number as a directory, an even one as a file.
     /// `NoVolume` where the name is neither a read/write volume's nor a bad image's, `BadImage` where it is a bad image's,
     /// and `TooLarge` where a limit of volumes would be passed, the number is 0, or a new vnode finds the uniquifiers spent.
     fn write(&mut self, name: &Name, number: u32, body: &[u8], now: u32) -> Result<(), CellFault>
-        ensures answer { tells → Changes (written (list self.old) name.now number body.now now) (list self.old) result (list self.new) }
-        ensures fair { tells → (dumped : List Dumped) (time : ℕ) → Fair (list self.old) dumped time → time ≤ now → Fair (list self.new) dumped now }
-        ensures made { tells → (time : ℕ) → AreMadeBy time (list self.old) → AreMadeBy time (list self.new) }
-        ensures cause { HasCellCause (faults self.old) (faults self.new) result };
+        ensures answer { tells → Changes (after_write (list self.old) name.now number body.now now) (list self.old) result (list self.new) }
+        ensures cause { HasCauseAt CellFault.Failed (faults self.old) (faults self.new) result };
 
     /// Takes a vnode away. `NoVolume` and `BadImage` as in `write`; `NoVnode` where the number isn't there.
     fn remove_vnode(&mut self, name: &Name, number: u32, now: u32) -> Result<(), CellFault>
-        ensures answer { tells → Changes (vnode_removed (list self.old) name.now number now) (list self.old) result (list self.new) }
-        ensures fair { tells → (dumped : List Dumped) (time : ℕ) → Fair (list self.old) dumped time → time ≤ now → Fair (list self.new) dumped now }
-        ensures made { tells → (time : ℕ) → AreMadeBy time (list self.old) → AreMadeBy time (list self.new) }
-        ensures cause { HasCellCause (faults self.old) (faults self.new) result };
+        ensures answer { tells → Changes (after_remove_vnode (list self.old) name.now number now) (list self.old) result (list self.new) }
+        ensures cause { HasCauseAt CellFault.Failed (faults self.old) (faults self.new) result };
 
     /// Makes the backup volume of a read/write volume, or replaces what has its name. `NoVolume` and `BadImage` as in `write`.
     /// `TooLarge` where that name is over 31 bytes, where it is new and no volume is free, and where it is new or a bad
     /// image's and no id is free.
     fn backup(&mut self, name: &Name, now: u32) -> Result<(), CellFault>
-        ensures answer { tells → Changes (backed_up (list self.old) name.now now) (list self.old) result (list self.new) }
-        ensures fair { tells → (dumped : List Dumped) (time : ℕ) → Fair (list self.old) dumped time → time ≤ now → Fair (list self.new) dumped now }
-        ensures made { tells → (time : ℕ) → AreMadeBy time (list self.old) → now ≤ time → AreMadeBy time (list self.new) }
-        ensures cause { HasCellCause (faults self.old) (faults self.new) result };
+        ensures answer { tells → Changes (after_backup (list self.old) name.now now) (list self.old) result (list self.new) }
+        ensures cause { HasCauseAt CellFault.Failed (faults self.old) (faults self.new) result };
 
     /// Removes a volume or a bad image, and with a read/write volume its backup volume. `NoVolume` where the name isn't
     /// there.
     fn remove(&mut self, name: &Name) -> Result<(), CellFault>
-        ensures answer { tells → Changes (removed (list self.old) name.now) (list self.old) result (list self.new) }
-        ensures fair { tells → (dumped : List Dumped) (time now : ℕ) → Fair (list self.old) dumped time → time ≤ now → now ≤ 4294967295 → Fair (list self.new) dumped now }
-        ensures made { tells → (time : ℕ) → AreMadeBy time (list self.old) → AreMadeBy time (list self.new) }
-        ensures cause { HasCellCause (faults self.old) (faults self.new) result };
+        ensures answer { tells → Changes (after_remove (list self.old) name.now) (list self.old) result (list self.new) }
+        ensures cause { HasCauseAt CellFault.Failed (faults self.old) (faults self.new) result };
 
     /// The list is a cell's.
     ghost is_cell: { (s : Self) → tells → IsCell (list s) };

@@ -6,8 +6,7 @@ ghost use Rattle.vnode_model.specs.Limits.{AreVolume};
 ghost use Rattle.cell_core.specs.Places.{FoundAt, FreeAt};
 ghost use Rattle.cell_core.specs.Vnodes.{number_order, number_of_vnode, vnode_of};
 ghost use Rattle.cell_core.specs.Volumes.{updated_header, written_over, written_volume, volume_without};
-ghost use Rattle.cell_core.specs.Answers.{Settles};
-ghost use Rattle.cell_core.specs.Changing.{volume_from, outcome_of};
+ghost use Rattle.cell_core.specs.Changing.{volume_from, outcome_of, Settles};
 
 use crate::fault::CellFault;
 use crate::lists::insert_at;
@@ -26,7 +25,7 @@ const MOST_VNODES: usize = 65_536;
 
 /// A change of a volume's vnodes.
 #[derive(Clone, Copy, Debug)]
-pub(crate) enum Change<'a> {
+pub enum Change<'a> {
     /// The data of a vnode is replaced; one that isn't there is made.
     Write { number: u32, body: &'a [u8] },
     /// A vnode is taken away.
@@ -172,7 +171,7 @@ fn change_parts(
 }
 
 /// Changes a volume, which stays where that is refused.
-pub(crate) fn change_volume(
+pub fn change_volume(
     alloc: Global,
     volume: Volume,
     change: Change<'_>,

@@ -2,26 +2,40 @@
 //! memory stands beside the trait.
 #![tactic(auto)]
 
+mod answering;
 mod backups;
 mod calls;
 mod cell;
 mod changes;
 mod fault;
-mod ids;
-mod keeping;
+mod laws;
+mod listed;
 mod lists;
 mod looking;
 mod mem;
 mod places;
+mod spoiling;
+mod standing;
 mod stored;
 mod storing;
 mod vnodes;
 mod volumes;
 
 pub use cell::Cell;
+pub use changes::{Change, change_volume};
 pub use fault::CellFault;
+pub use laws::{
+    a_backup_volume_keeps_a_cell_fair, a_call_leaves_its_list, a_clone_is_fair_to_its_dumps,
+    a_dump_keeps_a_cell_fair, a_new_id_is_the_least_above_all, a_new_volume_keeps_a_cell_fair,
+    a_put_volume_keeps_a_cell_fair, a_removed_vnode_keeps_a_cell_fair,
+    a_removed_volume_keeps_a_cell_fair, fewer_dumps_keep_a_cell_fair, time_keeps_a_cell_fair,
+    written_data_keeps_a_cell_fair,
+};
+pub use listed::{Listed, backup_id, free_id, is_full, new_id, place_of};
 pub use mem::CellMem;
+pub use standing::Standing;
 pub use stored::{Image, Stored, Taken};
+pub use volumes::{backup_copy, backup_name, new_volume, with_backup_date};
 
 #[cfg(test)]
 mod tests;

@@ -2,9 +2,9 @@
 
 ghost use Rattle.std.specs.Prelude.{◌≡◌, ◌<◌, Some, IfOk, IsTrue, length, slice_get};
 ghost use Rattle.cell_core.specs.Cells.{IsCell, birth_of_image, birth_of, stored_as, born};
-ghost use Rattle.cell_core.specs.Calls.{state_of, entry_of_stored, entry_at, clone_time, is_good, taken};
+ghost use Rattle.cell_core.specs.Calls.{state_of, entry_of_stored, entry_at, clone_time, is_good, clone_at};
 
-use crate::places::place_of_name;
+use crate::listed::place_of;
 use crate::stored::{Image, Stored, Taken};
 use std::alloc::AllocError;
 use vnode_model::{EntryState, VolEntry, Volume};
@@ -64,7 +64,7 @@ fn birth_of(cell: &[Stored], name: &[u8]) -> u32
     requires { IsCell cell.now }
     ensures { result ≡ birth_of (stored_as name.now cell.now) }
 {
-    match place_of_name(cell, name) {
+    match place_of(cell, name) {
         Ok(at) => birth_of_image(&cell[at].image),
         Err(_) => u32::MAX,
     }
@@ -98,7 +98,7 @@ pub(crate) fn take_at(cell: &[Stored], i: usize, now: u32) -> Result<Taken, Allo
     requires cell { IsCell cell.now }
     requires within { i < length cell.now }
     requires good { IsTrue (is_good (slice_get cell.now i)) }
-    ensures { IfOk result (λ clone. taken cell.now i now ≡ Some clone) }
+    ensures { IfOk result (λ clone. clone_at cell.now i now ≡ Some clone) }
 {
     match &cell[i].image {
         Image::Good(volume) => Ok(Taken {

@@ -1,20 +1,21 @@
 //! A cell in memory.
 
 ghost use Rattle.std.specs.Prelude.{refl, ◌≡◌, ◌≢◌, ◌↔◌, ◌<◌, ◌≤◌, [], ℕ, List, length, false, Some, Err, IfOk, OnOk, OnErr, IsTrue, slice_get};
-ghost use Rattle.crash_moments.specs.Moments.{Rose};
+ghost use Rattle.crash_moments.specs.Moments.{HasCauseAt, Rose};
 ghost use Rattle.media_core.specs.Plan.{counted, is_planned, more_where, GainsCall, SamePlan, IsUnplanned};
 ghost use Rattle.cell_core.specs.declared.stored.Stored.{Stored};
 ghost use Rattle.cell_core.specs.Cells.{IsCell};
 ghost use Rattle.cell_core.specs.Props.{cell_prop};
-ghost use Rattle.cell_core.specs.Calls.{entry_at, taken, is_good, created, put_in, written, vnode_removed, backed_up, removed};
-ghost use Rattle.cell_core.specs.Answers.{Changes, Creates, OnlyFromOutside, HasCellCause};
-ghost use Rattle.cell_core.specs.Fairness.{Dumped, Fair, AreMadeBy};
+ghost use Rattle.cell_core.specs.Spoiling.{spoilt};
+ghost use Rattle.cell_core.specs.Calls.{entry_at, clone_at, is_good, after_create, after_put, after_write, after_remove_vnode, after_backup, after_remove};
+ghost use Rattle.cell_core.specs.Answers.{Changes, Creates, OnlyFromOutside};
 
+use crate::answering::{backup, change, create, put, remove};
 use crate::cell::Cell;
 use crate::changes::Change;
 use crate::fault::CellFault;
-use crate::keeping::{backup, change, create, put, remove};
 use crate::looking::{entry_at, take_at};
+use crate::spoiling::spoil_in;
 use crate::stored::{Stored, Taken};
 use bk_text::{Host, Name, Part};
 use crash_moments::raised;
@@ -22,7 +23,7 @@ use media_core::{Memory, Plan, Turn};
 use std::alloc::Global;
 use vnode_model::{VolEntry, Volume};
 
-/// A cell in memory. It has no bad images. A call fails exactly where `fail_at` names it, and then changes nothing but the
+/// A cell in memory. It has no bad images but those that `spoil` made. A call fails exactly where `fail_at` names it, and then changes nothing but the
 /// count of faults, which rises there alone; calls are numbered from 0, and `count`, which can't fail, isn't numbered.
 #[derive(Drop)]
 pub struct CellMem {
@@ -76,7 +77,7 @@ impl Cell for CellMem {
         ensures errors { OnlyFromOutside result }
         ensures list { cell_list self.new ≡ cell_list self.old }
         ensures size { cell_size self.new ≡ cell_size self.old }
-        ensures cause { HasCellCause (cell_faults self.old) (cell_faults self.new) result }
+        ensures cause { HasCauseAt CellFault.Failed (cell_faults self.old) (cell_faults self.new) result }
         ensures plan { cell_plan self.new ≡ counted (cell_plan self.old) }
         ensures faults { cell_faults self.new ≡ more_where (is_planned (cell_plan self.old)) (cell_faults self.old) }
         ensures named { (result ≡ Err CellFault.Failed) ↔ IsTrue (is_planned (cell_plan self.old)) }
@@ -90,11 +91,11 @@ impl Cell for CellMem {
     fn take(&mut self, i: u32, now: u32) -> Result<Taken, CellFault>
         requires within { i < cell_size self.old }
         requires good { IsTrue (is_good (slice_get (cell_list self.old) i)) }
-        ensures taken { IfOk result (λ clone. taken (cell_list self.old) i now ≡ Some clone) }
+        ensures clone { IfOk result (λ clone. clone_at (cell_list self.old) i now ≡ Some clone) }
         ensures errors { OnlyFromOutside result }
         ensures list { cell_list self.new ≡ cell_list self.old }
         ensures size { cell_size self.new ≡ cell_size self.old }
-        ensures cause { HasCellCause (cell_faults self.old) (cell_faults self.new) result }
+        ensures cause { HasCauseAt CellFault.Failed (cell_faults self.old) (cell_faults self.new) result }
         ensures plan { cell_plan self.new ≡ counted (cell_plan self.old) }
         ensures faults { cell_faults self.new ≡ more_where (is_planned (cell_plan self.old)) (cell_faults self.old) }
         ensures named { (result ≡ Err CellFault.Failed) ↔ IsTrue (is_planned (cell_plan self.old)) }
@@ -106,10 +107,8 @@ impl Cell for CellMem {
     }
 
     fn put(&mut self, server: &Host, partition: &Part, volume: Volume) -> Result<(), CellFault>
-        ensures answer { Changes (put_in (cell_list self.old) server.now partition.now volume) (cell_list self.old) result (cell_list self.new) }
-        ensures fair { (dumped : List Dumped) (time : ℕ) → Fair (cell_list self.old) dumped time → time ≤ volume.header.created → volume.header.kind ≡ 0 → AreMadeBy volume.header.created (cell_list self.old) → Fair (cell_list self.new) dumped volume.header.created }
-        ensures made { (time : ℕ) → AreMadeBy time (cell_list self.old) → volume.header.created ≤ time → AreMadeBy time (cell_list self.new) }
-        ensures cause { HasCellCause (cell_faults self.old) (cell_faults self.new) result }
+        ensures answer { Changes (after_put (cell_list self.old) server.now partition.now volume) (cell_list self.old) result (cell_list self.new) }
+        ensures cause { HasCauseAt CellFault.Failed (cell_faults self.old) (cell_faults self.new) result }
         ensures plan { cell_plan self.new ≡ counted (cell_plan self.old) }
         ensures faults { cell_faults self.new ≡ more_where (is_planned (cell_plan self.old)) (cell_faults self.old) }
         ensures named { (result ≡ Err CellFault.Failed) ↔ IsTrue (is_planned (cell_plan self.old)) }
@@ -127,10 +126,8 @@ impl Cell for CellMem {
         name: &Name,
         now: u32,
     ) -> Result<u32, CellFault>
-        ensures answer { Creates (created (cell_list self.old) server.now partition.now name.now now) (cell_list self.old) result (cell_list self.new) }
-        ensures fair { (dumped : List Dumped) (time : ℕ) → Fair (cell_list self.old) dumped time → time ≤ now → AreMadeBy now (cell_list self.old) → Fair (cell_list self.new) dumped now }
-        ensures made { (time : ℕ) → AreMadeBy time (cell_list self.old) → now ≤ time → AreMadeBy time (cell_list self.new) }
-        ensures cause { HasCellCause (cell_faults self.old) (cell_faults self.new) result }
+        ensures answer { Creates (after_create (cell_list self.old) server.now partition.now name.now now) (cell_list self.old) result (cell_list self.new) }
+        ensures cause { HasCauseAt CellFault.Failed (cell_faults self.old) (cell_faults self.new) result }
         ensures plan { cell_plan self.new ≡ counted (cell_plan self.old) }
         ensures faults { cell_faults self.new ≡ more_where (is_planned (cell_plan self.old)) (cell_faults self.old) }
         ensures named { (result ≡ Err CellFault.Failed) ↔ IsTrue (is_planned (cell_plan self.old)) }
@@ -142,10 +139,8 @@ impl Cell for CellMem {
     }
 
     fn write(&mut self, name: &Name, number: u32, body: &[u8], now: u32) -> Result<(), CellFault>
-        ensures answer { Changes (written (cell_list self.old) name.now number body.now now) (cell_list self.old) result (cell_list self.new) }
-        ensures fair { (dumped : List Dumped) (time : ℕ) → Fair (cell_list self.old) dumped time → time ≤ now → Fair (cell_list self.new) dumped now }
-        ensures made { (time : ℕ) → AreMadeBy time (cell_list self.old) → AreMadeBy time (cell_list self.new) }
-        ensures cause { HasCellCause (cell_faults self.old) (cell_faults self.new) result }
+        ensures answer { Changes (after_write (cell_list self.old) name.now number body.now now) (cell_list self.old) result (cell_list self.new) }
+        ensures cause { HasCauseAt CellFault.Failed (cell_faults self.old) (cell_faults self.new) result }
         ensures plan { cell_plan self.new ≡ counted (cell_plan self.old) }
         ensures faults { cell_faults self.new ≡ more_where (is_planned (cell_plan self.old)) (cell_faults self.old) }
         ensures named { (result ≡ Err CellFault.Failed) ↔ IsTrue (is_planned (cell_plan self.old)) }
@@ -153,15 +148,17 @@ impl Cell for CellMem {
         if fails(&mut self.plan, &mut self.faults) {
             return Err(CellFault::Failed);
         }
-        let written = Change::Write { number, body };
-        change(&mut self.volumes, name.bytes(), written, now)
+        change(
+            &mut self.volumes,
+            name.bytes(),
+            Change::Write { number, body },
+            now,
+        )
     }
 
     fn remove_vnode(&mut self, name: &Name, number: u32, now: u32) -> Result<(), CellFault>
-        ensures answer { Changes (vnode_removed (cell_list self.old) name.now number now) (cell_list self.old) result (cell_list self.new) }
-        ensures fair { (dumped : List Dumped) (time : ℕ) → Fair (cell_list self.old) dumped time → time ≤ now → Fair (cell_list self.new) dumped now }
-        ensures made { (time : ℕ) → AreMadeBy time (cell_list self.old) → AreMadeBy time (cell_list self.new) }
-        ensures cause { HasCellCause (cell_faults self.old) (cell_faults self.new) result }
+        ensures answer { Changes (after_remove_vnode (cell_list self.old) name.now number now) (cell_list self.old) result (cell_list self.new) }
+        ensures cause { HasCauseAt CellFault.Failed (cell_faults self.old) (cell_faults self.new) result }
         ensures plan { cell_plan self.new ≡ counted (cell_plan self.old) }
         ensures faults { cell_faults self.new ≡ more_where (is_planned (cell_plan self.old)) (cell_faults self.old) }
         ensures named { (result ≡ Err CellFault.Failed) ↔ IsTrue (is_planned (cell_plan self.old)) }
@@ -169,15 +166,17 @@ impl Cell for CellMem {
         if fails(&mut self.plan, &mut self.faults) {
             return Err(CellFault::Failed);
         }
-        let taken = Change::Remove { number };
-        change(&mut self.volumes, name.bytes(), taken, now)
+        change(
+            &mut self.volumes,
+            name.bytes(),
+            Change::Remove { number },
+            now,
+        )
     }
 
     fn backup(&mut self, name: &Name, now: u32) -> Result<(), CellFault>
-        ensures answer { Changes (backed_up (cell_list self.old) name.now now) (cell_list self.old) result (cell_list self.new) }
-        ensures fair { (dumped : List Dumped) (time : ℕ) → Fair (cell_list self.old) dumped time → time ≤ now → Fair (cell_list self.new) dumped now }
-        ensures made { (time : ℕ) → AreMadeBy time (cell_list self.old) → now ≤ time → AreMadeBy time (cell_list self.new) }
-        ensures cause { HasCellCause (cell_faults self.old) (cell_faults self.new) result }
+        ensures answer { Changes (after_backup (cell_list self.old) name.now now) (cell_list self.old) result (cell_list self.new) }
+        ensures cause { HasCauseAt CellFault.Failed (cell_faults self.old) (cell_faults self.new) result }
         ensures plan { cell_plan self.new ≡ counted (cell_plan self.old) }
         ensures faults { cell_faults self.new ≡ more_where (is_planned (cell_plan self.old)) (cell_faults self.old) }
         ensures named { (result ≡ Err CellFault.Failed) ↔ IsTrue (is_planned (cell_plan self.old)) }
@@ -189,10 +188,8 @@ impl Cell for CellMem {
     }
 
     fn remove(&mut self, name: &Name) -> Result<(), CellFault>
-        ensures answer { Changes (removed (cell_list self.old) name.now) (cell_list self.old) result (cell_list self.new) }
-        ensures fair { (dumped : List Dumped) (time now : ℕ) → Fair (cell_list self.old) dumped time → time ≤ now → now ≤ 4294967295 → Fair (cell_list self.new) dumped now }
-        ensures made { (time : ℕ) → AreMadeBy time (cell_list self.old) → AreMadeBy time (cell_list self.new) }
-        ensures cause { HasCellCause (cell_faults self.old) (cell_faults self.new) result }
+        ensures answer { Changes (after_remove (cell_list self.old) name.now) (cell_list self.old) result (cell_list self.new) }
+        ensures cause { HasCauseAt CellFault.Failed (cell_faults self.old) (cell_faults self.new) result }
         ensures plan { cell_plan self.new ≡ counted (cell_plan self.old) }
         ensures faults { cell_faults self.new ≡ more_where (is_planned (cell_plan self.old)) (cell_faults self.old) }
         ensures named { (result ≡ Err CellFault.Failed) ↔ IsTrue (is_planned (cell_plan self.old)) }
@@ -228,9 +225,16 @@ impl CellMem {
         ensures list { cell_list self.new ≡ cell_list self.old }
         ensures faults { cell_faults self.new ≡ cell_faults self.old }
     {
-        match self.plan.fail_at(call) {
-            Ok(()) => Ok(()),
-            Err(error) => Err(error),
-        }
+        self.plan.fail_at(call)
+    }
+
+    /// Puts a bad image in place of what stands under a name, for tests of what a bad image answers. It is no call of the
+    /// cell, and isn't numbered. Where nothing stands under the name all stays.
+    pub fn spoil(&mut self, name: &Name, at: u64)
+        ensures list { cell_list self.new ≡ spoilt name.now at (cell_list self.old) }
+        ensures plan { cell_plan self.new ≡ cell_plan self.old }
+        ensures faults { cell_faults self.new ≡ cell_faults self.old }
+    {
+        spoil_in(&mut self.volumes, name.bytes(), at);
     }
 }

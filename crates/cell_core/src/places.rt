@@ -1,22 +1,12 @@
-//! Where a name stands in a cell, and a number in a volume.
+//! Where a number stands in a volume.
 
 ghost use Rattle.std.specs.Prelude.{◌≡◌, MatchResult};
 ghost use Rattle.vnode_model.specs.Limits.{AreVolume};
 ghost use Rattle.cell_core.specs.Places.{FoundAt, FreeAt};
 ghost use Rattle.cell_core.specs.Vnodes.{number_order, number_of_vnode};
-ghost use Rattle.cell_core.specs.Cells.{name_order, name_of, IsCell};
 
-use crate::stored::Stored;
 use std::cmp::Ordering;
 use vnode_model::Vnode;
-
-/// Where a name stands, or where it would stand.
-pub(crate) fn place_of_name(cell: &[Stored], name: &[u8]) -> Result<usize, usize>
-    requires { IsCell cell.now }
-    ensures { MatchResult result (FoundAt name_order name_of name.now cell.now) (FreeAt name_order name_of name.now cell.now) }
-{
-    cell.binary_search_by(|stored| stored.name.bytes().cmp(name))
-}
 
 /// How two numbers of vnodes are ordered: directories, which have odd numbers, come first, each class in ascending
 /// order.

@@ -1,5 +1,9 @@
 //! What stands in a cell.
 
+ghost use Rattle.std.specs.Prelude.{◌≡◌};
+
+use crate::listed::Listed;
+use crate::standing::Standing;
 use bk_text::{Host, Name, Part};
 use vnode_model::Volume;
 
@@ -31,4 +35,30 @@ pub struct Taken {
     /// 4,294,967,295 where there is none.
     pub born: u32,
     pub volume: Volume,
+}
+
+impl Listed for Stored {
+    ghost use Rattle.cell_core.specs.Cells.{name_of, standing_of};
+
+    ghost name_of = { name_of };
+
+    ghost standing_of = { standing_of };
+
+    fn name(&self) -> &[u8]
+        ensures { result.now ≡ name_of self.now }
+    {
+        self.name.bytes()
+    }
+
+    fn standing(&self) -> Standing
+        ensures { result ≡ standing_of self.now }
+    {
+        match &self.image {
+            Image::Good(volume) => Standing::Volume {
+                id: volume.header().fields().id,
+                kind: volume.header().fields().kind,
+            },
+            Image::Bad { at } => Standing::Bad { at: *at },
+        }
+    }
 }

@@ -3,25 +3,16 @@
 ghost use Rattle.std.specs.Prelude.{◌≡◌, ◌<◌, None, IfOk, OnOk, OnErr, length, vec_len, slice_set};
 ghost use Rattle.std.specs.List.{remove};
 ghost use Rattle.cell_core.specs.Places.{FoundAt, FreeAt};
-ghost use Rattle.cell_core.specs.Cells.{IsCell, IsImageOf, name_order, name_of, stored_as, with_stored, without_stored, most_volumes};
-ghost use Rattle.cell_core.specs.Calls.{stored_volume, is_kind_image, without_backup};
+ghost use Rattle.cell_core.specs.Listings.{name_order, most_volumes};
+ghost use Rattle.cell_core.specs.Cells.{IsCell, IsImageOf, name_of, stored_as, with_stored, without_stored};
+ghost use Rattle.cell_core.specs.Calls.{stored_volume, without_backup};
 
+use crate::listed::{Listed, place_of};
 use crate::lists::insert_at;
-use crate::places::place_of_name;
 use crate::stored::{Image, Stored};
 use bk_text::{Host, Part};
 use std::alloc::AllocError;
 use vnode_model::Volume;
-
-/// Whether an image is a volume of this type.
-pub(crate) fn is_of_kind(image: &Image, kind: u8) -> bool
-    ensures { result ≡ is_kind_image kind image.now }
-{
-    match image {
-        Image::Good(volume) => volume.header().fields().kind == kind,
-        Image::Bad { .. } => false,
-    }
-}
 
 /// A volume as it is stored.
 pub(crate) fn stored_volume(
@@ -82,7 +73,7 @@ pub(crate) fn store(cell: &mut Vec<Stored>, stored: Stored) -> Result<(), AllocE
     ensures err { OnErr result (cell.new.items ≡ cell.old.items) }
     ensures cell { IsCell cell.new.items }
 {
-    match place_of_name(cell, stored.name.bytes()) {
+    match place_of(cell, stored.name.bytes()) {
         Ok(at) => {
             store_over(cell, at, stored);
             Ok(())
@@ -105,7 +96,7 @@ pub(crate) fn remove_named(cell: &mut Vec<Stored>, name: &[u8])
     ensures removed { cell.new.items ≡ without_stored name.now cell.old.items }
     ensures cell { IsCell cell.new.items }
 {
-    match place_of_name(cell, name) {
+    match place_of(cell, name) {
         Ok(at) => take_out(cell, at),
         Err(_) => {}
     }
@@ -117,9 +108,9 @@ pub(crate) fn remove_backup(cell: &mut Vec<Stored>, name: &[u8])
     ensures removed { cell.new.items ≡ without_backup name.now cell.old.items }
     ensures cell { IsCell cell.new.items }
 {
-    match place_of_name(cell, name) {
+    match place_of(cell, name) {
         Ok(at) => {
-            if is_of_kind(&cell[at].image, 2) {
+            if cell[at].standing().has_kind(2) {
                 remove_named(cell, name);
             }
         }

@@ -1,18 +1,29 @@
 //! Scripts of calls on a cell in memory, with the list after them, each refusal, and calls that fail.
 
-use crate::{Cell, CellFault, CellMem, Taken};
+use crate::{Cell, CellFault, CellMem, Taken, new_volume};
 use bk_text::{Bytes, Host, Name, Part};
 use std::alloc::{AllocError, Global};
-use vnode_model::{EntryState, Volume};
+use vnode_model::{EntryState, VolHeader, Volume, VolumeFields};
 
 /// A call, with its time.
 #[derive(Clone, Copy)]
 enum Step {
     Create(u32),
+    /// A new volume of this id, made of this type, is put to another server.
+    Put(u32, Kind),
     Write(u32, &'static [u8], u32),
     RemoveVnode(u32, u32),
     Backup(u32),
     Remove,
+    /// What stands there is bad from now on.
+    Spoil(u64),
+}
+
+/// The type of a volume.
+#[derive(Clone, Copy, PartialEq, Eq)]
+enum Kind {
+    ReadWrite,
+    ReadOnly,
 }
 
 /// A name, or want of memory where it is none.
@@ -23,20 +34,44 @@ fn named(alloc: Global, text: &[u8]) -> Result<Name, CellFault> {
     }
 }
 
-/// Makes a volume on the one server and partition of these tests.
-fn create_in<C: Cell>(
-    alloc: Global,
-    cell: &mut C,
-    name: &Name,
-    now: u32,
-) -> Result<u32, CellFault> {
-    let Ok(server) = Host::parse(alloc, b"fs1") else {
+/// The server and the partition of these tests, or others.
+fn place(alloc: Global, other: bool) -> Result<(Host, Part), CellFault> {
+    let (server, partition) = if other {
+        (b"fs2", b"vicepb")
+    } else {
+        (b"fs1", b"vicepa")
+    };
+    let Ok(server) = Host::parse(alloc, server) else {
         return Err(CellFault::Memory);
     };
-    let Ok(partition) = Part::parse(alloc, b"vicepa") else {
+    let Ok(partition) = Part::parse(alloc, partition) else {
         return Err(CellFault::Memory);
     };
+    Ok((server, partition))
+}
+
+/// A volume that is made at 5000.
+fn made(alloc: Global, id: u32, name: &Name, kind: Kind) -> Result<Volume, AllocError> {
+    let VolumeFields { header, vnodes } = new_volume(alloc, id, name, 5000)?.into_fields();
+    let mut header = header.into_fields();
+    header.kind = if kind == Kind::ReadOnly { 1 } else { 0 };
+    Ok(Volume::from_fields(VolumeFields {
+        header: VolHeader::new(header),
+        vnodes,
+    }))
+}
+
+/// Makes a volume, at the server and partition of these tests.
+fn create<C: Cell>(alloc: Global, cell: &mut C, name: &Name, now: u32) -> Result<u32, CellFault> {
+    let (server, partition) = place(alloc, false)?;
     cell.create(&server, &partition, name, now)
+}
+
+/// Puts a volume that is made at 5000 to another server and partition; 0 stands for no id.
+fn put<C: Cell>(alloc: Global, cell: &mut C, volume: Volume) -> Result<u32, CellFault> {
+    let (server, partition) = place(alloc, true)?;
+    cell.put(&server, &partition, volume)?;
+    Ok(0)
 }
 
 /// What a call answers; 0 stands for an answer without an id.
@@ -48,35 +83,56 @@ fn answer_of<C: Cell>(
 ) -> Result<u32, CellFault> {
     let name = named(alloc, text)?;
     match step {
-        Step::Create(now) => return create_in(alloc, cell, &name, now),
+        Step::Create(now) => return create(alloc, cell, &name, now),
+        Step::Put(id, kind) => return put(alloc, cell, made(alloc, id, &name, kind)?),
         Step::Write(number, body, now) => cell.write(&name, number, body, now)?,
         Step::RemoveVnode(number, now) => cell.remove_vnode(&name, number, now)?,
         Step::Backup(now) => cell.backup(&name, now)?,
         Step::Remove => cell.remove(&name)?,
+        Step::Spoil(_) => {}
     }
     Ok(0)
+}
+
+/// Makes a call, or spoils what stands under a name.
+fn go_on(alloc: Global, cell: &mut CellMem, text: &[u8], step: Step) {
+    if let Step::Spoil(at) = step {
+        if let Ok(name) = named(alloc, text) {
+            cell.spoil(&name, at);
+        }
+    } else {
+        let _answer = answer_of(alloc, cell, text, step);
+    }
 }
 
 /// A cell after these calls.
 fn after(alloc: Global, script: &[(&'static [u8], Step)]) -> CellMem {
     let mut cell = CellMem::new(alloc);
     for (name, step) in script {
-        let _answer = answer_of(alloc, &mut cell, name, *step);
+        go_on(alloc, &mut cell, name, *step);
     }
     cell
 }
 
-/// The entries: name, id, type and latest change of each.
+/// Id, type and latest change of a volume, or the place of a bad image.
+fn state_text(alloc: Global, state: EntryState) -> Result<String, AllocError> {
+    match state {
+        EntryState::Good { id, kind, latest } => format!(in alloc; " {id} {kind} {latest};"),
+        EntryState::Bad { at } => format!(in alloc; " bad {at};"),
+    }
+}
+
+/// The entries: name and server, then id, type and latest change of each volume, or the place of a bad image.
 fn listed<C: Cell>(alloc: Global, cell: &mut C) -> Result<Bytes, CellFault> {
     let mut text = Bytes::new(alloc);
     for i in 0..cell.count() {
         if i < cell.count() {
             let entry = cell.entry(i)?;
             text.extend_from_slice(entry.name.bytes())?;
-            if let EntryState::Good { id, kind, latest } = entry.state {
-                let rest = format!(in alloc; " {id} {kind} {latest};")?;
-                text.extend_from_slice(rest.as_bytes())?;
-            }
+            text.extend_from_slice(b" ")?;
+            text.extend_from_slice(entry.server.bytes())?;
+            let rest = state_text(alloc, entry.state)?;
+            text.extend_from_slice(rest.as_bytes())?;
         }
     }
     Ok(text)
@@ -178,7 +234,7 @@ fn scripts_leave_lists(rt: HostRuntime) {
         leaves(
             rt.alloc(),
             &two,
-            b"user.a 536870915 0 1001;user.b 536870912 0 1000;"
+            b"user.a fs1 536870915 0 1001;user.b fs1 536870912 0 1000;"
         )
     );
     let copied = [
@@ -191,7 +247,7 @@ fn scripts_leave_lists(rt: HostRuntime) {
         leaves(
             rt.alloc(),
             &copied,
-            b"user.a 536870912 0 3000;user.a.backup 536870915 2 4000;"
+            b"user.a fs1 536870912 0 3000;user.a.backup fs1 536870915 2 4000;"
         )
     );
     let gone = [
@@ -200,7 +256,7 @@ fn scripts_leave_lists(rt: HostRuntime) {
         (A, Step::Backup(2000)),
         (A, Step::Remove),
     ];
-    assert!(&rt; leaves(rt.alloc(), &gone, b"user.b 536870915 0 1000;"));
+    assert!(&rt; leaves(rt.alloc(), &gone, b"user.b fs1 536870915 0 1000;"));
 }
 
 #[test]
@@ -334,12 +390,7 @@ fn each_call_fails_in_turn(rt: HostRuntime) {
 fn moves(alloc: Global) -> Result<bool, CellFault> {
     let mut cell = after(alloc, &[(A, Step::Create(1000)), (A, Step::Backup(2000))]);
     let taken = taken_at(&mut cell, 1)?;
-    let Ok(server) = Host::parse(alloc, b"fs2") else {
-        return Ok(false);
-    };
-    let Ok(partition) = Part::parse(alloc, b"vicepb") else {
-        return Ok(false);
-    };
+    let (server, partition) = place(alloc, true)?;
     let mut other = CellMem::new(alloc);
     other.put(&server, &partition, taken.volume)?;
     let moved = taken_at(&mut other, 0)?;
@@ -347,11 +398,139 @@ fn moves(alloc: Global) -> Result<bool, CellFault> {
     Ok(
         moved.born == u32::MAX
             && moved.time == 2000
-            && list.as_slice() == b"user.a.backup 536870915 2 2000;".as_slice(),
+            && list.as_slice() == b"user.a.backup fs2 536870915 2 2000;".as_slice(),
     )
 }
 
 #[test]
 fn a_volume_is_put(rt: HostRuntime) {
     assert!(&rt; moves(rt.alloc()) == Ok(true));
+}
+
+/// The name of `user.a`'s backup volume.
+const COPY: &[u8] = b"user.a.backup";
+
+#[test]
+fn put_stands_for_what_has_its_name(rt: HostRuntime) {
+    let over = [
+        (A, Step::Create(1000)),
+        (A, Step::Write(2, b"hi", 2000)),
+        (A, Step::Put(7, Kind::ReadWrite)),
+    ];
+    assert!(&rt; leaves(rt.alloc(), &over, b"user.a fs2 7 0 5000;"));
+    assert!(&rt;
+        shows(
+            rt.alloc(),
+            &over,
+            0,
+            b"1 1 0 5000 ;9000 5000 2 5000 0 0 5000"
+        )
+    );
+    let over_copy = [
+        (A, Step::Create(1000)),
+        (A, Step::Backup(2000)),
+        (COPY, Step::Put(900_000_000, Kind::ReadOnly)),
+        (B, Step::Create(3000)),
+    ];
+    assert!(&rt;
+        leaves(
+            rt.alloc(),
+            &over_copy,
+            b"user.a fs1 536870912 0 1000;user.a.backup fs2 900000000 1 5000;user.b fs1 900000002 0 3000;"
+        )
+    );
+}
+
+#[test]
+fn remove_takes_a_backup_volume_alone(rt: HostRuntime) {
+    let copy_alone = [
+        (A, Step::Create(1000)),
+        (A, Step::Backup(2000)),
+        (COPY, Step::Remove),
+    ];
+    assert!(&rt; leaves(rt.alloc(), &copy_alone, b"user.a fs1 536870912 0 1000;"));
+}
+
+#[test]
+fn remove_leaves_what_is_no_backup_volume(rt: HostRuntime) {
+    let read_only = [
+        (A, Step::Put(7, Kind::ReadOnly)),
+        (COPY, Step::Put(8, Kind::ReadOnly)),
+        (A, Step::Remove),
+    ];
+    assert!(&rt; leaves(rt.alloc(), &read_only, b"user.a.backup fs2 8 1 5000;"));
+    let no_backup = [
+        (A, Step::Create(1000)),
+        (COPY, Step::Put(8, Kind::ReadOnly)),
+        (A, Step::Remove),
+    ];
+    assert!(&rt; leaves(rt.alloc(), &no_backup, b"user.a.backup fs2 8 1 5000;"));
+}
+
+#[test]
+fn remove_takes_bad_images_away(rt: HostRuntime) {
+    let bad = [
+        (A, Step::Create(1000)),
+        (A, Step::Backup(2000)),
+        (A, Step::Spoil(59)),
+        (A, Step::Remove),
+    ];
+    assert!(&rt; leaves(rt.alloc(), &bad, b"user.a.backup fs1 536870915 2 2000;"));
+    let bad_backup = [
+        (A, Step::Create(1000)),
+        (A, Step::Backup(2000)),
+        (COPY, Step::Spoil(59)),
+        (A, Step::Remove),
+    ];
+    assert!(&rt; leaves(rt.alloc(), &bad_backup, b"user.a.backup fs1 bad 59;"));
+}
+
+/// The answer of calls at a bad image.
+const BAD: CellFault = CellFault::BadImage { at: 59 };
+
+#[test]
+fn bad_images_are_told(rt: HostRuntime) {
+    let bad = [(A, Step::Create(1000)), (A, Step::Spoil(59))];
+    assert!(&rt; refuses(rt.alloc(), &bad, (A, Step::Put(7, Kind::ReadWrite)), BAD));
+    assert!(&rt; refuses(rt.alloc(), &bad, (A, Step::Write(0, b"hi", 2000)), BAD));
+    assert!(&rt; refuses(rt.alloc(), &bad, (A, Step::RemoveVnode(2, 2000)), BAD));
+    assert!(&rt; refuses(rt.alloc(), &bad, (A, Step::Backup(2000)), BAD));
+    assert!(&rt;
+        refuses(
+            rt.alloc(),
+            &bad,
+            (A, Step::Create(2000)),
+            CellFault::VolumeExists
+        )
+    );
+}
+
+#[test]
+fn bad_images_have_no_id(rt: HostRuntime) {
+    let replaced = [
+        (A, Step::Create(1000)),
+        (A, Step::Backup(2000)),
+        (B, Step::Create(2000)),
+        (COPY, Step::Spoil(59)),
+        (A, Step::Backup(3000)),
+    ];
+    assert!(&rt;
+        leaves(
+            rt.alloc(),
+            &replaced,
+            b"user.a fs1 536870912 0 1000;user.a.backup fs1 536870921 2 3000;user.b fs1 536870918 0 2000;"
+        )
+    );
+    let alone = [
+        (A, Step::Create(1000)),
+        (A, Step::Spoil(59)),
+        (B, Step::Create(2000)),
+    ];
+    assert!(&rt;
+        leaves(
+            rt.alloc(),
+            &alone,
+            b"user.a fs1 bad 59;user.b fs1 536870912 0 2000;"
+        )
+    );
 }

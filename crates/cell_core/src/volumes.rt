@@ -2,7 +2,7 @@
 
 ghost use Rattle.std.specs.Prelude.{◌≡◌, IfOk};
 ghost use Rattle.vnode_model.specs.Limits.{AreVolume};
-ghost use Rattle.cell_core.specs.Volumes.{new_header, new_volume, backup_name, backup_copy, stamped_volume};
+ghost use Rattle.cell_core.specs.Volumes.{new_header, new_volume, backup_name, backup_copy, with_backup_date};
 
 use crate::vnodes::first_directory;
 use bk_text::{Bytes, List, Name};
@@ -44,12 +44,7 @@ fn new_header(alloc: Global, id: u32, name: &Name, now: u32) -> Result<HeaderFie
 }
 
 /// A new read/write volume, with one empty directory.
-pub(crate) fn new_volume(
-    alloc: Global,
-    id: u32,
-    name: &Name,
-    now: u32,
-) -> Result<Volume, AllocError>
+pub fn new_volume(alloc: Global, id: u32, name: &Name, now: u32) -> Result<Volume, AllocError>
     ensures value { IfOk result (λ volume. volume ≡ new_volume id name.now now) }
     ensures form { IfOk result (λ volume. AreVolume volume.vnodes) }
 {
@@ -63,7 +58,7 @@ pub(crate) fn new_volume(
 }
 
 /// The bytes of the name of a volume's backup volume; they may be too many.
-pub(crate) fn backup_name(alloc: Global, name: &[u8]) -> Result<Bytes, AllocError>
+pub fn backup_name(alloc: Global, name: &[u8]) -> Result<Bytes, AllocError>
     ensures { IfOk result (λ text. text ≡ backup_name name.now) }
 {
     let mut text = Bytes::from_slice(alloc, name)?;
@@ -72,12 +67,7 @@ pub(crate) fn backup_name(alloc: Global, name: &[u8]) -> Result<Bytes, AllocErro
 }
 
 /// The copy of a volume under its backup volume's name.
-pub(crate) fn backup_copy(
-    volume: &Volume,
-    id: u32,
-    name: Name,
-    now: u32,
-) -> Result<Volume, AllocError>
+pub fn backup_copy(volume: &Volume, id: u32, name: Name, now: u32) -> Result<Volume, AllocError>
     requires { name ≡ backup_name volume.now.header.name }
     ensures value { IfOk result (λ copy. copy ≡ backup_copy id now volume.now) }
     ensures form { IfOk result (λ copy. AreVolume copy.vnodes) }
@@ -96,8 +86,8 @@ pub(crate) fn backup_copy(
 }
 
 /// A volume with its backup date.
-pub(crate) fn stamped(volume: Volume, now: u32) -> Volume
-    ensures value { result ≡ stamped_volume now volume }
+pub fn with_backup_date(volume: Volume, now: u32) -> Volume
+    ensures value { result ≡ with_backup_date now volume }
     ensures form { AreVolume result.vnodes }
 {
     let VolumeFields { header, vnodes } = volume.into_fields();

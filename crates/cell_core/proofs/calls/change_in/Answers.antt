@@ -1,7 +1,8 @@
-use Rattle.std.proofs.Common.{List, refl, sym, subst}
+use Rattle.std.proofs.Common.{List, refl, subst}
 use Rattle.cell_core.specs.declared.stored.Stored.{Stored}
 use Rattle.cell_core.specs.Places.{FoundAt}
-use Rattle.cell_core.specs.Cells.{name_order, name_of, IsCell}
+use Rattle.cell_core.specs.Listings.{name_order}
+use Rattle.cell_core.specs.Cells.{name_of}
 use Rattle.cell_core.specs.Changing.{outcome_of}
 use Rattle.cell_core.proofs.CallLaws.{settled_in_place, is_cell_changed}
 use Rattle.cell_core.proofs.calls.change_in.Goals as goal

@@ -1,5 +1,4 @@
-use Rattle.std.proofs.Common.{◌≡◌, ◌∙◌, List, sym, ap, subst}
-use Rattle.std.specs.List.{remove}
+use Rattle.std.proofs.Common.{◌∙◌, List, sym, subst}
 use Rattle.vnode_model.specs.declared.vnodes.Vnode.{Vnode}
 use Rattle.vnode_model.specs.Limits.{AreVolume}
 use Rattle.cell_core.specs.Places.{FoundAt}

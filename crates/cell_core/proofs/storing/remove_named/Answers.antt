@@ -1,7 +1,8 @@
 use Rattle.std.proofs.Common.{List, sym, subst}
 use Rattle.cell_core.specs.declared.stored.Stored.{Stored}
 use Rattle.cell_core.specs.Places.{FoundAt}
-use Rattle.cell_core.specs.Cells.{name_order, name_of, IsCell}
+use Rattle.cell_core.specs.Listings.{name_order}
+use Rattle.cell_core.specs.Cells.{name_of, IsCell}
 use Rattle.cell_core.proofs.CellLaws.{is_cell_remove}
 use Rattle.cell_core.proofs.storing.remove_named.Goals as goal
 

@@ -1,4 +1,3 @@
-use Rattle.std.proofs.Common.{refl}
 use Rattle.cell_core.proofs.CellLaws.{is_cell_stored}
 use Rattle.cell_core.proofs.storing.store_new.Goals as goal
 
