@@ -1,5 +1,5 @@
 -- How long fields are.
-use Rattle.std.proofs.Common.{zero, suc, inl, inr, ℕ, ◌+◌, ◌<◌, ◌≤◌, ◌==◌, Bool, true, false, List, [], ◌∷◌, ◌++◌, length, take, get_or, ap, arith, length-append, lit≤, lit<, cond}
+use Rattle.std.proofs.Common.{zero, suc, inl, inr, refl, ◌≡◌, ℕ, ◌+◌, ◌<◌, ◌≤◌, ◌==◌, Bool, true, false, List, [], ◌∷◌, ◌++◌, length, take, get_or, ap, arith, length-append, lit≤, lit<, cond}
 use Rattle.std.specs.List.{flat_map}
 use Rattle.std.proofs.lemmas.List.{length-replicate}
 use Rattle.tape_frames.specs.declared.column.Text.{Text}
@@ -58,7 +58,7 @@ form_within columns.UpToFirst before = lit≤ tt
 form_within columns.LikeFirst before = elim (number_at before 0 == 0) as (λ b. form_size (cond b (forms.Number 0 0) positive) ≤ 4) [ true ↦ lit≤ tt | false ↦ lit≤ tt ]
 form_within (columns.Name form) before = omega arith
 form_within columns.NameLikeFirst before = lit≤ tt
-form_within columns.MaybeName before = lit≤ tt
+form_within (columns.Maybe form) before = omega arith
 form_within columns.Level before = lit≤ tt
 form_within columns.Blank before = lit≤ tt
 form_within columns.Bytes before = lit≤ tt
@@ -77,13 +77,29 @@ follows_short before (c ∷ cs) (f ∷ fs) (suc i) d h lt = follows_short (befor
 follows_short before [] (f ∷ fs) i d h lt = absurd h
 follows_short before (c ∷ cs) [] i d h lt = absurd h
 
+pub follows_length : (before : List Field) (cs : List Column) (fs : List Field) → Follows before cs fs → length fs ≡ length cs
+follows_length before [] [] h = refl
+follows_length before (c ∷ cs) (f ∷ fs) h = omega (arith, follows_length (before ++ f ∷ []) cs fs h.1)
+follows_length before [] (f ∷ fs) h = absurd h
+follows_length before (c ∷ cs) [] h = absurd h
+
 pub row_room : (kind : Kind) → room (row kind) ≤ 16376
 row_room kinds.Label = lit≤ tt
+row_room kinds.PlainHead = lit≤ tt
 row_room kinds.DumpHead = lit≤ tt
 row_room kinds.VolHead = lit≤ tt
 row_room kinds.Data = lit≤ tt
 row_room kinds.VolEnd = lit≤ tt
 row_room kinds.DumpEnd = lit≤ tt
+
+pub row_few : (kind : Kind) → length (row kind) ≤ 13
+row_few kinds.Label = lit≤ tt
+row_few kinds.PlainHead = lit≤ tt
+row_few kinds.DumpHead = lit≤ tt
+row_few kinds.VolHead = lit≤ tt
+row_few kinds.Data = lit≤ tt
+row_few kinds.VolEnd = lit≤ tt
+row_few kinds.DumpEnd = lit≤ tt
 
 -- the fields up to one and that one are no longer than all
 pub front_short : (fs : List Field) (i : ℕ) (d : Field) → i < length fs → length (flat_map spelled (take i fs)) + length (spelled (get_or fs i d)) ≤ length (flat_map spelled fs)

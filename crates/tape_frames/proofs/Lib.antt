@@ -7,5 +7,9 @@ mod Words
 mod Rests
 mod Heads
 mod Builds
+mod Plains
+mod Makes
 mod Wholes
+mod Uses
 mod Paths
+mod TapeNames

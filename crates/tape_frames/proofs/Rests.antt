@@ -48,7 +48,7 @@ bounded columns.UpToFirst before = up_bounded (number_at before 0 == 0) (number_
 bounded columns.LikeFirst before = elim (number_at before 0 == 0) as (λ b. IsBounded (cond b (forms.Number 0 0) positive)) [ true ↦ (lit≤ tt, lit≤ tt) | false ↦ (lit≤ tt, lit≤ tt) ]
 bounded (columns.Name form) before = tt
 bounded columns.NameLikeFirst before = tt
-bounded columns.MaybeName before = tt
+bounded (columns.Maybe form) before = tt
 bounded columns.Level before = tt
 bounded columns.Blank before = tt
 bounded columns.Bytes before = tt
@@ -80,7 +80,11 @@ size_small (columns.Name texts.SetName) = lit≤ tt
 size_small (columns.Name texts.Base) = lit≤ tt
 size_small (columns.Name texts.TapeName) = lit≤ tt
 size_small columns.NameLikeFirst = lit≤ tt
-size_small columns.MaybeName = lit≤ tt
+size_small (columns.Maybe texts.Name) = lit≤ tt
+size_small (columns.Maybe texts.Host) = lit≤ tt
+size_small (columns.Maybe texts.SetName) = lit≤ tt
+size_small (columns.Maybe texts.Base) = lit≤ tt
+size_small (columns.Maybe texts.TapeName) = lit≤ tt
 size_small columns.Level = lit≤ tt
 size_small columns.Blank = lit≤ tt
 size_small columns.Bytes = lit≤ tt

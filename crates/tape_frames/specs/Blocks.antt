@@ -1,9 +1,12 @@
--- The block of a kind's fields: the first eight bytes, the fields from byte 8 on, and zeros to the end.
-use Rattle.std.specs.Prelude.{ℕ, List, ◌++◌}
-use Rattle.std.specs.List.{flat_map}
-use Rattle.tape_frames.specs.declared.row.Kind.{Kind}
-use Rattle.tape_frames.specs.Fields.{Field, spelled, padded}
-use Rattle.tape_frames.specs.Rows.{head}
+-- The block of a frame: the letters AFST, the version, the kind and two zeros, the fields from byte 8 on, and zeros to the end.
+use Rattle.std.specs.Prelude.{ℕ, List, [], ◌∷◌, ◌==◌, if◌then◌else◌}
+use Rattle.tape_frames.specs.declared.dump_head.DumpHeadFields.{DumpHeadFields}
+use Rattle.tape_frames.specs.Fields.{padded}
+use Rattle.tape_frames.specs.Layouts.{plain_head_bytes, dump_head_bytes}
 
-abbrev pub block_of : Kind → List Field → List ℕ
-block_of kind fields = padded 16384 (head kind ++ flat_map spelled fields)
+abbrev pub block_of : ℕ → ℕ → List ℕ → List ℕ
+block_of version kind fields = padded 16384 (65 ∷ 70 ∷ 83 ∷ 84 ∷ version ∷ kind ∷ 0 ∷ 0 ∷ fields)
+
+-- a dump's head has version 1 where it tells no uses, and version 2 where it does
+abbrev pub dump_head_block : DumpHeadFields → List ℕ
+dump_head_block a = if a.uses == 0 then block_of 1 2 (plain_head_bytes a) else block_of 2 2 (dump_head_bytes a)

@@ -1,5 +1,5 @@
 -- The frame of the fields of a row.
-use Rattle.std.specs.Prelude.{ℕ, List, slice_index_or}
+use Rattle.std.specs.Prelude.{◌⊎◌, ℕ, List, [], slice_index_or}
 use Rattle.tape_frames.specs.declared.frame.Frame.{Frame}
 use Rattle.tape_frames.specs.declared.frame.Frame.TheVariants as frames
 use Rattle.tape_frames.specs.declared.label.LabelFields.{LabelFields}
@@ -11,8 +11,9 @@ use Rattle.tape_frames.specs.declared.dump_end.DumpEndFields.{DumpEndFields}
 use Rattle.tape_frames.specs.declared.row.Kind.{Kind}
 use Rattle.tape_frames.specs.declared.row.Kind.TheVariants as kinds
 use Rattle.tape_frames.specs.Fields.{Field, text}
-use Rattle.tape_frames.specs.Columns.{number_at}
 use Rattle.tape_frames.specs.Fields.{Number}
+use Rattle.tape_frames.specs.Columns.{number_at, Follows}
+use Rattle.tape_frames.specs.Rows.{row}
 
 -- the text at a place of a row
 abbrev pub text_at : List Field → ℕ → List ℕ
@@ -26,6 +27,11 @@ label_of fs = record {
   permanent = text_at fs 3;
 }
 
+-- fields of a dump's head, in either version
+abbrev pub HeadFollows : List Field → Type 0
+HeadFollows fs = Follows [] (row kinds.PlainHead) fs ⊎ Follows [] (row kinds.DumpHead) fs
+
+-- a row of version 1 has no cell, no permanent name and no uses
 abbrev pub dump_head_of : List Field → DumpHeadFields
 dump_head_of fs = record {
   id = number_at fs 0;
@@ -38,6 +44,9 @@ dump_head_of fs = record {
   set = text_at fs 7;
   level = text_at fs 8;
   base = text_at fs 9;
+  cell = text_at fs 10;
+  permanent = text_at fs 11;
+  uses = number_at fs 12;
 }
 
 abbrev pub vol_head_of : List Field → VolHeadFields
@@ -79,6 +88,7 @@ dump_end_of fs = record {
 
 abbrev pub frame_of : Kind → List Field → Frame
 frame_of kinds.Label fs = frames.Label (label_of fs)
+frame_of kinds.PlainHead fs = frames.DumpHead (dump_head_of fs)
 frame_of kinds.DumpHead fs = frames.DumpHead (dump_head_of fs)
 frame_of kinds.VolHead fs = frames.VolHead (vol_head_of fs)
 frame_of kinds.Data fs = frames.Data (data_of fs)

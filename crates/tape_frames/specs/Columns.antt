@@ -46,7 +46,7 @@ form_at columns.UpToFirst before = forms.Number (if number_at before 0 == 0 then
 form_at columns.LikeFirst before = if number_at before 0 == 0 then forms.Number 0 0 else positive
 form_at (columns.Name name) before = forms.Word name false
 form_at columns.NameLikeFirst before = forms.Word texts.TapeName (number_at before 0 == 0)
-form_at columns.MaybeName before = forms.Word texts.TapeName true
+form_at (columns.Maybe name) before = forms.Word name true
 form_at columns.Level before = forms.Level
 form_at columns.Blank before = forms.Blank
 form_at columns.Bytes before = forms.Bytes 16352 (number_at before 2)
@@ -82,7 +82,7 @@ size columns.UpToFirst = 4
 size columns.LikeFirst = 4
 size (columns.Name name) = 1 + most name
 size columns.NameLikeFirst = 81
-size columns.MaybeName = 81
+size (columns.Maybe name) = 1 + most name
 size columns.Level = 258
 size columns.Blank = 12
 size columns.Bytes = 16352

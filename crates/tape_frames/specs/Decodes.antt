@@ -1,5 +1,5 @@
 -- What the decoding of a block answers.
-use Rattle.std.specs.Prelude.{◌≡◌, ℕ, ◌+◌, ◌<◌, List, Result, Ok, Err}
+use Rattle.std.specs.Prelude.{◌≡◌, ◌⊎◌, ℕ, ◌+◌, ◌<◌, List, Result, Ok, Err}
 use Rattle.bk_text.specs.Places.{FailsAt}
 use Rattle.tape_frames.specs.declared.frame.Frame.{Frame}
 use Rattle.tape_frames.specs.declared.fault.FrameFault.{FrameFault}
@@ -11,13 +11,3 @@ abbrev pub Decodes : List ℕ → Result Frame FrameFault → Type 0
 Decodes block (Ok f) = Fits f × (block ≡ spelling f)
 Decodes block (Err (NotFrame at)) = (at < 16384) × FailsAt IsSpelled block at
 Decodes block (Err Memory) = Unit {0}
-
--- a place in a block
-abbrev pub IsNear : FrameFault → Type 0
-IsNear (NotFrame at) = at < 16384
-IsNear Memory = Unit {0}
-
--- a place behind the head
-abbrev pub moved : FrameFault → FrameFault
-moved (NotFrame at) = NotFrame (8 + at)
-moved Memory = Memory

@@ -1,38 +1,27 @@
--- The block of a frame.
-use Rattle.std.specs.Prelude.{◌≡◌, ℕ, List, []}
+-- The frames of a tape, and the block of each.
+use Rattle.std.specs.Prelude.{◌≡◌, ℕ, List}
 use Rattle.tape_frames.specs.declared.frame.Frame.{Frame}
 use Rattle.tape_frames.specs.declared.frame.Frame.TheVariants.{Label, DumpHead, VolHead, Data, VolEnd, DumpEnd}
-use Rattle.tape_frames.specs.declared.row.Kind.{Kind}
-use Rattle.tape_frames.specs.declared.row.Kind.TheVariants as kinds
-use Rattle.tape_frames.specs.Fields.{Field}
-use Rattle.tape_frames.specs.Columns.{Follows}
-use Rattle.tape_frames.specs.Rows.{row}
-use Rattle.tape_frames.specs.Blocks.{block_of}
-use Rattle.tape_frames.specs.Layouts.{label_values, dump_head_values, vol_head_values, data_values, vol_end_values, dump_end_values}
+use Rattle.tape_frames.specs.Layouts.{label_bytes, vol_head_bytes, data_bytes, vol_end_bytes, dump_end_bytes, FitsLabel, FitsDumpHead, FitsVolHead, FitsData, FitsVolEnd, FitsDumpEnd}
+use Rattle.tape_frames.specs.Blocks.{block_of, dump_head_block}
 
-abbrev pub kind_of : Frame → Kind
-kind_of (Label a) = kinds.Label
-kind_of (DumpHead a) = kinds.DumpHead
-kind_of (VolHead a) = kinds.VolHead
-kind_of (Data a) = kinds.Data
-kind_of (VolEnd a) = kinds.VolEnd
-kind_of (DumpEnd a) = kinds.DumpEnd
-
-abbrev pub values : Frame → List Field
-values (Label a) = label_values a
-values (DumpHead a) = dump_head_values a
-values (VolHead a) = vol_head_values a
-values (Data a) = data_values a
-values (VolEnd a) = vol_end_values a
-values (DumpEnd a) = dump_end_values a
-
--- the fields fit the kind's row
+-- the fields are as the row of the kind has them
 abbrev pub Fits : Frame → Type 0
-Fits f = Follows [] (row (kind_of f)) (values f)
+Fits (Label a) = FitsLabel a
+Fits (DumpHead a) = FitsDumpHead a
+Fits (VolHead a) = FitsVolHead a
+Fits (Data a) = FitsData a
+Fits (VolEnd a) = FitsVolEnd a
+Fits (DumpEnd a) = FitsDumpEnd a
 
 -- the block of a frame
 abbrev pub spelling : Frame → List ℕ
-spelling f = block_of (kind_of f) (values f)
+spelling (Label a) = block_of 1 1 (label_bytes a)
+spelling (DumpHead a) = dump_head_block a
+spelling (VolHead a) = block_of 1 3 (vol_head_bytes a)
+spelling (Data a) = block_of 1 4 (data_bytes a)
+spelling (VolEnd a) = block_of 1 5 (vol_end_bytes a)
+spelling (DumpEnd a) = block_of 1 6 (dump_end_bytes a)
 
 -- these bytes are the block of a frame
 abbrev pub IsSpelled : List ℕ → Type 0

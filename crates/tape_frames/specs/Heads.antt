@@ -1,5 +1,5 @@
 -- What the reading of a block's first eight bytes answers.
-use Rattle.std.specs.Prelude.{◌≡◌, ◌≢◌, ℕ, ◌<◌, List, ◌++◌, length, take, slice_index}
+use Rattle.std.specs.Prelude.{◌≡◌, ◌≢◌, ℕ, ◌+◌, ◌<◌, List, ◌++◌, length, take, slice_index}
 use Rattle.tape_frames.specs.declared.row.Kind.{Kind}
 use Rattle.tape_frames.specs.Rows.{head}
 
@@ -7,8 +7,8 @@ use Rattle.tape_frames.specs.Rows.{head}
 abbrev pub Differs : List ℕ → List ℕ → ℕ → Type 0
 Differs a b at = (at < length a) × (take at a ≡ take at b) × (slice_index a at ≢ slice_index b at)
 
--- some kind's head begins with the bytes before this place, and none has its byte there
+-- some kind's head begins with the bytes before this place, and none with its byte too
 pub record HeadSticks (block : List ℕ) (at : ℕ) : Type 0 where
   pub within : at < 8
   pub before : (kind : Kind) × (rest : List ℕ) × (head kind ≡ take at block ++ rest)
-  pub here : (kind : Kind) → slice_index (head kind) at ≡ slice_index block at → ⊥
+  pub here : (kind : Kind) → take (at + 1) (head kind) ≡ take (at + 1) block → ⊥

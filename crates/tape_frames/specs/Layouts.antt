@@ -1,65 +1,140 @@
--- The fields of each kind, as its row has them.
-use Rattle.std.specs.Prelude.{◌≡◌, ◌≢◌, ◌⊎◌, ℕ, ◌-◌, ◌≤◌, List, [], ◌∷◌, length, drop, replicate}
-use Rattle.bk_text.specs.Alphabets.{IsTapeName}
+-- The table of frames: what the fields of each kind are, and their bytes one behind another.
+use Rattle.std.specs.Prelude.{◌≡◌, ◌≢◌, ◌⊎◌, ℕ, ◌-◌, ◌<◌, ◌≤◌, List, [], ◌∷◌, ◌++◌, length, drop, replicate, All}
+use Rattle.std.specs.Int.{w16, w32, to_be_bytes}
+use Rattle.bk_text.specs.Alphabets.{IsName, IsHost, IsSetName, IsTapeName}
+use Rattle.bk_text.specs.LevelPaths.{IsLevelPath}
 use Rattle.tape_frames.specs.declared.label.LabelFields.{LabelFields}
 use Rattle.tape_frames.specs.declared.dump_head.DumpHeadFields.{DumpHeadFields}
 use Rattle.tape_frames.specs.declared.vol_head.VolHeadFields.{VolHeadFields}
 use Rattle.tape_frames.specs.declared.data.DataFields.{DataFields}
 use Rattle.tape_frames.specs.declared.vol_end.VolEndFields.{VolEndFields}
 use Rattle.tape_frames.specs.declared.dump_end.DumpEndFields.{DumpEndFields}
-use Rattle.tape_frames.specs.declared.row.Kind.TheVariants as kinds
-use Rattle.tape_frames.specs.Fields.{Field, Number, Word, Path, Blank, Raw}
-use Rattle.tape_frames.specs.Columns.{Follows}
-use Rattle.tape_frames.specs.Rows.{row}
 
-abbrev pub label_values : LabelFields → List Field
-label_values a = Number a.initial ∷ Number a.tape ∷ Word a.afs ∷ Word a.permanent ∷ []
+-- a number of four bytes, the most significant one first; a text behind its length in one byte, and in two
+abbrev pub four : ℕ → List ℕ
+four n = to_be_bytes w32 n
 
-abbrev pub dump_head_values : DumpHeadFields → List Field
-dump_head_values a = Number a.id ∷ Number a.initial ∷ Number a.parent ∷ Number a.expires ∷ Number a.tape ∷ Number a.part ∷ Number a.volumes ∷ Word a.set ∷ Path a.level ∷ Word a.base ∷ []
+abbrev pub text1 : List ℕ → List ℕ
+text1 text = length text ∷ text
 
-abbrev pub vol_head_values : VolHeadFields → List Field
-vol_head_values a = Number a.dump ∷ Number a.index ∷ Number a.fragment ∷ Number a.volume ∷ Number a.clone ∷ Number a.from ∷ Word a.name ∷ Word a.server ∷ Word a.partition ∷ []
+abbrev pub text2 : List ℕ → List ℕ
+text2 text = to_be_bytes w16 (length text) ++ text
 
-abbrev pub data_values : DataFields → List Field
-data_values a = Number a.dump ∷ Number a.index ∷ Number a.used ∷ Blank 12 ∷ Raw a.bytes ∷ []
+-- a number that four bytes have room for
+abbrev pub IsFour : ℕ → Type 0
+IsFour n = n ≤ 4294967295
 
-abbrev pub vol_end_values : VolEndFields → List Field
-vol_end_values a = Number a.dump ∷ Number a.index ∷ Number a.fragment ∷ Number a.last ∷ Number a.bytes ∷ []
+-- a text of a form, or nothing
+abbrev pub IsMaybe : (List ℕ → Type 0) → List ℕ → Type 0
+IsMaybe Form text = Form text ⊎ (text ≡ [])
 
-abbrev pub dump_end_values : DumpEndFields → List Field
-dump_end_values a = Number a.dump ∷ Number a.tape ∷ Number a.more ∷ []
+-- ---- the label of a tape: kind 1
 
--- what the types keep: their fields fit the row
-abbrev pub FitsLabel : LabelFields → Type 0
-FitsLabel a = Follows [] (row kinds.Label) (label_values a)
+abbrev pub label_bytes : LabelFields → List ℕ
+label_bytes a = four a.initial ++ (four a.tape ++ (text1 a.afs ++ text1 a.permanent))
 
-abbrev pub FitsDumpHead : DumpHeadFields → Type 0
-FitsDumpHead a = Follows [] (row kinds.DumpHead) (dump_head_values a)
+pub record FitsLabel (a : LabelFields) : Type 0 where
+  pub initial : IsFour a.initial
+  pub tape : IsFour a.tape
+  pub afs : IsMaybe IsTapeName a.afs
+  pub permanent : IsMaybe IsTapeName a.permanent
+  pub carries : ((a.initial ≡ 0) × (a.tape ≡ 0)) ⊎ ((a.initial ≢ 0) × (a.tape ≢ 0) × (a.afs ≢ []))
 
-abbrev pub FitsVolHead : VolHeadFields → Type 0
-FitsVolHead a = Follows [] (row kinds.VolHead) (vol_head_values a)
+-- ---- the head of a dump's part: kind 2
 
-abbrev pub FitsData : DataFields → Type 0
-FitsData a = Follows [] (row kinds.Data) (data_values a)
+-- version 1
+abbrev pub plain_head_bytes : DumpHeadFields → List ℕ
+plain_head_bytes a = four a.id ++ (four a.initial ++ (four a.parent ++ (four a.expires ++ (four a.tape ++ (four a.part ++ (four a.volumes ++ (text1 a.set ++ (text2 a.level ++ text1 a.base))))))))
 
-abbrev pub FitsVolEnd : VolEndFields → Type 0
-FitsVolEnd a = Follows [] (row kinds.VolEnd) (vol_end_values a)
+-- version 2
+abbrev pub dump_head_bytes : DumpHeadFields → List ℕ
+dump_head_bytes a = four a.id ++ (four a.initial ++ (four a.parent ++ (four a.expires ++ (four a.tape ++ (four a.part ++ (four a.volumes ++ (text1 a.set ++ (text2 a.level ++ (text1 a.base ++ (text1 a.cell ++ (text1 a.permanent ++ four a.uses)))))))))))
 
-abbrev pub FitsDumpEnd : DumpEndFields → Type 0
-FitsDumpEnd a = Follows [] (row kinds.DumpEnd) (dump_end_values a)
+-- a head that tells no uses tells no cell and no permanent name: it is one of version 1
+pub record FitsDumpHead (a : DumpHeadFields) : Type 0 where
+  pub id : IsFour a.id
+  pub initial : (1 ≤ a.initial) × (a.initial ≤ a.id)
+  pub parent : IsFour a.parent
+  pub expires : IsFour a.expires
+  pub tape : (1 ≤ a.tape) × IsFour a.tape
+  pub part : (1 ≤ a.part) × IsFour a.part
+  pub volumes : (1 ≤ a.volumes) × IsFour a.volumes
+  pub set : IsSetName a.set
+  pub level : IsLevelPath a.level
+  pub base : IsTapeName a.base × (length a.base ≤ 69)
+  pub cell : IsMaybe IsHost a.cell
+  pub permanent : IsMaybe IsTapeName a.permanent
+  pub uses : IsFour a.uses
+  pub plain : a.uses ≡ 0 → (a.cell ≡ []) × (a.permanent ≡ [])
 
--- a tape's name, or nothing
-abbrev pub IsMaybeName : List ℕ → Type 0
-IsMaybeName name = IsTapeName name ⊎ (name ≡ [])
+-- ---- the head of a volume's fragment: kind 3
+
+abbrev pub vol_head_bytes : VolHeadFields → List ℕ
+vol_head_bytes a = four a.dump ++ (four a.index ++ (four a.fragment ++ (four a.volume ++ (four a.clone ++ (four a.from ++ (text1 a.name ++ (text1 a.server ++ text1 a.partition)))))))
+
+pub record FitsVolHead (a : VolHeadFields) : Type 0 where
+  pub dump : IsFour a.dump
+  pub index : IsFour a.index
+  pub fragment : (1 ≤ a.fragment) × IsFour a.fragment
+  pub volume : IsFour a.volume
+  pub clone : IsFour a.clone
+  pub from : IsFour a.from
+  pub name : IsName a.name
+  pub server : IsHost a.server
+  pub partition : IsName a.partition
+
+-- ---- a piece of a volume's stream: kind 4
+
+abbrev pub data_bytes : DataFields → List ℕ
+data_bytes a = four a.dump ++ (four a.index ++ (four a.used ++ (replicate 12 0 ++ a.bytes)))
+
+pub record FitsData (a : DataFields) : Type 0 where
+  pub dump : IsFour a.dump
+  pub index : IsFour a.index
+  pub used : (1 ≤ a.used) × (a.used ≤ 16352)
+  pub size : length a.bytes ≡ 16352
+  pub bytes : All (λ b. b < 256) a.bytes
+  pub rest : drop a.used a.bytes ≡ replicate (16352 - a.used) 0
+
+-- ---- the end of a volume's fragment: kind 5
+
+abbrev pub vol_end_bytes : VolEndFields → List ℕ
+vol_end_bytes a = four a.dump ++ (four a.index ++ (four a.fragment ++ (four a.last ++ four a.bytes)))
+
+pub record FitsVolEnd (a : VolEndFields) : Type 0 where
+  pub dump : IsFour a.dump
+  pub index : IsFour a.index
+  pub fragment : IsFour a.fragment
+  pub last : a.last ≤ 1
+  pub bytes : IsFour a.bytes
+
+-- ---- the end of a dump's part: kind 6
+
+abbrev pub dump_end_bytes : DumpEndFields → List ℕ
+dump_end_bytes a = four a.dump ++ (four a.tape ++ four a.more)
+
+pub record FitsDumpEnd (a : DumpEndFields) : Type 0 where
+  pub dump : IsFour a.dump
+  pub tape : IsFour a.tape
+  pub more : a.more ≤ 1
+
+-- ---- what whoever makes a frame has to see to, beside the types of its fields
 
 -- either initial and tape are 0, or both aren't and the AFS name isn't empty
 abbrev pub IsLabel : LabelFields → Type 0
-IsLabel a = IsMaybeName a.afs × IsMaybeName a.permanent × (((a.initial ≡ 0) × (a.tape ≡ 0)) ⊎ ((a.initial ≢ 0) × (a.tape ≢ 0) × (a.afs ≢ [])))
+IsLabel a = IsMaybe IsTapeName a.afs × IsMaybe IsTapeName a.permanent × (((a.initial ≡ 0) × (a.tape ≡ 0)) ⊎ ((a.initial ≢ 0) × (a.tape ≢ 0) × (a.afs ≢ [])))
 
--- id, initial, tape, part and volumes are at least 1, initial is at most id, and the base has room for a number
-abbrev pub IsDumpHead : DumpHeadFields → Type 0
-IsDumpHead a = (1 ≤ a.initial) × (a.initial ≤ a.id) × (1 ≤ a.tape) × (1 ≤ a.part) × (1 ≤ a.volumes) × (length a.base ≤ 69)
+-- id, initial, tape, part and volumes are at least 1, initial is at most id, the base has room for a number, and cell and
+-- permanent name are told only where uses are
+pub record IsDumpHead (a : DumpHeadFields) : Type 0 where
+  pub initial : (1 ≤ a.initial) × (a.initial ≤ a.id)
+  pub tape : 1 ≤ a.tape
+  pub part : 1 ≤ a.part
+  pub volumes : 1 ≤ a.volumes
+  pub base : length a.base ≤ 69
+  pub cell : IsMaybe IsHost a.cell
+  pub permanent : IsMaybe IsTapeName a.permanent
+  pub plain : a.uses ≡ 0 → (a.cell ≡ []) × (a.permanent ≡ [])
 
 -- 1 to 16,352 bytes are used, and behind them are zeros
 abbrev pub IsData : DataFields → Type 0

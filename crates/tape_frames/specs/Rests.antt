@@ -3,8 +3,6 @@ use Rattle.std.specs.Prelude.{◌≡◌, ℕ, ◌-◌, ◌<◌, List, [], ◌∷
 use Rattle.std.specs.List.{flat_map}
 use Rattle.bk_text.specs.Places.{FailsAt}
 use Rattle.tape_frames.specs.declared.column.Column.{Column}
-use Rattle.tape_frames.specs.declared.fault.FrameFault.{FrameFault}
-use Rattle.tape_frames.specs.declared.fault.FrameFault.TheVariants.{NotFrame, Memory}
 use Rattle.tape_frames.specs.Fields.{Field, spelled, padded}
 use Rattle.tape_frames.specs.Columns.{IsOf, form_at, Follows}
 
@@ -18,6 +16,5 @@ abbrev pub FillsRow : List Column → List ℕ → List Field → Type 0
 FillsRow row bytes fields = Follows [] row fields × (bytes ≡ padded (length bytes) (flat_map spelled fields))
 
 -- no fields of the row begin with one byte more than so many
-abbrev pub RowFault : List Column → List ℕ → FrameFault → Type 0
-RowFault row bytes (NotFrame at) = (at < length bytes) × FailsAt (Rest [] row (length bytes)) bytes at
-RowFault row bytes Memory = Unit {0}
+abbrev pub RowFails : List Column → List ℕ → ℕ → Type 0
+RowFails row bytes at = (at < length bytes) × FailsAt (Rest [] row (length bytes)) bytes at

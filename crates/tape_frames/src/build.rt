@@ -5,7 +5,7 @@ ghost use Rattle.tape_frames.specs.declared.row.Kind.TheVariants as kinds;
 ghost use Rattle.tape_frames.specs.Items.{field_of};
 ghost use Rattle.tape_frames.specs.Columns.{Follows};
 ghost use Rattle.tape_frames.specs.Rows.{row};
-ghost use Rattle.tape_frames.specs.Builds.{text_at, label_of, dump_head_of, vol_head_of, data_of, vol_end_of, dump_end_of, frame_of};
+ghost use Rattle.tape_frames.specs.Builds.{text_at, HeadFollows, label_of, dump_head_of, vol_head_of, data_of, vol_end_of, dump_end_of, frame_of};
 
 use crate::column::number_in;
 use crate::data::{Data, DataFields};
@@ -45,8 +45,9 @@ fn label_from(alloc: Global, items: &[Item]) -> Result<Label, AllocError>
     Ok(Label::new(fields))
 }
 
+/// A row of version 1 has no cell, no permanent name and no uses: they are empty, and 0.
 fn dump_head_from(alloc: Global, items: &[Item]) -> Result<DumpHead, AllocError>
-    requires { Follows [] (row kinds.DumpHead) (map field_of items.now) }
+    requires { HeadFollows (map field_of items.now) }
     ensures { IfOk result (λ a. a ≡ dump_head_of (map field_of items.now)) }
 {
     let fields = DumpHeadFields {
@@ -60,6 +61,9 @@ fn dump_head_from(alloc: Global, items: &[Item]) -> Result<DumpHead, AllocError>
         set: SetName::from_bytes(alloc, text_in(items, 7))?,
         level: LevelPath::from_bytes(alloc, text_in(items, 8))?,
         base: TapeName::from_bytes(alloc, text_in(items, 9))?,
+        cell: Bytes::from_slice(alloc, text_in(items, 10))?,
+        permanent: Bytes::from_slice(alloc, text_in(items, 11))?,
+        uses: number_in(items, 12),
     };
     Ok(DumpHead::new(fields))
 }
@@ -127,7 +131,7 @@ pub fn build(alloc: Global, kind: Kind, items: &[Item]) -> Result<Frame, AllocEr
 {
     match kind {
         Kind::Label => Ok(Frame::Label(label_from(alloc, items)?)),
-        Kind::DumpHead => Ok(Frame::DumpHead(dump_head_from(alloc, items)?)),
+        Kind::PlainHead | Kind::DumpHead => Ok(Frame::DumpHead(dump_head_from(alloc, items)?)),
         Kind::VolHead => Ok(Frame::VolHead(vol_head_from(alloc, items)?)),
         Kind::Data => Ok(Frame::Data(data_from(items))),
         Kind::VolEnd => Ok(Frame::VolEnd(vol_end_from(items))),

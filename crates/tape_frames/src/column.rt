@@ -33,7 +33,8 @@ pub enum Column {
     Flag,
     /// A number of bytes, 1 to 16,352.
     Used,
-    /// A number of at most the row's first, and of at least 1 where that isn't 0.
+    /// A number of at most the row's first, and of at least 1 where that isn't 0. In a row whose first number is at least 1
+    /// it is 1 to that number; the other case is there so that bounds never cross.
     UpToFirst,
     /// 0 where the row's first number is 0, and another number where it isn't.
     LikeFirst,
@@ -41,8 +42,8 @@ pub enum Column {
     Name(Text),
     /// A tape's name; nothing too where the row's first number is 0.
     NameLikeFirst,
-    /// A tape's name, or nothing.
-    MaybeName,
+    /// A name of this form, or nothing.
+    Maybe(Text),
     /// The path of a level.
     Level,
     /// Twelve zeros.
@@ -116,8 +117,8 @@ pub fn form_of(column: Column, before: &[Item]) -> Form
             text: Text::TapeName,
             may_be_empty: number_in(before, 0) == 0,
         },
-        Column::MaybeName => Form::Word {
-            text: Text::TapeName,
+        Column::Maybe(text) => Form::Word {
+            text,
             may_be_empty: true,
         },
         Column::Level => Form::Level,

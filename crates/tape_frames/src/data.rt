@@ -1,9 +1,8 @@
 //! A piece of a volume's stream on a tape.
 
 ghost use Rattle.std.specs.Prelude.{◌≡◌, ◌<◌, All};
-ghost use Rattle.tape_frames.specs.declared.row.Kind.TheVariants as kinds;
 ghost use Rattle.tape_frames.specs.Blocks.{block_of};
-ghost use Rattle.tape_frames.specs.Layouts.{data_values, IsData};
+ghost use Rattle.tape_frames.specs.Layouts.{data_bytes, FitsData, IsData};
 
 use crate::item::Item;
 use crate::row::Kind;
@@ -61,13 +60,24 @@ impl Data {
     pub fn fields(&self) -> &DataFields
         ensures value { result.now ≡ self.now }
         ensures form { IsData self.now }
+        ensures fits { FitsData self.now }
     {
         &self.fields
     }
 
+    /// Its fields, taken out. It takes no memory.
+    pub fn into_fields(self) -> DataFields
+        ensures value { result ≡ self }
+        ensures fits { FitsData self }
+    {
+        let Data { fields } = self;
+        fields
+    }
+
     /// Writes its block. It takes no memory.
     pub fn encode(&self, into: &mut Block)
-        ensures { into.new ≡ block_of kinds.Data (data_values self.now) }
+        ensures block { into.new ≡ block_of 1 4 (data_bytes self.now) }
+        ensures fits { FitsData self.now }
     {
         let a = &self.fields;
         write_frame(

@@ -1,9 +1,8 @@
 //! The end of a dump's part on a tape.
 
 ghost use Rattle.std.specs.Prelude.{◌≡◌, ◌≤◌};
-ghost use Rattle.tape_frames.specs.declared.row.Kind.TheVariants as kinds;
 ghost use Rattle.tape_frames.specs.Blocks.{block_of};
-ghost use Rattle.tape_frames.specs.Layouts.{dump_end_values};
+ghost use Rattle.tape_frames.specs.Layouts.{dump_end_bytes, FitsDumpEnd};
 
 use crate::item::Item;
 use crate::row::Kind;
@@ -50,14 +49,24 @@ impl DumpEnd {
     /// Its fields.
     pub fn fields(&self) -> DumpEndFields
         ensures value { result ≡ self.now }
-        ensures more { self.now.more ≤ 1 }
+        ensures fits { FitsDumpEnd self.now }
     {
         self.fields
     }
 
+    /// Its fields, taken out. It takes no memory.
+    pub fn into_fields(self) -> DumpEndFields
+        ensures value { result ≡ self }
+        ensures fits { FitsDumpEnd self }
+    {
+        let DumpEnd { fields } = self;
+        fields
+    }
+
     /// Writes its block. It takes no memory.
     pub fn encode(&self, into: &mut Block)
-        ensures { into.new ≡ block_of kinds.DumpEnd (dump_end_values self.now) }
+        ensures block { into.new ≡ block_of 1 6 (dump_end_bytes self.now) }
+        ensures fits { FitsDumpEnd self.now }
     {
         let a = &self.fields;
         write_frame(

@@ -1,14 +1,14 @@
 //! The head of a dump's part on a tape.
 
 ghost use Rattle.std.specs.Prelude.{◌≡◌, ◌↔◌, IsTrue};
-ghost use Rattle.tape_frames.specs.declared.row.Kind.TheVariants as kinds;
-ghost use Rattle.tape_frames.specs.Blocks.{block_of};
-ghost use Rattle.tape_frames.specs.Layouts.{dump_head_values, IsDumpHead};
+ghost use Rattle.tape_frames.specs.Blocks.{dump_head_block};
+ghost use Rattle.tape_frames.specs.Layouts.{FitsDumpHead, IsDumpHead};
 
 use crate::item::Item;
+use crate::maybe::{is_maybe_host, is_maybe_tape_name};
 use crate::row::Kind;
 use crate::writing::{Block, write_frame};
-use bk_text::{LevelPath, SetName, TapeName};
+use bk_text::{Bytes, LevelPath, SetName, TapeName};
 use std::marker::Model;
 
 /// The fields of a dump's head, in the order of its block.
@@ -34,9 +34,16 @@ pub struct DumpHeadFields {
     pub level: LevelPath,
     /// What the names of its tapes begin with, at most 69 bytes.
     pub base: TapeName,
+    /// The name of the cell, a server's name or empty.
+    pub cell: Bytes,
+    /// The name that stays with the tape, a tape's name or empty.
+    pub permanent: Bytes,
+    /// How often the tape was taken, this time included; 0 where it isn't told.
+    pub uses: u32,
 }
 
-/// The head of a dump's part. Id, initial, tape, part and volumes are at least 1, and initial is at most the id.
+/// The head of a dump's part. Id, initial, tape, part and volumes are at least 1, and initial is at most the id. A head
+/// with uses 0 has no cell and no permanent name, and is written in version 1; any other one is written in version 2.
 #[derive(Debug, Drop)]
 pub struct DumpHead {
     fields: DumpHeadFields,
@@ -64,6 +71,9 @@ impl DumpHeadFields {
             && 1 <= self.part
             && 1 <= self.volumes
             && self.base.bytes().len() <= 69
+            && is_maybe_host(self.cell.as_slice())
+            && is_maybe_tape_name(self.permanent.as_slice())
+            && (self.uses != 0 || (self.cell.is_empty() && self.permanent.is_empty()))
     }
 }
 
@@ -83,30 +93,45 @@ impl DumpHead {
     pub fn fields(&self) -> &DumpHeadFields
         ensures value { result.now ≡ self.now }
         ensures form { IsDumpHead self.now }
+        ensures fits { FitsDumpHead self.now }
     {
         &self.fields
     }
 
-    /// Writes its block. It takes no memory.
+    /// Its fields, taken out. It takes no memory.
+    pub fn into_fields(self) -> DumpHeadFields
+        ensures value { result ≡ self }
+        ensures fits { FitsDumpHead self }
+    {
+        let DumpHead { fields } = self;
+        fields
+    }
+
+    /// Writes its block, in version 1 where uses is 0 and in version 2 where it isn't. It takes no memory.
     pub fn encode(&self, into: &mut Block)
-        ensures { into.new ≡ block_of kinds.DumpHead (dump_head_values self.now) }
+        ensures block { into.new ≡ dump_head_block self.now }
+        ensures fits { FitsDumpHead self.now }
     {
         let a = &self.fields;
-        write_frame(
-            into,
-            Kind::DumpHead,
-            &[
-                Item::Number(a.id),
-                Item::Number(a.initial),
-                Item::Number(a.parent),
-                Item::Number(a.expires),
-                Item::Number(a.tape),
-                Item::Number(a.part),
-                Item::Number(a.volumes),
-                Item::Word(a.set.bytes()),
-                Item::Path(a.level.bytes()),
-                Item::Word(a.base.bytes()),
-            ],
-        );
+        let items = [
+            Item::Number(a.id),
+            Item::Number(a.initial),
+            Item::Number(a.parent),
+            Item::Number(a.expires),
+            Item::Number(a.tape),
+            Item::Number(a.part),
+            Item::Number(a.volumes),
+            Item::Word(a.set.bytes()),
+            Item::Path(a.level.bytes()),
+            Item::Word(a.base.bytes()),
+            Item::Word(a.cell.as_slice()),
+            Item::Word(a.permanent.as_slice()),
+            Item::Number(a.uses),
+        ];
+        if a.uses == 0 {
+            write_frame(into, Kind::PlainHead, &items[..10]);
+        } else {
+            write_frame(into, Kind::DumpHead, &items);
+        }
     }
 }

@@ -1,7 +1,7 @@
 //! The frames.
 
 ghost use Rattle.std.specs.Prelude.{◌≡◌};
-ghost use Rattle.tape_frames.specs.Frames.{spelling};
+ghost use Rattle.tape_frames.specs.Frames.{Fits, spelling};
 
 use crate::data::Data;
 use crate::dump_end::DumpEnd;
@@ -31,7 +31,8 @@ pub enum Frame {
 impl Frame {
     /// Writes its block. It takes no memory.
     pub fn encode(&self, into: &mut Block)
-        ensures { into.new ≡ spelling self.now }
+        ensures block { into.new ≡ spelling self.now }
+        ensures fits { Fits self.now }
     {
         match self {
             Frame::Label(a) => a.encode(into),

@@ -1,19 +1,23 @@
 //! The first eight bytes of a block.
 
-ghost use Rattle.std.specs.Prelude.{◌≡◌, length, take, MatchOption, MatchResult};
+ghost use Rattle.std.specs.Prelude.{◌≡◌, ◌↔◌, length, take, IsTrue, MatchOption, MatchResult};
 ghost use Rattle.tape_frames.specs.declared.row.Kind.{Kind as AnyKind};
-ghost use Rattle.tape_frames.specs.Rows.{code, head};
+ghost use Rattle.tape_frames.specs.Rows.{version, code, head};
 ghost use Rattle.tape_frames.specs.Heads.{HeadSticks, Differs};
 
 use crate::row::{Kind, head_of};
 use crate::writing::Block;
 
-/// The kind of this number, and any kind where there is none.
-fn likely_kind(number: u8) -> Kind
-    ensures { (kind : AnyKind) → code kind ≡ number → code result ≡ number }
+/// A kind whose head has as much of this version and this number as any has.
+fn likely_kind(stated: u8, number: u8) -> Kind
+    ensures version { (kind : AnyKind) → version kind ≡ stated → version result ≡ stated }
+    ensures code { (kind : AnyKind) → version kind ≡ stated → code kind ≡ number → code result ≡ number }
 {
+    if stated == 2 {
+        return Kind::DumpHead;
+    }
     match number {
-        2 => Kind::DumpHead,
+        2 => Kind::PlainHead,
         3 => Kind::VolHead,
         4 => Kind::Data,
         5 => Kind::VolEnd,
@@ -35,13 +39,23 @@ fn first_difference(a: &[u8], b: &[u8]) -> Option<usize>
     None
 }
 
-/// The kind of a block by its first eight bytes; else the first of them that no kind has there.
+/// The kind of a block by its first eight bytes; else the first of them with which no kind's head goes on.
 pub fn read_head(block: &Block) -> Result<Kind, usize>
     ensures { MatchResult result (λ kind. take 8 block.now ≡ head kind) (λ at. HeadSticks block.now at) }
 {
-    let kind = likely_kind(block[5]);
+    let kind = likely_kind(block[4], block[5]);
     match first_difference(&head_of(kind), &block[..8]) {
         Some(at) => Err(at),
         None => Ok(kind),
+    }
+}
+
+/// Whether a block begins with a kind's head.
+pub fn has_head(kind: Kind, block: &Block) -> bool
+    ensures { IsTrue result ↔ (take 8 block.now ≡ head kind) }
+{
+    match first_difference(&head_of(kind), &block[..8]) {
+        Some(_) => false,
+        None => true,
     }
 }

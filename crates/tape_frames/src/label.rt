@@ -1,14 +1,14 @@
 //! The label of a tape.
 
 ghost use Rattle.std.specs.Prelude.{◌≡◌, ◌↔◌, IsTrue};
-ghost use Rattle.tape_frames.specs.declared.row.Kind.TheVariants as kinds;
 ghost use Rattle.tape_frames.specs.Blocks.{block_of};
-ghost use Rattle.tape_frames.specs.Layouts.{label_values, IsLabel, IsMaybeName};
+ghost use Rattle.tape_frames.specs.Layouts.{label_bytes, FitsLabel, IsLabel};
 
 use crate::item::Item;
+use crate::maybe::is_maybe_tape_name;
 use crate::row::Kind;
 use crate::writing::{Block, write_frame};
-use bk_text::{Bytes, TapeName};
+use bk_text::Bytes;
 use std::marker::Model;
 
 /// The fields of a label, in the order of its block.
@@ -41,20 +41,13 @@ impl Model for Label {
     ghost invariant = { λ a. FitsLabel a.fields };
 }
 
-/// Whether these bytes are a tape's name, or none.
-fn is_maybe_name(bytes: &[u8]) -> bool
-    ensures { IsTrue result ↔ IsMaybeName bytes.now }
-{
-    TapeName::is_tape_name(bytes) || bytes.is_empty()
-}
-
 impl LabelFields {
     /// Whether a label may have these fields.
     pub fn is_label(&self) -> bool
         ensures { IsTrue result ↔ IsLabel self.now }
     {
-        is_maybe_name(self.afs.as_slice())
-            && is_maybe_name(self.permanent.as_slice())
+        is_maybe_tape_name(self.afs.as_slice())
+            && is_maybe_tape_name(self.permanent.as_slice())
             && ((self.initial == 0 && self.tape == 0)
                 || (self.initial != 0 && self.tape != 0 && !self.afs.is_empty()))
     }
@@ -73,13 +66,24 @@ impl Label {
     pub fn fields(&self) -> &LabelFields
         ensures value { result.now ≡ self.now }
         ensures form { IsLabel self.now }
+        ensures fits { FitsLabel self.now }
     {
         &self.fields
     }
 
+    /// Its fields, taken out. It takes no memory.
+    pub fn into_fields(self) -> LabelFields
+        ensures value { result ≡ self }
+        ensures fits { FitsLabel self }
+    {
+        let Label { fields } = self;
+        fields
+    }
+
     /// Writes its block. It takes no memory.
     pub fn encode(&self, into: &mut Block)
-        ensures { into.new ≡ block_of kinds.Label (label_values self.now) }
+        ensures block { into.new ≡ block_of 1 1 (label_bytes self.now) }
+        ensures fits { FitsLabel self.now }
     {
         let a = &self.fields;
         write_frame(

@@ -27,7 +27,8 @@ fn meets(least: u32, greatest: u32, low: u32, high: u32) -> bool
     low <= greatest && least <= high
 }
 
-/// The number at the front, if it lies in these bounds; else the first byte after which none that begins so does.
+/// The number at the front, if it lies in these bounds; else the first byte after which none that begins so does. It goes
+/// by std's `from_be_bytes`, since the place inside the number is told.
 fn read_number(low: u32, high: u32, rest: &[u8]) -> Result<u32, usize>
     requires room { 4 ≤ length rest.now }
     requires some { low ≤ high }

@@ -10,7 +10,9 @@ use crate::column::{Column, Text};
 pub enum Kind {
     /// Version 1, kind 1.
     Label,
-    /// Version 1, kind 2.
+    /// Version 1, kind 2: a dump's head that tells no uses.
+    PlainHead,
+    /// Version 2, kind 2.
     DumpHead,
     /// Version 1, kind 3.
     VolHead,
@@ -26,7 +28,20 @@ const LABEL: &[Column] = &[
     Column::Any,
     Column::LikeFirst,
     Column::NameLikeFirst,
-    Column::MaybeName,
+    Column::Maybe(Text::TapeName),
+];
+
+const PLAIN_HEAD: &[Column] = &[
+    Column::Positive,
+    Column::UpToFirst,
+    Column::Any,
+    Column::Any,
+    Column::Positive,
+    Column::Positive,
+    Column::Positive,
+    Column::Name(Text::SetName),
+    Column::Level,
+    Column::Name(Text::Base),
 ];
 
 const DUMP_HEAD: &[Column] = &[
@@ -40,6 +55,9 @@ const DUMP_HEAD: &[Column] = &[
     Column::Name(Text::SetName),
     Column::Level,
     Column::Name(Text::Base),
+    Column::Maybe(Text::Host),
+    Column::Maybe(Text::TapeName),
+    Column::Positive,
 ];
 
 const VOL_HEAD: &[Column] = &[
@@ -78,6 +96,7 @@ pub fn row_of(kind: Kind) -> &'static [Column]
 {
     match kind {
         Kind::Label => LABEL,
+        Kind::PlainHead => PLAIN_HEAD,
         Kind::DumpHead => DUMP_HEAD,
         Kind::VolHead => VOL_HEAD,
         Kind::Data => DATA,
@@ -90,13 +109,14 @@ pub fn row_of(kind: Kind) -> &'static [Column]
 pub fn head_of(kind: Kind) -> [u8; 8]
     ensures { result ≡ head kind }
 {
-    let code = match kind {
-        Kind::Label => 1,
-        Kind::DumpHead => 2,
-        Kind::VolHead => 3,
-        Kind::Data => 4,
-        Kind::VolEnd => 5,
-        Kind::DumpEnd => 6,
+    let (version, code) = match kind {
+        Kind::Label => (1, 1),
+        Kind::PlainHead => (1, 2),
+        Kind::DumpHead => (2, 2),
+        Kind::VolHead => (1, 3),
+        Kind::Data => (1, 4),
+        Kind::VolEnd => (1, 5),
+        Kind::DumpEnd => (1, 6),
     };
-    [b'A', b'F', b'S', b'T', 1, code, 0, 0]
+    [b'A', b'F', b'S', b'T', version, code, 0, 0]
 }

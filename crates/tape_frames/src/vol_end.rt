@@ -1,9 +1,8 @@
 //! The end of a volume's fragment on a tape.
 
 ghost use Rattle.std.specs.Prelude.{◌≡◌, ◌≤◌};
-ghost use Rattle.tape_frames.specs.declared.row.Kind.TheVariants as kinds;
 ghost use Rattle.tape_frames.specs.Blocks.{block_of};
-ghost use Rattle.tape_frames.specs.Layouts.{vol_end_values};
+ghost use Rattle.tape_frames.specs.Layouts.{vol_end_bytes, FitsVolEnd};
 
 use crate::item::Item;
 use crate::row::Kind;
@@ -54,14 +53,24 @@ impl VolEnd {
     /// Its fields.
     pub fn fields(&self) -> VolEndFields
         ensures value { result ≡ self.now }
-        ensures last { self.now.last ≤ 1 }
+        ensures fits { FitsVolEnd self.now }
     {
         self.fields
     }
 
+    /// Its fields, taken out. It takes no memory.
+    pub fn into_fields(self) -> VolEndFields
+        ensures value { result ≡ self }
+        ensures fits { FitsVolEnd self }
+    {
+        let VolEnd { fields } = self;
+        fields
+    }
+
     /// Writes its block. It takes no memory.
     pub fn encode(&self, into: &mut Block)
-        ensures { into.new ≡ block_of kinds.VolEnd (vol_end_values self.now) }
+        ensures block { into.new ≡ block_of 1 5 (vol_end_bytes self.now) }
+        ensures fits { FitsVolEnd self.now }
     {
         let a = &self.fields;
         write_frame(

@@ -1,9 +1,8 @@
 //! The head of a volume's fragment on a tape.
 
 ghost use Rattle.std.specs.Prelude.{◌≡◌, ◌≤◌};
-ghost use Rattle.tape_frames.specs.declared.row.Kind.TheVariants as kinds;
 ghost use Rattle.tape_frames.specs.Blocks.{block_of};
-ghost use Rattle.tape_frames.specs.Layouts.{vol_head_values};
+ghost use Rattle.tape_frames.specs.Layouts.{vol_head_bytes, FitsVolHead};
 
 use crate::item::Item;
 use crate::row::Kind;
@@ -66,14 +65,24 @@ impl VolHead {
     /// Its fields.
     pub fn fields(&self) -> &VolHeadFields
         ensures value { result.now ≡ self.now }
-        ensures fragment { 1 ≤ self.now.fragment }
+        ensures fits { FitsVolHead self.now }
     {
         &self.fields
     }
 
+    /// Its fields, taken out. It takes no memory.
+    pub fn into_fields(self) -> VolHeadFields
+        ensures value { result ≡ self }
+        ensures fits { FitsVolHead self }
+    {
+        let VolHead { fields } = self;
+        fields
+    }
+
     /// Writes its block. It takes no memory.
     pub fn encode(&self, into: &mut Block)
-        ensures { into.new ≡ block_of kinds.VolHead (vol_head_values self.now) }
+        ensures block { into.new ≡ block_of 1 3 (vol_head_bytes self.now) }
+        ensures fits { FitsVolHead self.now }
     {
         let a = &self.fields;
         write_frame(

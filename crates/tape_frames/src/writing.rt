@@ -5,10 +5,11 @@ ghost use Rattle.tape_frames.specs.Fields.{spelled, padded};
 ghost use Rattle.tape_frames.specs.Items.{field_of, IsShort};
 ghost use Rattle.tape_frames.specs.Columns.{Follows};
 ghost use Rattle.tape_frames.specs.Rows.{row};
-ghost use Rattle.tape_frames.specs.Blocks.{block_of};
+ghost use Rattle.tape_frames.specs.Tables.{row_block};
 
 use crate::item::{Item, len_of};
 use crate::row::{Kind, head_of};
+use bk_text::{bytes_of_u16, bytes_of_u32};
 
 /// The block of a frame, and of a tape's record.
 pub type Block = [u8; 16384];
@@ -28,13 +29,13 @@ fn put_item(block: &mut Block, at: usize, item: &Item)
     ensures { (written : List ℕ) → length written ≡ at → block.old ≡ padded 16384 written → block.new ≡ padded 16384 (written ++ spelled (field_of item.now)) }
 {
     match item {
-        Item::Number(n) => put(block, at, &n.to_be_bytes()),
+        Item::Number(n) => put(block, at, &bytes_of_u32(*n)),
         Item::Word(text) => {
             put(block, at, &[text.len() as u8]);
             put(block, at + 1, text);
         }
         Item::Path(text) => {
-            put(block, at, &(text.len() as u16).to_be_bytes());
+            put(block, at, &bytes_of_u16(text.len() as u16));
             put(block, at + 2, text);
         }
         Item::Blank(_) => {}
@@ -45,7 +46,7 @@ fn put_item(block: &mut Block, at: usize, item: &Item)
 /// Writes the block of these fields.
 pub fn write_frame(block: &mut Block, kind: Kind, items: &[Item])
     requires { Follows [] (row kind) (map field_of items.now) }
-    ensures { block.new ≡ block_of kind (map field_of items.now) }
+    ensures { block.new ≡ row_block kind (map field_of items.now) }
 {
     *block = [0; 16384];
     put(block, 0, &head_of(kind));

@@ -1,5 +1,5 @@
 use Rattle.std.proofs.Common.{◌≡◌, ◌+◌, ◌-◌, ◌≤◌, take, ℕ, List, [], ◌∷◌, ◌++◌, length, map, drop, get_or, sym, ap, subst, ◌∙◌, arith}
-use Rattle.std.proofs.lemmas.List.{map_push, take_rest}
+use Rattle.std.proofs.lemmas.List.{length-map, length-take-le, map_push, take_rest}
 use Rattle.tape_frames.specs.declared.item.Item.{Item}
 use Rattle.tape_frames.specs.declared.column.Column.TheVariants as columns
 use Rattle.tape_frames.specs.declared.column.Form.{Form}
@@ -7,6 +7,7 @@ use Rattle.tape_frames.specs.Fields.{Field, spelled}
 use Rattle.tape_frames.specs.Items.{field_of}
 use Rattle.tape_frames.specs.Columns.{form_at, form_size}
 use Rattle.tape_frames.specs.Sticks.{Reads, Sticks, IsFirstSet, IsBounded}
+use Rattle.tape_frames.proofs.Forms.{follows_length}
 use Rattle.tape_frames.proofs.Rests.{bounded, read_room, ReadSo, read_more, read_sticks, read_tail, field_small}
 use Rattle.tape_frames.proofs.reading.read_row.Goals as goal
 
@@ -36,6 +37,11 @@ len_of-at-requires c =
     = subst (λ (f : Form). Reads f (drop c.loop-column.at c.args.body.now) (field_of c.in-Ok.item)) form (subst (λ (x : List ℕ). Reads c.form_of.result x (field_of c.in-Ok.item)) (take_rest c.args.body.now c.loop-column.at) c.in-Ok.ensures) in
     omega (arith, field_small col fields (field_of c.in-Ok.item) is.0)
 
+pub push-requires : goal.push-requires
+push-requires c =
+    let i = c.loop-column.column-index in
+    omega (arith, length-map c.loop-column.items field_of, follows_length [] (take i c.args.row.now) (map field_of c.loop-column.items) c.loop-column.invariant.follows, length-take-le i c.args.row.now (omega (arith, c.loop-column-test.true)), c.loop-column-test.true, c.requires.few)
+
 pub returns-in-Err : goal.returns-in-Err
 returns-in-Err c =
     let col = get_or c.args.row.now c.loop-column.column-index columns.Any in
@@ -54,7 +60,7 @@ loop-column-preserved c =
     = subst (λ (f : Form). Reads f (drop c.loop-column.at c.args.body.now) (field_of c.in-Ok.item)) form (subst (λ (x : List ℕ). Reads c.form_of.result x (field_of c.in-Ok.item)) (take_rest c.args.body.now c.loop-column.at) c.in-Ok.ensures) in
     let next : ReadSo c.args.row.now (c.loop-column.column-index + 1) c.args.body.now (fields ++ field_of c.in-Ok.item ∷ []) (c.loop-column.at + length (spelled (field_of c.in-Ok.item)))
     = read_more c.args.row.now c.loop-column.column-index c.args.body.now fields c.loop-column.at columns.Any (field_of c.in-Ok.item) c.loop-column.invariant c.loop-column-test.true is in
-    let pushed : map field_of c.push.new.self ≡ fields ++ field_of c.in-Ok.item ∷ [] = ap (map field_of) c.in_ok-push-in-Ok.ensures.ok ∙ map_push field_of c.loop-column.items c.in-Ok.item in
+    let pushed : map field_of c.push.new.self ≡ fields ++ field_of c.in-Ok.item ∷ [] = ap (map field_of) c.push.ensures ∙ map_push field_of c.loop-column.items c.in-Ok.item in
     subst (λ (n : ℕ). ReadSo c.args.row.now (c.loop-column.column-index + 1) c.args.body.now (map field_of c.push.new.self) (c.loop-column.at + n)) (sym c.len_of-at.ensures)
     (subst (λ (x : List Field). ReadSo c.args.row.now (c.loop-column.column-index + 1) c.args.body.now x (c.loop-column.at + length (spelled (field_of c.in-Ok.item)))) (sym pushed) next)
 
