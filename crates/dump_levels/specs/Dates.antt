@@ -42,15 +42,15 @@ time_says at (word ∷ rest) = elim (minutes_of word) [ None ↦ Err (BadDate at
 -- The second that comes so long after a minute begins, and at the latest this one. A day before 1970 is out of range,
 -- where every word fits.
 abbrev pub moment_of : ℕ → ℕ → Day → Result ℕ DateFault → Result ℕ DateFault
-moment_of more most d (Err fault) = Err fault
-moment_of more most d (Ok minutes) =
+moment_of added latest d (Err fault) = Err fault
+moment_of added latest d (Ok minutes) =
     if nat_lt d.year 1970 then Err DateOutOfRange else
-    if nat_lt 2037 d.year then Ok most else Ok (second_of d minutes + more)
+    if nat_lt 2037 d.year then Ok latest else Ok (second_of d minutes + added)
 
 -- a day in words, from the word of this number on, and perhaps a time of day
 abbrev pub date_says : ℕ → ℕ → ℕ → List (List ℕ) → Result ℕ DateFault
-date_says at more most [] = Err (BadDate at)
-date_says at more most (word ∷ rest) = elim (day_of word) [ None ↦ Err (BadDate at) | Some d ↦ moment_of more most d (time_says (at + 1) rest) ]
+date_says at added latest [] = Err (BadDate at)
+date_says at added latest (word ∷ rest) = elim (day_of word) [ None ↦ Err (BadDate at) | Some d ↦ moment_of added latest d (time_says (at + 1) rest) ]
 
 -- A date for a restore: the first second after its minute, so that every dump of that minute counts. Past 2037 it is
 -- the first second of 2038.

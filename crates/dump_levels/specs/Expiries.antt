@@ -1,5 +1,5 @@
 -- Expirations as they are written in words.
-use Rattle.std.specs.Prelude.{ℕ, ◌+◌, ◌-◌, List, [], ◌∷◌, length, take, slice_index, Bool, ◌&&◌, ◌||◌, ◌==◌, nat_lt, is_some, if◌then◌else◌, Option, Some, None, Result, Ok, Err}
+use Rattle.std.specs.Prelude.{ℕ, ◌+◌, ◌-◌, List, [], ◌∷◌, length, take, slice_index, Bool, ◌&&◌, ◌||◌, ◌==◌, nat_lt, is_some, codes, if◌then◌else◌, Option, Some, None, Result, Ok, Err}
 use Rattle.std.specs.Char.{to_ascii_lowercase}
 use Rattle.bk_text.specs.declared.expiry.Expiry.{Expiry}
 use Rattle.bk_text.specs.declared.expiry.Expiry.TheVariants.{Never, At, In}
@@ -11,13 +11,13 @@ use Rattle.dump_levels.specs.Dates.{day_of, date_says}
 
 -- "at", "in" and "never"
 abbrev pub at_word : List ℕ
-at_word = 97 ∷ 116 ∷ []
+at_word = codes "at"
 
 abbrev pub in_word : List ℕ
-in_word = 105 ∷ 110 ∷ []
+in_word = codes "in"
 
 abbrev pub never_word : List ℕ
-never_word = 110 ∷ 101 ∷ 118 ∷ 101 ∷ 114 ∷ []
+never_word = codes "never"
 
 -- a number of this unit, where the letter behind it is the unit's; it is at least 1
 abbrev pub unit_amount : ℕ → ℕ → Option ℕ → Option ℕ

@@ -8,8 +8,12 @@ ghost use Rattle.dump_levels.specs.Calendar.{is_day};
 ghost use Rattle.dump_levels.specs.Dates.{is_slash, is_colon, real_day, day_of, real_minutes, minutes_of, time_says, moment_of, date_says, date_of};
 
 use crate::calendar::{Day, exists, second_at};
+use crate::spans::LAST_SECOND;
 use bk_text::{digits_in, place_of, split_word};
 use thiserror::Error;
+
+/// The seconds of a minute.
+const MINUTE: u32 = 60;
 
 /// Why a date or an expiration was refused.
 #[derive(Clone, Copy, Debug, PartialEq, Eq, Drop, Error)]
@@ -102,27 +106,28 @@ fn time_in(text: &[u8], at: usize) -> Result<u32, DateFault>
     Ok(minutes)
 }
 
-/// The second that comes so long after a minute begins, and past 2037 this one.
-fn moment_at(more: u32, most: u32, day: Day, minutes: u32) -> Result<u32, DateFault>
-    requires more { more ≤ 60 }
+/// The second that comes so long after a minute begins, and past 2037 the latest one.
+fn moment_at(added: u32, latest: u32, day: Day, minutes: u32) -> Result<u32, DateFault>
+    requires added { added ≤ 60 }
     requires real { IsTrue (is_day day) }
     requires minutes { minutes < 1440 }
-    ensures { result ≡ moment_of more most day (Ok minutes) }
+    ensures { result ≡ moment_of added latest day (Ok minutes) }
 {
     if day.year < 1970 {
         return Err(DateFault::DateOutOfRange);
     }
     if 2037 < day.year {
-        return Ok(most);
+        return Ok(latest);
     }
-    Ok(second_at(day, minutes) + more)
+    Ok(second_at(day, minutes) + added)
 }
 
-/// A day in words, from the word of this number on, and perhaps a time of day.
-pub fn date_in(text: &[u8], at: usize, more: u32, most: u32) -> Result<u32, DateFault>
+/// A day in words, from the word of this number on, and perhaps a time of day: the second that comes so long after that
+/// minute begins, and past 2037 the latest one.
+pub fn date_in(text: &[u8], at: usize, added: u32, latest: u32) -> Result<u32, DateFault>
     requires at { at < 100 }
-    requires more { more ≤ 60 }
-    ensures { result ≡ date_says at more most (words_of text.now) }
+    requires added { added ≤ 60 }
+    ensures { result ≡ date_says at added latest (words_of text.now) }
 {
     let Some((word, rest)) = split_word(text) else {
         return Err(DateFault::BadDate { at });
@@ -132,7 +137,7 @@ pub fn date_in(text: &[u8], at: usize, more: u32, most: u32) -> Result<u32, Date
     };
     match time_in(rest, at + 1) {
         Err(fault) => Err(fault),
-        Ok(minutes) => moment_at(more, most, day, minutes),
+        Ok(minutes) => moment_at(added, latest, day, minutes),
     }
 }
 
@@ -144,5 +149,5 @@ pub fn date_in(text: &[u8], at: usize, more: u32, most: u32) -> Result<u32, Date
 pub fn parse_date(text: &[u8]) -> Result<u32, DateFault>
     ensures { result ≡ date_of text.now }
 {
-    date_in(text, 0, 60, 2_145_916_800)
+    date_in(text, 0, MINUTE, LAST_SECOND + 1)
 }

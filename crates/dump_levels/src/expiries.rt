@@ -5,6 +5,7 @@ ghost use Rattle.bk_text.specs.Blanks.{words_of, is_same_word};
 ghost use Rattle.dump_levels.specs.Expiries.{at_word, in_word, never_word, amount_of, days_say, months_say, span_says, never_says, moment_says, begins_moment, expiry_of};
 
 use crate::dates::{DateFault, date_in, day_in};
+use crate::spans::LAST_SECOND;
 use bk_text::{Expiry, digits_in, split_word};
 
 fn is_at(word: &[u8]) -> bool
@@ -118,7 +119,7 @@ fn moment_in(text: &[u8], at: usize) -> Result<Expiry, DateFault>
     if is_never(word) {
         return never_in(rest, at + 1);
     }
-    match date_in(text, at, 0, 2_145_916_799) {
+    match date_in(text, at, 0, LAST_SECOND) {
         Err(fault) => Err(fault),
         Ok(second) => Ok(Expiry::At(second)),
     }

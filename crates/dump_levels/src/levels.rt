@@ -23,6 +23,17 @@ pub struct Level {
     pub expiry: Expiry,
 }
 
+impl Clone for Level {
+    ghost is_clone = { λ a b. b ≡ a };
+
+    fn clone(&self) -> Result<Level, AllocError> {
+        Ok(Level {
+            path: self.path.clone()?,
+            expiry: self.expiry,
+        })
+    }
+}
+
 /// Why a call on the levels was refused.
 #[derive(Clone, Copy, Debug, PartialEq, Eq, Drop, Error)]
 pub enum LevelFault {
@@ -131,6 +142,16 @@ impl Model for Levels {
     ghost view = { λ a. a.levels.items };
 }
 
+impl Clone for Levels {
+    ghost is_clone = { λ a b. b ≡ a };
+
+    fn clone(&self) -> Result<Levels, AllocError> {
+        Ok(Levels {
+            levels: self.levels.clone()?,
+        })
+    }
+}
+
 impl Levels {
     /// No levels. It takes no memory.
     pub fn new(alloc: Global) -> Levels
@@ -193,6 +214,13 @@ impl Levels {
             None => Err(LevelFault::NoSuchLevel),
             Some(expiry) => Ok(expires_at(created, expiry)),
         }
+    }
+
+    /// Whether there is a level of this path. It takes no memory.
+    pub fn has(&self, path: &LevelPath) -> bool
+        ensures { result ≡ has_level self.now path.now }
+    {
+        any_of_path(self.levels.as_slice(), path)
     }
 
     /// The levels in the order in which they were added. It takes no memory.

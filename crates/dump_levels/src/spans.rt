@@ -10,7 +10,10 @@ use jiff::tz::Offset;
 use jiff::{Error, Span, Timestamp};
 
 /// The last second of 2037, in seconds since 1970.
-const LAST_SECOND: u32 = 2_145_916_799;
+pub const LAST_SECOND: u32 = 2_145_916_799;
+
+/// More years than this lead past 2037 from any second since 1970, and no more of them are handed to the calendar.
+const MOST_YEARS: u16 = 100;
 
 /// So many years, months and days.
 fn span_of(years: u16, months: u16, days: u16) -> Span
@@ -39,13 +42,11 @@ fn second_after(created: u32, years: u16, months: u16, days: u16) -> Result<i64,
 fn after_span(created: u32, years: u16, months: u16, days: u16) -> u32
     ensures { result ≡ expires_at created (In years months days) }
 {
-    if 100 < years {
+    if MOST_YEARS < years {
         return LAST_SECOND;
     }
-    match second_after(created, years, months, days) {
-        Ok(second) => second.min(LAST_SECOND.into()) as u32,
-        Err(_) => LAST_SECOND,
-    }
+    let second = second_after(created, years, months, days).unwrap();
+    second.min(LAST_SECOND.into()) as u32
 }
 
 /// The second with which a dump expires that was created at this one.

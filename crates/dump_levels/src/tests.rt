@@ -192,3 +192,20 @@ fn paths_above_a_path(rt: HostRuntime) {
     assert!(rt; are_above(rt.alloc(), b"/full/d1", b"/full "));
     assert!(rt; are_above(rt.alloc(), b"/full/d1/d2", b"/full/d1 /full "));
 }
+
+/// Whether a copy of levels of these paths has this one, and stays when it is removed from the levels.
+fn is_kept_by_a_copy(alloc: Global, before: &[u8], text: &[u8]) -> Result<bool, AllocError> {
+    let mut levels = with_levels(alloc, before);
+    let copy = levels.clone()?;
+    let Ok(path) = LevelPath::parse(alloc, text) else {
+        return Ok(false);
+    };
+    let _answer = levels.remove(&path);
+    Ok(copy.has(&path) && !levels.has(&path))
+}
+
+#[test]
+fn copies_are_equal(rt: HostRuntime) {
+    let kept = is_kept_by_a_copy(rt.alloc(), b"/full /full/d1", b"/full");
+    assert!(rt; matches!(kept, Ok(true)));
+}
