@@ -1,11 +1,15 @@
 -- What the calls make of the volume sets, which stand in the order in which they were added.
-use Rattle.std.specs.Prelude.{◌≡◌, ℕ, zero, suc, ◌-◌, List, [], ◌∷◌, ◌++◌, length, Bool, ◌&&◌, nat_lt, nat_le, if◌then◌else◌, Result, Ok, Err}
-use Rattle.std.specs.List.{position_or_len, remove}
+use Rattle.std.specs.Prelude.{◌≡◌, ℕ, zero, suc, ◌-◌, List, [], ◌∷◌, ◌++◌, length, Bool, ◌&&◌, nat_lt, nat_le, map, if◌then◌else◌, Option, Some, None, Result, Ok, Err}
+use Rattle.std.specs.List.{position_or_len, remove, IsDistinct}
 use Rattle.bk_text.specs.Blanks.{is_same_text}
 use Rattle.volume_sets.specs.declared.sets.SetEntry.{SetEntry}
 use Rattle.volume_sets.specs.declared.sets.VolumeSet.{VolumeSet}
 use Rattle.volume_sets.specs.declared.sets.SetsFault.{SetsFault}
 use Rattle.volume_sets.specs.declared.sets.SetsFault.TheVariants.{SetExists, NoSuchSet, NoSuchEntry, Memory}
+
+-- a set, from what stands at its name
+abbrev pub set_of : List ℕ × List SetEntry → VolumeSet
+set_of e = record { name = e.0; entries = e.1 }
 
 abbrev pub is_named : List ℕ → VolumeSet → Bool
 is_named name set = is_same_text set.name name
@@ -23,6 +27,14 @@ abbrev pub entries_at : ℕ → List VolumeSet → List SetEntry
 entries_at at [] = []
 entries_at zero (set ∷ sets) = set.entries
 entries_at (suc n) (set ∷ sets) = entries_at n sets
+
+-- the entries of the set of a name
+abbrev pub entries_of : List ℕ → List VolumeSet → Option (List SetEntry)
+entries_of name sets = if has_set name sets then Some (entries_at (place_of name sets) sets) else None
+
+-- each name stands once
+abbrev pub NamesOnce : List VolumeSet → Type 0
+NamesOnce sets = IsDistinct is_same_text (map (λ set. set.name) sets)
 
 -- the set at a place gets these entries
 abbrev pub with_entries_at : ℕ → List SetEntry → List VolumeSet → List VolumeSet

@@ -1,17 +1,16 @@
 //! The volume sets, in the order in which they were added.
 
-ghost use Rattle.std.specs.Prelude.{◌≡◌, ◌<◌, ◌≤◌, ◌++◌, [], ◌∷◌, length, slice_index_or, OnOk, OnErr};
-ghost use Rattle.std.specs.List.{remove};
+ghost use Rattle.std.specs.Prelude.{◌≡◌, ◌<◌, ◌≤◌, ◌++◌, [], ◌∷◌, length, map, false, ◌&&◌, nat_lt, nat_le, slice_index_or, MatchOption, None, Some, OnOk, OnErr};
 ghost use Rattle.volume_sets.specs.Expansions.{Expands};
-ghost use Rattle.volume_sets.specs.Sets.{is_named, place_of, entries_at, with_entries_at, after_add, after_remove, after_add_entry, after_remove_entry, Changes, ChangesInMemory};
+ghost use Rattle.volume_sets.specs.Sets.{set_of, has_set, entries_at, entries_of, NamesOnce, after_add, after_remove, after_add_entry, after_remove_entry, Changes, ChangesInMemory};
 ghost use Rattle.volume_sets.specs.declared.sets.SetsFault.TheVariants.{Memory};
 
 use crate::expanding::places_in;
 use crate::patterns::Pattern;
 use bk_text::{Host, List, Part, SetName};
+use indexmap::IndexMap;
 use std::alloc::{AllocError, Global};
 use std::marker::Model;
-use std::mem;
 use thiserror::Error;
 use vnode_model::VolEntry;
 
@@ -24,6 +23,18 @@ pub struct SetEntry {
     pub partition: Option<Part>,
     /// The pattern for the whole name of the volume.
     pub pattern: Pattern,
+}
+
+impl Clone for SetEntry {
+    ghost is_clone = { λ a b. b ≡ a };
+
+    fn clone(&self) -> Result<SetEntry, AllocError> {
+        Ok(SetEntry {
+            server: self.server.clone()?,
+            partition: self.partition.clone()?,
+            pattern: self.pattern.clone()?,
+        })
+    }
 }
 
 /// A volume set: it has the volumes that some entry has.
@@ -60,84 +71,57 @@ impl From<AllocError> for SetsFault {
     }
 }
 
-/// Whether a set has this name.
-fn is_of_name(set: &VolumeSet, name: &SetName) -> bool
-    ensures { result ≡ is_named name.now set.now }
+/// The sets by their names, in the order in which they were added.
+type ByName = IndexMap<SetName, List<SetEntry>>;
+
+/// Whether there is a set of this name.
+fn has_name(sets: &ByName, name: &SetName) -> bool
+    ensures { result ≡ has_set name.now (map set_of sets.now.entries) }
 {
-    set.name.bytes() == name.bytes()
+    sets.contains_key(name)
 }
 
-/// The place of the set of this name; their number where there is none.
-fn place_in(sets: &[VolumeSet], name: &SetName) -> usize
-    ensures { result ≡ place_of name.now sets.now }
+/// Puts a set without entries behind those that are there, where there is none of its name.
+fn put_last(sets: &mut ByName, name: SetName, entries: List<SetEntry>) -> Result<(), AllocError>
+    requires { has_set name (map set_of sets.old.entries) ≡ false }
+    ensures ok { OnOk result (map set_of sets.new.entries ≡ map set_of sets.old.entries ++ record { name = name; entries = entries } ∷ []) }
+    ensures err { OnErr result (map set_of sets.new.entries ≡ map set_of sets.old.entries) }
 {
-    for (at, set) in sets.iter().enumerate() {
-        if is_of_name(set, name) {
-            return at;
-        }
-    }
-    sets.len()
-}
-
-/// Puts a set behind those that are there.
-fn put_last(sets: &mut Vec<VolumeSet>, set: VolumeSet) -> Result<(), AllocError>
-    ensures ok { OnOk result (sets.new.items ≡ sets.old.items ++ set ∷ []) }
-    ensures err { OnErr result (sets.new.items ≡ sets.old.items) }
-{
-    sets.push(set)?;
+    sets.insert(name, entries)?;
     Ok(())
 }
 
-/// Puts an entry behind those of the set at a place.
-fn put_entry(sets: &mut [VolumeSet], at: usize, entry: SetEntry) -> Result<(), AllocError>
-    requires { at < length sets.old }
-    ensures ok { OnOk result (sets.new ≡ with_entries_at at (entries_at at sets.old ++ entry ∷ []) sets.old) }
-    ensures err { OnErr result (sets.new ≡ sets.old) }
+/// Whether one of so many has this number; they count from 1.
+fn is_among(number: u32, count: usize) -> bool
+    ensures { result ≡ (nat_lt 0 number && nat_le number count) }
 {
-    sets[at].entries.push(entry)?;
-    Ok(())
-}
-
-/// Takes an element out of a list; those behind it close up.
-fn take_out(alloc: Global, entries: &mut List<SetEntry>, at: usize)
-    requires { at < length entries.old }
-    ensures { entries.new ≡ remove entries.old at }
-{
-    let mut items = mem::replace(entries, List::new(alloc)).into_vec();
-    let _entry = items.remove(at);
-    *entries = List::from_vec(items);
-}
-
-/// Takes an entry out of the set at a place.
-fn take_entry(alloc: Global, sets: &mut [VolumeSet], at: usize, entry: usize)
-    requires set { at < length sets.old }
-    requires entry { entry < length (entries_at at sets.old) }
-    ensures { sets.new ≡ with_entries_at at (remove (entries_at at sets.old) entry) sets.old }
-{
-    take_out(alloc, &mut sets[at].entries, entry);
-}
-
-/// The entries of the set at a place.
-fn entries_in(sets: &[VolumeSet], at: usize) -> &[SetEntry]
-    requires { at < length sets.now }
-    ensures { result.now ≡ entries_at at sets.now }
-{
-    sets[at].entries.as_slice()
+    0 < number && number as usize <= count
 }
 
 /// The volume sets of a cell, each name once, in the order in which they were added.
 #[derive(Debug, Drop)]
 pub struct Sets {
-    sets: Vec<VolumeSet>,
+    sets: ByName,
 }
 
 impl Model for Sets {
-    ghost use Rattle.std.specs.Prelude.{List};
+    ghost use Rattle.std.specs.Prelude.{List, map};
     ghost use Rattle.volume_sets.specs.declared.sets.VolumeSet.{VolumeSet};
+    ghost use Rattle.volume_sets.specs.Sets.{set_of};
 
     ghost Value = { List VolumeSet };
 
-    ghost view = { λ a. a.sets.items };
+    ghost view = { λ a. map set_of a.sets.entries };
+}
+
+impl Clone for Sets {
+    ghost is_clone = { λ a b. b ≡ a };
+
+    fn clone(&self) -> Result<Sets, AllocError> {
+        Ok(Sets {
+            sets: self.sets.clone()?,
+        })
+    }
 }
 
 impl Sets {
@@ -146,7 +130,7 @@ impl Sets {
         ensures { result ≡ [] }
     {
         Sets {
-            sets: Vec::new(alloc),
+            sets: IndexMap::new(alloc),
         }
     }
 
@@ -154,11 +138,11 @@ impl Sets {
     pub fn add(&mut self, name: SetName) -> Result<(), SetsFault>
         ensures { ChangesInMemory (after_add name self.old) self.old result self.new }
     {
-        if place_in(self.sets.as_slice(), &name) < self.sets.len() {
+        if has_name(&self.sets, &name) {
             return Err(SetsFault::SetExists);
         }
         let entries = List::new(*self.sets.allocator());
-        put_last(&mut self.sets, VolumeSet { name, entries })?;
+        put_last(&mut self.sets, name, entries)?;
         Ok(())
     }
 
@@ -166,23 +150,20 @@ impl Sets {
     pub fn remove(&mut self, name: &SetName) -> Result<(), SetsFault>
         ensures { Changes (after_remove name.now self.old) self.old result self.new }
     {
-        let at = place_in(self.sets.as_slice(), name);
-        if self.sets.len() <= at {
-            return Err(SetsFault::NoSuchSet);
+        match self.sets.shift_remove(name) {
+            None => Err(SetsFault::NoSuchSet),
+            Some(_) => Ok(()),
         }
-        let _set = self.sets.remove(at);
-        Ok(())
     }
 
     /// Adds an entry behind those that a set has. `NoSuchSet` where there is none of this name.
     pub fn add_entry(&mut self, name: &SetName, entry: SetEntry) -> Result<(), SetsFault>
         ensures { ChangesInMemory (after_add_entry name.now entry self.old) self.old result self.new }
     {
-        let at = place_in(self.sets.as_slice(), name);
-        if self.sets.len() <= at {
+        let Some(entries) = self.sets.get_mut(name) else {
             return Err(SetsFault::NoSuchSet);
-        }
-        put_entry(self.sets.as_mut_slice(), at, entry)?;
+        };
+        entries.push(entry)?;
         Ok(())
     }
 
@@ -191,16 +172,13 @@ impl Sets {
     pub fn remove_entry(&mut self, name: &SetName, number: u32) -> Result<(), SetsFault>
         ensures { Changes (after_remove_entry name.now number self.old) self.old result self.new }
     {
-        let at = place_in(self.sets.as_slice(), name);
-        if self.sets.len() <= at {
+        let Some(entries) = self.sets.get_mut(name) else {
             return Err(SetsFault::NoSuchSet);
-        }
-        let count = entries_in(self.sets.as_slice(), at).len();
-        if !(0 < number && number as usize <= count) {
+        };
+        if !is_among(number, entries.len()) {
             return Err(SetsFault::NoSuchEntry);
         }
-        let alloc = *self.sets.allocator();
-        take_entry(alloc, self.sets.as_mut_slice(), at, number as usize - 1);
+        let _entry = entries.remove(number as usize - 1);
         Ok(())
     }
 
@@ -211,12 +189,10 @@ impl Sets {
         requires { length cell.now ≤ 65536 }
         ensures { Expands self.now name.now cell.now result }
     {
-        let at = place_in(self.sets.as_slice(), name);
-        if self.sets.len() <= at {
+        let Some(entries) = self.sets.get(name) else {
             return Err(SetsFault::NoSuchSet);
-        }
-        let entries = entries_in(self.sets.as_slice(), at);
-        let places = places_in(*self.sets.allocator(), entries, cell)?;
+        };
+        let places = places_in(*self.sets.allocator(), entries.as_slice(), cell)?;
         Ok(places)
     }
 
@@ -232,12 +208,24 @@ impl Sets {
         self.sets.len()
     }
 
+    /// The entries of the set of a name, in the order in which they were added; `None` where there is none of this name.
+    pub fn entries_of(&self, name: &SetName) -> Option<&[SetEntry]>
+        ensures once { NamesOnce self.now }
+        ensures entries { MatchOption result (entries_of name.now self.now ≡ None) (λ entries. entries_of name.now self.now ≡ Some entries.now) }
+    {
+        let _count = self.sets.len();
+        let Some(entries) = self.sets.get(name) else {
+            return None;
+        };
+        Some(entries.as_slice())
+    }
+
     /// The name of the set at a place.
     pub fn name_at(&self, i: usize) -> &SetName
         requires { i < length self.now }
         ensures { (d : VolumeSet) → result.now ≡ (slice_index_or self.now i d).name }
     {
-        &self.sets[i].name
+        self.sets.get_index(i).unwrap().0
     }
 
     /// The entries of the set at a place, in the order in which they were added.
@@ -245,6 +233,6 @@ impl Sets {
         requires { i < length self.now }
         ensures { result.now ≡ entries_at i self.now }
     {
-        entries_in(self.sets.as_slice(), i)
+        self.sets[i].as_slice()
     }
 }
