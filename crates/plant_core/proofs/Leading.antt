@@ -13,10 +13,11 @@ use Rattle.plant_core.specs.declared.mem.MemPlant.{MemPlant}
 use Rattle.plant_core.specs.declared.stored.Stored.TheVariants.{Mark}
 use Rattle.plant_core.specs.Records.{Record, mark, bad}
 use Rattle.plant_core.specs.Stock.{Stock}
-use Rattle.plant_core.specs.Steps.{Same, AtLog, OldOr, AtTape, IsTorn, MayGain, MayKeep, MaySettle, TellsTo}
-use Rattle.plant_core.specs.Past.{State, blank, happens, after, LeftIn, IsLeft, GainsPut, GainsBytes}
-use Rattle.plant_core.specs.Kept.{IsWithin, always_within, put_within}
-use Rattle.plant_core.specs.Shown.{events_of, state_of, seen_of, settled_of}
+use Rattle.plant_core.specs.Crashes.{State, IsTorn, IsWithin, LeftIn, blank}
+use Rattle.plant_core.specs.Steps.{Same, OldOr, AtTape, MayGain, MayKeep, MaySettle, TellsTo}
+use Rattle.plant_core.specs.Past.{happens, after, IsLeft, GainsPut, GainsBytes}
+use Rattle.plant_core.specs.Kept.{always_within, put_within}
+use Rattle.plant_core.specs.Shown.{events_of, state_of}
 
 -- one event more
 pub after-push : (es : List Event) (e : Event) (s : State) → after (es ++ e ∷ []) s ≡ happens e (after es s)
@@ -73,8 +74,8 @@ before_step s k c Is is = record {
 }
 
 -- one tape may have changed so
-at_tape : (old : MemPlant) (k : ℕ) (c : Stock) (Is : List Record → Type 0) → c.log ≡ take (state_of old).log_settled (state_of old).log → IsFront c.told (state_of old).told
-    → ((j : ℕ) → j ≢ k → IsTorn (settled_of old j) ((state_of old).tape j) (c.tape j)) → Is (c.tape k) → Stepped (history events_of IsLeft) old (AtTape k Is) c
+at_tape : (old : MemPlant) (k : ℕ) (c : Stock) (Is : List Record → Type 0) → c.log ≡ Some (take (state_of old).log_settled (state_of old).log) → IsFront c.told (state_of old).told
+    → ((j : ℕ) → j ≢ k → IsTorn ((state_of old).settled j) ((state_of old).tape j) (c.tape j)) → Is (c.tape k) → Stepped (history events_of IsLeft) old (AtTape k Is) c
 at_tape old k c Is log told torn is =
     let s = state_of old in
     record {
@@ -98,13 +99,13 @@ same_leads old new Step same stays =
     }
 
 -- a record is put
-put_image : (old : MemPlant) (k : ℕ) (r : Record) (c : Stock) (s : State) → s ≡ state_of old → c.log ≡ take s.log_settled s.log → IsFront c.told s.told
+put_image : (old : MemPlant) (k : ℕ) (r : Record) (c : Stock) (s : State) → s ≡ state_of old → c.log ≡ Some (take s.log_settled s.log) → IsFront c.told s.told
     → ((j : ℕ) → IsTorn (s.settled j) (if j == k then s.tape j ++ r ∷ [] else s.tape j) (c.tape j))
-    → Stepped (history events_of IsLeft) old (MayGain r (settled_of old) k (seen_of old)) c
+    → Stepped (history events_of IsLeft) old (MayGain r k (state_of old)) c
 put_image old k r c s is log told torn =
     let t = state_of old in
-    at_tape old k c (IsTorn (settled_of old k) ((seen_of old).tape k ++ r ∷ []))
-    (subst (λ (s : State). c.log ≡ take s.log_settled s.log) is log)
+    at_tape old k c (IsTorn ((state_of old).settled k) ((state_of old).tape k ++ r ∷ []))
+    (subst (λ (s : State). c.log ≡ Some (take s.log_settled s.log)) is log)
     (subst (λ (s : State). IsFront c.told s.told) is told)
     (λ j other. subst (λ (l : List Record). IsTorn (t.settled j) l (c.tape j)) (if_other j k (t.tape j ++ r ∷ []) (t.tape j) other) (moved j))
     (subst (λ (l : List Record). IsTorn (t.settled k) l (c.tape k)) (if_here k k (t.tape k ++ r ∷ []) (t.tape k) refl) (moved k))
@@ -112,16 +113,16 @@ put_image old k r c s is log told torn =
     moved : (j : ℕ) → IsTorn ((state_of old).settled j) (if j == k then (state_of old).tape j ++ r ∷ [] else (state_of old).tape j) (c.tape j)
     moved j = subst (λ (s : State). IsTorn (s.settled j) (if j == k then s.tape j ++ r ∷ [] else s.tape j) (c.tape j)) is (torn j)
 
-pub put_leads : (old new : MemPlant) (k : ℕ) (r : Record) → GainsPut (events_of old) (events_of new) k r → Leads (history events_of IsLeft) old new (MayGain r (settled_of old) k (seen_of old))
-put_leads old new k r gains = one_event events_of IsLeft old new (Put k gains.kept) (MayGain r (settled_of old) k (seen_of old)) gains.more (λ c left.
+pub put_leads : (old new : MemPlant) (k : ℕ) (r : Record) → GainsPut (events_of old) (events_of new) k r → Leads (history events_of IsLeft) old new (MayGain r k (state_of old))
+put_leads old new k r gains = one_event events_of IsLeft old new (Put k gains.kept) (MayGain r k (state_of old)) gains.more (λ c left.
     let l = left_after (events_of old) (Put k gains.kept) c left in
     let s = state_of old in
     put_image old k r c s refl l.log l.told (λ j. subst (λ (x : Record). IsTorn (s.settled j) (if j == k then s.tape j ++ x ∷ [] else s.tape j) (c.tape j)) gains.is (l.tapes j)))
 
 -- while a record is put, nothing was asked
-pub put_stays : (old new : MemPlant) (k : ℕ) (r : Record) → events_of new ≡ events_of old → Leads (history events_of IsLeft) old new (MayGain r (settled_of old) k (seen_of old))
-put_stays old new k r same = same_leads old new (MayGain r (settled_of old) k (seen_of old)) same (λ c left. record {
-  here = torn_more (settled_of old k) ((seen_of old).tape k) r (c.tape k) (left.tapes k);
+pub put_stays : (old new : MemPlant) (k : ℕ) (r : Record) → events_of new ≡ events_of old → Leads (history events_of IsLeft) old new (MayGain r k (state_of old))
+put_stays old new k r same = same_leads old new (MayGain r k (state_of old)) same (λ c left. record {
+  here = torn_more ((state_of old).settled k) ((state_of old).tape k) r (c.tape k) (left.tapes k);
   others = λ j other. refl;
   log = refl;
   told = refl;
@@ -173,8 +174,8 @@ lower_where true n whole tape le torn = torn_lower n (length whole) whole tape l
 lower_where false n whole tape le torn = torn
 
 -- a mark is put, and then the tape is settled
-pub mark_leads : (old new : MemPlant) (k : ℕ) → events_of new ≡ events_of old ++ Put k Mark ∷ [] ++ Settle k ∷ [] → Leads (history events_of IsLeft) old new (MayGain mark (settled_of old) k (seen_of old))
-mark_leads old new k more = two_events events_of IsLeft old new (Put k Mark) (Settle k) (MayGain mark (settled_of old) k (seen_of old)) more
+pub mark_leads : (old new : MemPlant) (k : ℕ) → events_of new ≡ events_of old ++ Put k Mark ∷ [] ++ Settle k ∷ [] → Leads (history events_of IsLeft) old new (MayGain mark k (state_of old))
+mark_leads old new k more = two_events events_of IsLeft old new (Put k Mark) (Settle k) (MayGain mark k (state_of old)) more
     (λ c left. let l = left_after (events_of old) (Put k Mark) c left in put_image old k mark c (state_of old) refl l.log l.told l.tapes)
     (λ c left.
     let s = state_of old in
@@ -184,26 +185,26 @@ mark_leads old new k more = two_events events_of IsLeft old new (Put k Mark) (Se
     lower_where (j == k) (s.settled j) (if j == k then s.tape j ++ mark ∷ [] else s.tape j) (c.tape j) (put_within (j == k) (s.settled j) (s.tape j) mark (w.tapes j)) (l.tapes j)))
 
 -- a tape is cut
-pub cut_leads : (old new : MemPlant) (k n : ℕ) → events_of new ≡ events_of old ++ Cut k n ∷ [] → Leads (history events_of IsLeft) old new (MayKeep n (settled_of old) k (seen_of old))
-cut_leads old new k n more = one_event events_of IsLeft old new (Cut k n) (MayKeep n (settled_of old) k (seen_of old)) more (λ c left.
+pub cut_leads : (old new : MemPlant) (k n : ℕ) → events_of new ≡ events_of old ++ Cut k n ∷ [] → Leads (history events_of IsLeft) old new (MayKeep n k (state_of old))
+cut_leads old new k n more = one_event events_of IsLeft old new (Cut k n) (MayKeep n k (state_of old)) more (λ c left.
     let s = state_of old in
     let l = left_after (events_of old) (Cut k n) c left in
-    at_tape old k c (λ tape. IsTorn (settled_of old k) ((seen_of old).tape k) tape ⊎ (tape ≡ take n ((seen_of old).tape k))) l.log l.told
+    at_tape old k c (λ tape. IsTorn ((state_of old).settled k) ((state_of old).tape k) tape ⊎ (tape ≡ take n ((state_of old).tape k))) l.log l.told
     (λ j other. subst (λ (m : ℕ). IsTorn m (s.tape j) (c.tape j)) (if_other j k (length (take n (s.tape j))) (s.settled j) other)
     (subst (λ (t : List Record). IsTorn (if j == k then length (take n (s.tape j)) else s.settled j) t (c.tape j)) (if_other j k (take n (s.tape j)) (s.tape j) other) (l.tapes j)))
     (inr (torn_whole (take n (s.tape k)) (c.tape k) (subst (λ (m : ℕ). IsTorn m (take n (s.tape k)) (c.tape k)) (if_here k k (length (take n (s.tape k))) (s.settled k) refl)
     (subst (λ (t : List Record). IsTorn (if k == k then length (take n (s.tape k)) else s.settled k) t (c.tape k)) (if_here k k (take n (s.tape k)) (s.tape k) refl) (l.tapes k))))))
 
-pub cut_stays : (old new : MemPlant) (k n : ℕ) → events_of new ≡ events_of old → Leads (history events_of IsLeft) old new (MayKeep n (settled_of old) k (seen_of old))
-cut_stays old new k n same = same_leads old new (MayKeep n (settled_of old) k (seen_of old)) same (λ c left. record { here = inl (left.tapes k); others = λ j other. refl; log = refl; told = refl })
+pub cut_stays : (old new : MemPlant) (k n : ℕ) → events_of new ≡ events_of old → Leads (history events_of IsLeft) old new (MayKeep n k (state_of old))
+cut_stays old new k n same = same_leads old new (MayKeep n k (state_of old)) same (λ c left. record { here = inl (left.tapes k); others = λ j other. refl; log = refl; told = refl })
 
 -- another tape is loaded
 pub same_slot : (loaded : Option ℕ) (j k : ℕ) → loaded ≡ Some k → loaded ≡ Some j → j ≡ k
 same_slot loaded j k is is' = let e : Some j ≡ Some k = sym is' ∙ is in cc
 
 settle_leads : (old new : MemPlant) (loaded : Option ℕ) (k slot : ℕ) → loaded ≡ Some k → k ≢ slot → events_of new ≡ events_of old ++ Settle k ∷ []
-    → Leads (history events_of IsLeft) old new (MaySettle loaded slot (settled_of old) (seen_of old))
-settle_leads old new loaded k slot is ne more = one_event events_of IsLeft old new (Settle k) (MaySettle loaded slot (settled_of old) (seen_of old)) more (λ c left.
+    → Leads (history events_of IsLeft) old new (MaySettle loaded slot (state_of old))
+settle_leads old new loaded k slot is ne more = one_event events_of IsLeft old new (Settle k) (MaySettle loaded slot (state_of old)) more (λ c left.
     let s = state_of old in
     let w = always_within (events_of old) in
     let l = left_after (events_of old) (Settle k) c left in
@@ -219,11 +220,11 @@ settle_leads old new loaded k slot is ne more = one_event events_of IsLeft old n
       };
     })
 
-settle_stays : (old new : MemPlant) (loaded : Option ℕ) (slot : ℕ) → events_of new ≡ events_of old → Leads (history events_of IsLeft) old new (MaySettle loaded slot (settled_of old) (seen_of old))
-settle_stays old new loaded slot same = same_leads old new (MaySettle loaded slot (settled_of old) (seen_of old)) same (λ c left. record { away = λ j away. left.tapes j; others = λ j not_away. refl; log = refl; told = refl })
+settle_stays : (old new : MemPlant) (loaded : Option ℕ) (slot : ℕ) → events_of new ≡ events_of old → Leads (history events_of IsLeft) old new (MaySettle loaded slot (state_of old))
+settle_stays old new loaded slot same = same_leads old new (MaySettle loaded slot (state_of old)) same (λ c left. record { away = λ j away. left.tapes j; others = λ j not_away. refl; log = refl; told = refl })
 
 pub settles_leads : (old new : MemPlant) (loaded : Option ℕ) (k slot : ℕ) → loaded ≡ Some k → k ≢ slot → (events_of new ≡ events_of old) ⊎ (events_of new ≡ events_of old ++ Settle k ∷ [])
-    → Leads (history events_of IsLeft) old new (MaySettle loaded slot (settled_of old) (seen_of old))
+    → Leads (history events_of IsLeft) old new (MaySettle loaded slot (state_of old))
 settles_leads old new loaded k slot is ne (inl same) = settle_stays old new loaded slot same
 settles_leads old new loaded k slot is ne (inr more) = settle_leads old new loaded k slot is ne more
 
@@ -235,7 +236,7 @@ log_put_leads old new bytes gains = one_event events_of IsLeft old new (LogPut g
     let l = left_after (events_of old) (LogPut gains.kept) c left in
     record {
       from = c;
-      was = record { log = l.log ∙ take-append-le s.log_settled s.log gains.kept.items w.log; tapes = l.tapes; told = l.told };
+      was = record { log = l.log ∙ ap (λ (x : List ℕ). Some x) (take-append-le s.log_settled s.log gains.kept.items w.log); tapes = l.tapes; told = l.told };
       step = refl;
     })
 
@@ -243,29 +244,29 @@ pub same_stays : (old new : MemPlant) → events_of new ≡ events_of old → Le
 same_stays old new same = same_leads old new Same same (λ c left. refl)
 
 -- the log is settled or replaced
-new_log : (old : MemPlant) (log : List ℕ) (c : Stock) → c.log ≡ log → ((j : ℕ) → IsTorn (settled_of old j) ((state_of old).tape j) (c.tape j)) → IsFront c.told (state_of old).told
-    → Stepped (history events_of IsLeft) old (AtLog (OldOr log)) c
+new_log : (old : MemPlant) (log : List ℕ) (c : Stock) → c.log ≡ Some log → ((j : ℕ) → IsTorn ((state_of old).settled j) ((state_of old).tape j) (c.tape j)) → IsFront c.told (state_of old).told
+    → Stepped (history events_of IsLeft) old (OldOr log) c
 new_log old log c is tapes told =
     let s = state_of old in
     record {
-      from = record { log = take s.log_settled s.log; tape = c.tape; told = c.told };
+      from = record { log = Some (take s.log_settled s.log); tape = c.tape; told = c.told };
       was = record { log = refl; tapes = tapes; told = told };
       step = record { here = inr is; tapes = λ k. refl; told = refl };
     }
 
-pub commit_leads : (old new : MemPlant) → events_of new ≡ events_of old ++ LogCommit ∷ [] → Leads (history events_of IsLeft) old new (AtLog (OldOr (seen_of old).log))
-commit_leads old new more = one_event events_of IsLeft old new LogCommit (AtLog (OldOr (seen_of old).log)) more (λ c left.
+pub commit_leads : (old new : MemPlant) → events_of new ≡ events_of old ++ LogCommit ∷ [] → Leads (history events_of IsLeft) old new (OldOr (state_of old).log)
+commit_leads old new more = one_event events_of IsLeft old new LogCommit (OldOr (state_of old).log) more (λ c left.
     let s = state_of old in
     let l = left_after (events_of old) LogCommit c left in
-    new_log old s.log c (l.log ∙ take_all (length s.log) s.log (omega arith)) l.tapes l.told)
+    new_log old s.log c (l.log ∙ ap (λ (x : List ℕ). Some x) (take_all (length s.log) s.log (omega arith))) l.tapes l.told)
 
-pub replace_leads : (old new : MemPlant) (bytes : List ℕ) → GainsBytes LogReplace (events_of old) (events_of new) bytes → Leads (history events_of IsLeft) old new (AtLog (OldOr bytes))
-replace_leads old new bytes gains = one_event events_of IsLeft old new (LogReplace gains.kept) (AtLog (OldOr bytes)) gains.more (λ c left.
+pub replace_leads : (old new : MemPlant) (bytes : List ℕ) → GainsBytes LogReplace (events_of old) (events_of new) bytes → Leads (history events_of IsLeft) old new (OldOr bytes)
+replace_leads old new bytes gains = one_event events_of IsLeft old new (LogReplace gains.kept) (OldOr bytes) gains.more (λ c left.
     let l = left_after (events_of old) (LogReplace gains.kept) c left in
-    new_log old bytes c (l.log ∙ take_all (length gains.kept.items) gains.kept.items (omega arith) ∙ gains.is) l.tapes l.told)
+    new_log old bytes c (l.log ∙ ap (λ (x : List ℕ). Some x) (take_all (length gains.kept.items) gains.kept.items (omega arith) ∙ gains.is)) l.tapes l.told)
 
-pub log_stays : (old new : MemPlant) (log : List ℕ) → events_of new ≡ events_of old → Leads (history events_of IsLeft) old new (AtLog (OldOr log))
-log_stays old new log same = same_leads old new (AtLog (OldOr log)) same (λ c left. record { here = inl refl; tapes = λ k. refl; told = refl })
+pub log_stays : (old new : MemPlant) (log : List ℕ) → events_of new ≡ events_of old → Leads (history events_of IsLeft) old new (OldOr log)
+log_stays old new log same = same_leads old new (OldOr log) same (λ c left. record { here = inl refl; tapes = λ k. refl; told = refl })
 
 -- bytes are told
 front_more : (front whole more : List ℕ) → IsFront front whole → IsFront front (whole ++ more)
@@ -274,14 +275,14 @@ front_more front whole more (n, is) = elim (cases_lt (length whole) n) [
   | inr within ↦ (n, is ∙ sym (take-append-le n whole more within))
 ]
 
-pub tell_leads : (old new : MemPlant) (piece shown : List ℕ) → shown ≡ piece → GainsBytes Tell (events_of old) (events_of new) piece → Leads (history events_of IsLeft) old new (TellsTo ((seen_of old).told ++ shown))
-tell_leads old new piece shown same gains = one_event events_of IsLeft old new (Tell gains.kept) (TellsTo ((seen_of old).told ++ shown)) gains.more (λ c left.
+pub tell_leads : (old new : MemPlant) (piece shown : List ℕ) → shown ≡ piece → GainsBytes Tell (events_of old) (events_of new) piece → Leads (history events_of IsLeft) old new (TellsTo ((state_of old).told ++ shown))
+tell_leads old new piece shown same gains = one_event events_of IsLeft old new (Tell gains.kept) (TellsTo ((state_of old).told ++ shown)) gains.more (λ c left.
     let s = state_of old in
     let l = left_after (events_of old) (Tell gains.kept) c left in
     further c l.log l.tapes (l.told.0, l.told.1 ∙ ap (λ (x : List ℕ). take l.told.0 (s.told ++ x)) (gains.is ∙ sym same)))
   where
-    further : (c : Stock) → c.log ≡ take (state_of old).log_settled (state_of old).log → ((j : ℕ) → IsTorn (settled_of old j) ((state_of old).tape j) (c.tape j))
-        → IsFront c.told ((state_of old).told ++ shown) → Stepped (history events_of IsLeft) old (TellsTo ((seen_of old).told ++ shown)) c
+    further : (c : Stock) → c.log ≡ Some (take (state_of old).log_settled (state_of old).log) → ((j : ℕ) → IsTorn ((state_of old).settled j) ((state_of old).tape j) (c.tape j))
+        → IsFront c.told ((state_of old).told ++ shown) → Stepped (history events_of IsLeft) old (TellsTo ((state_of old).told ++ shown)) c
     further c log tapes (n, is) =
         let s = state_of old in
         elim (cases_lt (length s.told) n) [
@@ -304,9 +305,9 @@ tell_leads old new piece shown same gains = one_event events_of IsLeft old new (
               }
         ]
 
-pub tell_stays : (old new : MemPlant) (piece : List ℕ) → events_of new ≡ events_of old → Leads (history events_of IsLeft) old new (TellsTo ((seen_of old).told ++ piece))
-tell_stays old new piece same = same_leads old new (TellsTo ((seen_of old).told ++ piece)) same (λ c left. record {
-  front = front_more c.told (seen_of old).told piece left.told;
+pub tell_stays : (old new : MemPlant) (piece : List ℕ) → events_of new ≡ events_of old → Leads (history events_of IsLeft) old new (TellsTo ((state_of old).told ++ piece))
+tell_stays old new piece same = same_leads old new (TellsTo ((state_of old).told ++ piece)) same (λ c left. record {
+  front = front_more c.told (state_of old).told piece left.told;
   grows = ([], sym (append-nil c.told));
   tapes = λ k. refl;
   log = refl;

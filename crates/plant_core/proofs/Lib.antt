@@ -1,4 +1,4 @@
+pub mod Calls
 pub mod Keeping
 pub mod Leading
 pub mod TapeLists
-pub mod Wholes

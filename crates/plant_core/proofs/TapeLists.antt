@@ -1,12 +1,12 @@
 -- The records of tapes that are kept in a list.
-use Rattle.std.proofs.Common.{◌≡◌, ◌≢◌, inl, inr, ℕ, zero, suc, ◌+◌, ◌<◌, ◌≤◌, ◌==◌, if◌then◌else◌, List, [], ◌∷◌, ◌++◌, length, take, get_or, Vec, Some, None, slice_get, refl, sym, ◌∙◌, ap, subst, arith, slice_set}
+use Rattle.std.proofs.Common.{◌≡◌, ◌≢◌, inl, inr, ℕ, zero, suc, ◌<◌, ◌≤◌, ◌==◌, if◌then◌else◌, List, [], ◌∷◌, ◌++◌, length, take, get_or, Vec, Some, None, slice_get, refl, sym, ◌∙◌, ap, subst, arith, slice_set}
 use Rattle.std.specs.declared.alloc.Global.{Global}
 use Rattle.std.proofs.lemmas.Bool.{cases_eq}
 use Rattle.std.proofs.lemmas.Bool.Decides.{nat_tests}
 use Rattle.plant_core.specs.declared.record.Kind.{Kind}
 use Rattle.plant_core.specs.declared.stored.Stored.{Stored}
 use Rattle.plant_core.specs.Records.{Record, Shows, ShowsFirst}
-use Rattle.plant_core.specs.Tapes.{record_of, records_in, records_at, total_of}
+use Rattle.plant_core.specs.Tapes.{record_of, records_in, records_at}
 
 abbrev Tapes : Type 0
 Tapes = List (Vec Stored Global)
@@ -89,18 +89,3 @@ first_shown (x ∷ ss) s kind into is shown =
 pub none_shown : (ss : List Stored) (into : List ℕ) → None ≡ slice_get ss 0 → ShowsFirst (records_in ss) None into
 none_shown [] into is = refl
 none_shown (x ∷ ss) into is = absurd (cc)
-
--- the records of all tapes
-pub total_at : (ts : Tapes) (k : ℕ) → length (records_at ts k) ≤ total_of ts
-total_at [] k = omega arith
-total_at (w ∷ ts) zero = omega (arith, records_in-length w.items)
-total_at (w ∷ ts) (suc k) = omega (arith, total_at ts k)
-
-pub total_set : (ts : Tapes) (k : ℕ) (v w : Vec Stored Global) → k < length ts → w ≡ get_or ts k w → total_of (slice_set ts k v) + length w.items ≡ total_of ts + length v.items
-total_set [] k v w below is = absurd (omega arith)
-total_set (x ∷ ts) zero v w below is = omega (arith, ap (λ (y : Vec Stored Global). length y.items) is)
-total_set (x ∷ ts) (suc k) v w below is = omega (arith, total_set ts k v w (omega arith) is)
-
-pub total_push_blank : (ts : Tapes) (v : Vec Stored Global) → v.items ≡ [] → total_of (ts ++ v ∷ []) ≡ total_of ts
-total_push_blank [] v blank = omega (arith, ap length blank)
-total_push_blank (w ∷ ts) v blank = omega (arith, total_push_blank ts v blank)

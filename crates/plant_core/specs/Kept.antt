@@ -1,18 +1,14 @@
--- What holds of a plant in memory whatever was asked of it.
-use Rattle.std.proofs.Common.{◌≡◌, inl, ℕ, ◌≤◌, ◌<◌, nat_lt, ◌==◌, if◌then◌else◌, Bool, true, false, List, [], ◌∷◌, ◌++◌, length, take, IsTrue, Option, Some, refl, sym, ap, arith, length-append}
+-- What holds of a plant in memory whatever was asked of it. The laws of the trait, of such a plant.
+use Rattle.std.proofs.Common.{◌≡◌, inl, ℕ, ◌^◌, ◌≤◌, ◌<◌, nat_lt, ◌==◌, if◌then◌else◌, Bool, true, false, List, [], ◌∷◌, ◌++◌, length, take, IsTrue, Option, Some, refl, sym, ap, arith, length-append}
 use Rattle.std.proofs.lemmas.List.{take_all}
 use Rattle.std.proofs.lemmas.Bool.Decides.{nat_tests}
 use Rattle.plant_core.specs.declared.event.Event.{Event}
 use Rattle.plant_core.specs.declared.event.Event.TheVariants.{Put, Settle, Cut, LogPut, LogCommit, LogReplace, Tell}
 use Rattle.plant_core.specs.Records.{Record}
 use Rattle.plant_core.specs.Tapes.{record_of}
-use Rattle.plant_core.specs.Stock.{settled_part, slot_of}
-use Rattle.plant_core.specs.Past.{State, blank, happens, after, seen_in, IsLeft}
-
--- no more is settled than there is
-pub record IsWithin (s : State) : Type 0 where
-  pub log : s.log_settled ≤ length s.log
-  pub tapes : (k : ℕ) → s.settled k ≤ length (s.tape k)
+use Rattle.plant_core.specs.Crashes.{State, IsWithin, blank, settled_part}
+use Rattle.plant_core.specs.Past.{happens, after, IsLeft}
+use Rattle.plant_core.specs.Shown.{count_at}
 
 pub put_within : (here : Bool) (n : ℕ) (tape : List Record) (r : Record) → n ≤ length tape → n ≤ length (if here then tape ++ r ∷ [] else tape)
 put_within true n tape r within = omega (arith, within, length-append tape (r ∷ []))
@@ -43,7 +39,7 @@ pub always_within : (es : List Event) → IsWithin (after es blank)
 always_within es = after_within es blank (record { log = omega arith; tapes = λ k. omega arith })
 
 -- what is settled is one of the images
-pub settled_is_left : (es : List Event) → let s = after es blank in IsLeft es (settled_part s.log_settled s.settled (seen_in s))
+pub settled_is_left : (es : List Event) → IsLeft es (settled_part (after es blank))
 settled_is_left es =
     let s = after es blank in
     let w = always_within es in
@@ -61,5 +57,9 @@ pub below_is : (k n : ℕ) → k < n → IsTrue (nat_lt k n)
 below_is k n is = grind (arith, nat_tests)
 
 -- the records of the loaded tape
-pub records_are : (loaded : Option ℕ) (k : ℕ) (tape : ℕ → List Record) → loaded ≡ Some k → length (tape (slot_of loaded)) ≡ length (tape k)
-records_are loaded k tape is = ap (λ (l : Option ℕ). length (tape (slot_of l))) is
+pub records_are : (loaded : Option ℕ) (k : ℕ) (s : State) → loaded ≡ Some k → count_at loaded s ≡ length (s.tape k)
+records_are loaded k s is = ap (λ (l : Option ℕ). count_at l s) is
+
+-- a log within its limit is within the law's
+pub short_log : (bytes log : List ℕ) → bytes ≡ log → length bytes ≤ 268435456 → length log ≤ 2 ^ 38
+short_log bytes log same short = omega (arith, ap length same, short)

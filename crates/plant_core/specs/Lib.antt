@@ -1,4 +1,5 @@
-pub mod Counts
+pub mod Crashes
+pub mod Effects
 pub mod Kept
 pub mod Past
 pub mod Records
@@ -6,3 +7,4 @@ pub mod Shown
 pub mod Steps
 pub mod Stock
 pub mod Tapes
+pub mod Views

@@ -1,23 +1,20 @@
--- What the calls of a plant do to a stock, and what a crash on the way may leave of it. Each step has its frame: the parts
+-- What a crash inside a call of a plant may leave: an image of the call's start, changed so. Each step has its frame: the parts
 -- that it doesn't touch are as before.
-use Rattle.std.specs.Prelude.{◌≡◌, ◌≢◌, ◌⊎◌, ℕ, ◌<◌, ◌≤◌, List, [], ◌∷◌, ◌++◌, length, take, Option, Some}
+use Rattle.std.specs.Prelude.{◌≡◌, ◌≢◌, ◌⊎◌, ℕ, List, [], ◌∷◌, ◌++◌, take, Option, Some}
 use Rattle.crash_moments.specs.Telling.{IsFront, Extends}
-use Rattle.plant_core.specs.Records.{Record, bad}
+use Rattle.plant_core.specs.Crashes.{State, IsTorn}
+use Rattle.plant_core.specs.Records.{Record}
 use Rattle.plant_core.specs.Stock.{Stock}
 
 -- nothing changes
 abbrev pub Same : Stock → Stock → Type 0
 Same old new = new ≡ old
 
--- the log changes so, and nothing else
-pub record AtLog (Change : List ℕ → List ℕ → Type 0) (old new : Stock) : Type 0 where
-  pub here : Change old.log new.log
+-- Until a commit or a replacement is done a crash leaves the old log, or the new one.
+pub record OldOr (log : List ℕ) (old new : Stock) : Type 0 where
+  pub here : (new.log ≡ old.log) ⊎ (new.log ≡ Some log)
   pub tapes : (k : ℕ) → new.tape k ≡ old.tape k
   pub told : new.told ≡ old.told
-
--- Until a commit or a replacement is done a crash leaves the old log, or the new one.
-abbrev pub OldOr : List ℕ → List ℕ → List ℕ → Type 0
-OldOr log old new = (new ≡ old) ⊎ (new ≡ log)
 
 -- one tape becomes such a list, and nothing else changes
 pub record AtTape (k : ℕ) (Is : List Record → Type 0) (old new : Stock) : Type 0 where
@@ -26,36 +23,21 @@ pub record AtTape (k : ℕ) (Is : List Record → Type 0) (old new : Stock) : Ty
   pub log : new.log ≡ old.log
   pub told : new.told ≡ old.told
 
--- A tape after a crash: its settled records, then a front of those put since, then at most one bad record in place of the next.
-pub record IsTorn (settled : ℕ) (whole tape : List Record) : Type 0 where
-  pub count : ℕ
-  pub low : settled ≤ count
-  pub high : count ≤ length whole
-  pub is : (tape ≡ take count whole) ⊎ ((count < length whole) × (tape ≡ take count whole ++ bad ∷ []))
-
--- one record more is put on a tape
-abbrev pub Gains : Record → ℕ → Stock → Stock → Type 0
-Gains more k old new = AtTape k (λ tape. tape ≡ old.tape k ++ more ∷ []) old new
-
 -- while one record more is put on a tape
-abbrev pub MayGain : Record → (ℕ → ℕ) → ℕ → Stock → Stock → Stock → Type 0
-MayGain more settled k whole = AtTape k (IsTorn (settled k) (whole.tape k ++ more ∷ []))
-
--- a tape keeps its first records
-abbrev pub Keeps : ℕ → ℕ → Stock → Stock → Type 0
-Keeps n k old new = AtTape k (λ tape. tape ≡ take n (old.tape k)) old new
+abbrev pub MayGain : Record → ℕ → State → Stock → Stock → Type 0
+MayGain more k s = AtTape k (IsTorn (s.settled k) (s.tape k ++ more ∷ []))
 
 -- While a tape is cut, the list is one that an image could have before, or the cut one.
-abbrev pub MayKeep : ℕ → (ℕ → ℕ) → ℕ → Stock → Stock → Stock → Type 0
-MayKeep n settled k whole = AtTape k (λ tape. IsTorn (settled k) (whole.tape k) tape ⊎ (tape ≡ take n (whole.tape k)))
+abbrev pub MayKeep : ℕ → ℕ → State → Stock → Stock → Type 0
+MayKeep n k s = AtTape k (λ tape. IsTorn (s.settled k) (s.tape k) tape ⊎ (tape ≡ take n (s.tape k)))
 
 -- the tape that a load puts away: the one that was loaded, where it is another one
 abbrev pub IsPutAway : Option ℕ → ℕ → ℕ → Type 0
 IsPutAway loaded slot k = (loaded ≡ Some k) × (k ≢ slot)
 
 -- While a tape is loaded, what was put on the one that is put away is being settled.
-pub record MaySettle (loaded : Option ℕ) (slot : ℕ) (settled : ℕ → ℕ) (whole old new : Stock) : Type 0 where
-  pub away : (k : ℕ) → IsPutAway loaded slot k → IsTorn (settled k) (whole.tape k) (new.tape k)
+pub record MaySettle (loaded : Option ℕ) (slot : ℕ) (s : State) (old new : Stock) : Type 0 where
+  pub away : (k : ℕ) → IsPutAway loaded slot k → IsTorn (s.settled k) (s.tape k) (new.tape k)
   pub others : (k : ℕ) → (IsPutAway loaded slot k → ⊥) → new.tape k ≡ old.tape k
   pub log : new.log ≡ old.log
   pub told : new.told ≡ old.told

@@ -1,5 +1,5 @@
 -- Tapes that are kept in memory: the records that they stand for.
-use Rattle.std.specs.Prelude.{ℕ, zero, suc, ◌+◌, List, [], ◌∷◌, length, Vec}
+use Rattle.std.specs.Prelude.{ℕ, zero, suc, List, [], ◌∷◌, Vec}
 use Rattle.std.specs.declared.alloc.Global.{Global}
 use Rattle.plant_core.specs.declared.stored.Stored.{Stored}
 use Rattle.plant_core.specs.declared.stored.Stored.TheVariants.{Block, Mark}
@@ -18,8 +18,3 @@ abbrev pub records_at : List (Vec Stored Global) → ℕ → List Record
 records_at [] k = []
 records_at (v ∷ vs) zero = records_in v.items
 records_at (v ∷ vs) (suc k) = records_at vs k
-
--- how many records there are on all tapes
-abbrev pub total_of : List (Vec Stored Global) → ℕ
-total_of [] = 0
-total_of (v ∷ vs) = length v.items + total_of vs

@@ -9,12 +9,8 @@ mod plant;
 mod record;
 mod refusals;
 mod stored;
-#[cfg(test)]
-mod tests;
-mod whole;
 
 pub use fault::{Failed, Memory, PutFault};
 pub use mem::MemPlant;
 pub use plant::Plant;
 pub use record::{Block, Kind};
-pub use whole::is_whole;

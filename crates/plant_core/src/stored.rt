@@ -1,7 +1,7 @@
 // Tapes that are kept in memory.
 ghost use Rattle.std.specs.Prelude.{◌≡◌, ◌+◌, ◌-◌, ◌<◌, ◌≤◌, ◌==◌, ◌++◌, [], ◌∷◌, ℕ, length, take, OnOk, OnErr, IfOk, vec_len, if◌then◌else◌};
 ghost use Rattle.plant_core.specs.Records.{Shows, ShowsAt, ShowsFirst};
-ghost use Rattle.plant_core.specs.Tapes.{record_of, records_in, records_at, total_of};
+ghost use Rattle.plant_core.specs.Tapes.{record_of, records_in, records_at};
 
 use crate::record::{Block, Kind};
 use std::alloc::{AllocError, Global};
@@ -63,8 +63,7 @@ pub fn show_first(tapes: &Vec<Vec<Stored>>, slot: usize, into: &mut Block) -> Op
 
 /// How many records a tape has. There are none where no tape is.
 pub fn count_in(tapes: &Vec<Vec<Stored>>, slot: usize) -> usize
-    ensures count { result ≡ length (records_at tapes.now.items slot) }
-    ensures within { result ≤ total_of tapes.now.items }
+    ensures { result ≡ length (records_at tapes.now.items slot) }
 {
     match tapes.get(slot) {
         Some(tape) => tape.len(),
@@ -88,9 +87,7 @@ pub fn push_in(tapes: &mut Vec<Vec<Stored>>, slot: usize, stored: Stored) -> Res
     requires { slot < vec_len tapes.old }
     ensures count { vec_len tapes.new ≡ vec_len tapes.old }
     ensures ok { OnOk result ((k : ℕ) → records_at tapes.new.items k ≡ (if k == slot then records_at tapes.old.items k ++ record_of stored ∷ [] else records_at tapes.old.items k)) }
-    ensures total { OnOk result (total_of tapes.new.items ≡ total_of tapes.old.items + 1) }
     ensures err { OnErr result ((k : ℕ) → records_at tapes.new.items k ≡ records_at tapes.old.items k) }
-    ensures total_err { OnErr result (total_of tapes.new.items ≡ total_of tapes.old.items) }
 {
     match push_on(&mut tapes[slot], stored) {
         Ok(()) => Ok(()),
@@ -103,7 +100,6 @@ pub fn cut_in(tapes: &mut Vec<Vec<Stored>>, slot: usize, n: usize)
     requires { slot < vec_len tapes.old }
     ensures count { vec_len tapes.new ≡ vec_len tapes.old }
     ensures cut { (k : ℕ) → records_at tapes.new.items k ≡ (if k == slot then take n (records_at tapes.old.items k) else records_at tapes.old.items k) }
-    ensures total { total_of tapes.new.items + (length (records_at tapes.old.items slot) - n) ≡ total_of tapes.old.items }
 {
     tapes[slot].truncate(n);
 }
@@ -112,7 +108,6 @@ pub fn cut_in(tapes: &mut Vec<Vec<Stored>>, slot: usize, n: usize)
 pub fn blank_tapes(alloc: Global, count: u32) -> Result<Vec<Vec<Stored>>, AllocError>
     ensures count { IfOk result (λ tapes. vec_len tapes ≡ count) }
     ensures blank { IfOk result (λ tapes. (k : ℕ) → records_at tapes.items k ≡ []) }
-    ensures total { IfOk result (λ tapes. total_of tapes.items ≡ 0) }
 {
     let mut tapes = Vec::new(alloc);
     for index in 0..count {

@@ -8,22 +8,23 @@ use Rattle.crash_moments.proofs.Joining.{joined}
 use Rattle.media_core.specs.Media as media
 use Rattle.media_core.specs.Media.{Image, AtFile, Tells}
 use Rattle.crash_log.specs.Log.{Any, HasLog, HasOneOf}
-use Rattle.crash_log.specs.CrashLog.{file_of, log_bytes, settled_log, state_of, FitsIts, IsNow}
+use Rattle.crash_log.specs.CrashLog.{file_of, settled_of, log_bytes, settled_log, state_of, FitsIts, IsNow}
 use Rattle.crash_log.specs.Fit.{IsStill, Fits, as_read}
 use Rattle.crash_log.proofs.Reading.{step_read}
 use Rattle.crash_log.specs.declared.log.CrashLog.{CrashLog}
-use Rattle.plant_core.specs.Steps.{Same, AtLog, OldOr, MaySettle}
-use Rattle.plant_core.specs.Stock.{Stock, slot_of}
+use Rattle.plant_core.specs.Crashes.{State, Alike}
+use Rattle.plant_core.specs.Steps.{Same, OldOr, MaySettle}
+use Rattle.plant_core.specs.Stock.{Stock}
 use Rattle.plant_media.specs.Stock.{tape_of, SameJournal, JournalOr}
 use Rattle.plant_media.specs.Loaded.{tape_in, TapeSuits, TapeFits}
 use Rattle.plant_media.specs.Slots.{slot_in, tape_at, shown, settled_in, slots_here}
-use Rattle.plant_media.specs.State.{seen_of, moments_of, loaded_of, tapes_settled_of, Suits, IsSound}
+use Rattle.plant_media.specs.State.{shown_of, moments_of, loaded_of, Suits, IsSound, SameBut}
 use Rattle.plant_media.specs.Slotting.{shown_tape, shown_log, at_loaded, at_other, settled_loaded, settled_other, which, some_is, of_loaded}
 use Rattle.plant_media.specs.Taping.{LeavesNow, at_file, tape_settled}
 use Rattle.plant_media.specs.declared.tape.Tape.{Tape}
 use Rattle.plant_media.specs.declared.plant.MediaPlant.{MediaPlant}
-use Rattle.plant_media.proofs.Lifting.{journal_same, journal_or, lift_journal_same, lift_journal_or, fronts_kept, not_zero, whole_is, slot_is}
-use Rattle.plant_media.proofs.Keeping.{Alone, alone_at, still_alone, journal_alone, loaded_alone, others_alone, fronts_alone, settled_same, log_changed, log_stays}
+use Rattle.plant_media.proofs.Lifting.{journal_same, journal_or, lift_journal_same, lift_journal_or, not_zero, whole_is, slot_is}
+use Rattle.plant_media.proofs.Keeping.{Alone, alone_at, still_alone, journal_alone, loaded_alone, others_alone, log_alike}
 
 -- a file that is here, by its slot
 pub file_here : (here : ℕ → Bool) (k : ℕ) → IsTrue (slots_here here k) → IsTrue (here (k + 1))
@@ -42,17 +43,30 @@ none_here here k never = of (here (k + 1)) never
     of true never = absurd (never refl)
     of false never = refl
 
+-- twice
+pub same_twice : (s t u : State) → SameBut s t → SameBut t u → SameBut s u
+same_twice s t u first second = record { log = second.log ∙ first.log; tape = λ k. second.tape k ∙ first.tape k; told = second.told ∙ first.told; log_settled = second.log_settled ∙ first.log_settled }
+
 -- the same tapes show the same
-shown_same : (journal : CrashLog) (now before : Option Tape) (image : Image) → ((k : ℕ) → tape_at now image k ≡ tape_at before image k) → shown journal now image ≡ shown journal before image
+pub shown_same : (journal : CrashLog) (now before : Option Tape) (image : Image) → ((k : ℕ) → tape_at now image k ≡ tape_at before image k) → SameBut (shown journal before image) (shown journal now image)
 unfolding shown
-shown_same journal now before image each = λ i. record { log = log_bytes journal (image.file 0); tape = λ k. each k i; told = image.told }
+shown_same journal now before image each = record { log = refl; tape = each; told = refl; log_settled = refl }
+
+-- a tape that was put away shows the same
+pub put_away_same : (journal : CrashLog) (now before : Option Tape) (old new : Image) → new.file 0 ≡ old.file 0 → new.told ≡ old.told → ((k : ℕ) → tape_at now new k ≡ tape_at before old k) → SameBut (shown journal before old) (shown journal now new)
+unfolding shown
+put_away_same journal now before old new log told each = record { log = ap (log_bytes journal) log; tape = each; told = told; log_settled = refl }
+
+-- the same media shows the same
+pub read_alike : (journal : CrashLog) (tape : Option Tape) (old new : Image) → new ≡ old → Alike (shown journal tape old) (shown journal tape new)
+read_alike journal tape old new same = subst (λ (i : Image). Alike (shown journal tape old) (shown journal tape i)) (sym same) (record { log = refl; tape = λ k. refl; told = refl; log_settled = refl; settled = λ k. refl })
 
 module _ {D : Type 0} (tells : Type 0) (moments : Moments D Image) (seen : D → Image) (present : D → ℕ → Bool) (old : MediaPlant D) (suits : Suits tells moments seen present old) where
   pub held_tape : (t : Tape) → old.tape ≡ Some t → TapeSuits tells moments seen present t old.media
   held_tape t is = of_loaded (λ t. TapeSuits tells moments seen present t old.media) old.tape t is suits.loaded
 
-  pub loaded_tape : (t : Tape) → old.tape ≡ Some t → (seen_of seen old).tape (slot_of (loaded_of old)) ≡ tape_in t (seen old.media)
-  loaded_tape t is = whole_is seen old t is (slot_of (loaded_of old)) (slot_is seen old t is)
+  pub loaded_tape : (t : Tape) → old.tape ≡ Some t → (k : ℕ) → loaded_of old ≡ Some k → (shown_of seen old).tape k ≡ tape_in t (seen old.media)
+  loaded_tape t is k at = whole_is seen old t is k (slot_is seen old t is k at)
 
   -- calls on the journal
   module _ (m : D) (j : CrashLog) where
@@ -66,7 +80,7 @@ module _ {D : Type 0} (tells : Type 0) (moments : Moments D Image) (seen : D →
     put_crash told leads = lift_journal_same moments old turned
         (at_file moments (file_of old.journal) 0 SameJournal old.media m suits.journal.file (journal_same moments seen old.journal old.media m (suits.journal.fits told) suits.journal.whole leads))
 
-    pub turn_crash : tells → (bytes log : List ℕ) → bytes ≡ log → Leads moments old.media m (AtFile (file_of old.journal) (HasOneOf settled bytes)) → Leads (moments_of moments) old turned (AtLog (OldOr log))
+    pub turn_crash : tells → (bytes log : List ℕ) → bytes ≡ log → Leads moments old.media m (AtFile (file_of old.journal) (HasOneOf settled bytes)) → Leads (moments_of moments) old turned (OldOr log)
     turn_crash told bytes log is leads = lift_journal_or moments old turned log (subst (λ (l : List ℕ). Leads moments old.media m (AtFile 0 (JournalOr l))) is
         (at_file moments (file_of old.journal) 0 (JournalOr bytes) old.media m suits.journal.file (journal_or moments seen old.journal old.media m (suits.journal.fits told) suits.journal.whole bytes leads)))
 
@@ -77,17 +91,9 @@ module _ {D : Type 0} (tells : Type 0) (moments : Moments D Image) (seen : D →
       files_same : tells → (k : ℕ) → (seen m).file (k + 1) ≡ (seen old.media).file (k + 1)
       files_same told k = (frame_zero told).others (k + 1) (not_zero k)
 
-      pub journal_settled : tells → tapes_settled_of seen turned ≡ tapes_settled_of seen old
-      journal_settled told = settled_same old.journal old.tape (seen old.media) (seen m) (files_same told)
-
-      pub journal_changed : tells → (Change : List ℕ → List ℕ → Type 0)
-          → Change (log_bytes old.journal ((seen old.media).file (file_of old.journal))) (log_bytes j ((seen m).file (file_of old.journal))) → AtLog Change (seen_of seen old) (seen_of seen turned)
-      journal_changed told Change here = log_changed old.journal j old.tape (seen old.media) (seen m) Change
-          (subst (λ (f : ℕ). Change (log_bytes old.journal ((seen old.media).file f)) (log_bytes j ((seen m).file f))) suits.journal.file here) (files_same told) (frame_zero told).told
-
-      pub journal_stays : tells → log_bytes j ((seen m).file (file_of old.journal)) ≡ log_bytes old.journal ((seen old.media).file (file_of old.journal)) → seen_of seen turned ≡ seen_of seen old
-      journal_stays told same = log_stays old.journal j old.tape (seen old.media) (seen m)
-          (subst (λ (f : ℕ). log_bytes j ((seen m).file f) ≡ log_bytes old.journal ((seen old.media).file f)) suits.journal.file same) (files_same told) (frame_zero told).told
+      pub journal_alike : tells → (bytes : List ℕ) (n : ℕ) → log_bytes j ((seen m).file (file_of old.journal)) ≡ bytes → settled_of j ≡ n → Alike (record (shown_of seen old) { log = bytes; log_settled = n }) (shown_of seen turned)
+      journal_alike told bytes n is settled = log_alike old.journal j old.tape (seen old.media) (seen m) bytes n
+          (subst (λ (f : ℕ). log_bytes j ((seen m).file f) ≡ bytes) suits.journal.file is) settled (files_same told) (frame_zero told).told
 
       module _ (here : present m ≡ present old.media) (R : List ℕ → List ℕ → Type 0) (now : tells → LeavesNow moments old.media m (AtFile (file_of old.journal) R)) where
         now_zero : tells → LeavesNow moments old.media m (AtFile 0 R)
@@ -107,11 +113,10 @@ module _ {D : Type 0} (tells : Type 0) (moments : Moments D Image) (seen : D →
           };
           loaded = loaded_alone tells moments seen present (AtFile 0 R) old.media m here now_zero old.tape away suits.loaded;
           others = others_alone tells moments seen present (AtFile 0 R) old.media m here now_zero old.tape (λ k other. away k) suits.others;
-          fronts = fronts_alone tells moments seen present (AtFile 0 R) old.media m here now_zero (λ a b step. step.told) (λ told. (frame_zero told).told) suits.fronts;
         }
 
   -- the log as it is shown, by its file
-  pub log_shown_is : log_bytes old.journal ((seen old.media).file (file_of old.journal)) ≡ (seen_of seen old).log
+  pub log_shown_is : log_bytes old.journal ((seen old.media).file (file_of old.journal)) ≡ (shown_of seen old).log
   log_shown_is = ap (λ (f : ℕ). log_bytes old.journal ((seen old.media).file f)) suits.journal.file ∙ sym (shown_log old.journal old.tape (seen old.media))
 
   -- calls on the loaded tape
@@ -124,7 +129,6 @@ module _ {D : Type 0} (tells : Type 0) (moments : Moments D Image) (seen : D →
         let ne : k + 1 ≢ t.slot + 1 = λ same. other (ap (λ (n : ℕ). Some n) (omega (arith, slot, same))) in
         still_alone tells moments seen present (AtFile (t.slot + 1) R) old.media m here now (k + 1) (away (k + 1) ne) told
         (suits.others told k (λ was. other (ap (λ (n : ℕ). Some n) slot ∙ sym (ap slot_in is) ∙ was)));
-    fronts = fronts_alone tells moments seen present (AtFile (t.slot + 1) R) old.media m here now (λ a b step. step.told) (λ told. (frame told).told) suits.fronts;
   }
     where
       away : (f : ℕ) → f ≢ t.slot + 1 → Alone tells moments seen present (AtFile (t.slot + 1) R) old.media m here now f
@@ -140,7 +144,6 @@ module _ {D : Type 0} (tells : Type 0) (moments : Moments D Image) (seen : D →
       journal = journal_alone tells moments seen present media.Same old.media m here now old.journal (unchanged 0) suits.journal;
       loaded = loaded_alone tells moments seen present media.Same old.media m here now old.tape (λ k. unchanged (k + 1)) suits.loaded;
       others = others_alone tells moments seen present media.Same old.media m here now old.tape (λ k other. unchanged (k + 1)) suits.others;
-      fronts = fronts_alone tells moments seen present media.Same old.media m here now (λ a b is. ap (λ (i : Image). i.told) is) (λ told. ap (λ (i : Image). i.told) (same told)) suits.fronts;
     }
 
     -- another tape is taken up, once all of the loaded one is settled
@@ -149,7 +152,6 @@ module _ {D : Type 0} (tells : Type 0) (moments : Moments D Image) (seen : D →
       journal = read_suits.journal;
       loaded = held;
       others = λ told k other. still_alone tells moments seen present media.Same old.media m here now (k + 1) (unchanged (k + 1)) told (still told k);
-      fronts = read_suits.fronts;
     }
       where
         still : tells → (k : ℕ) → IsStill moments seen (k + 1) old.media
@@ -165,7 +167,6 @@ module _ {D : Type 0} (tells : Type 0) (moments : Moments D Image) (seen : D →
     journal = journal_alone tells moments seen present (Tells (seen old.media).told piece) old.media m here now old.journal (all 0) suits.journal;
     loaded = loaded_alone tells moments seen present (Tells (seen old.media).told piece) old.media m here now old.tape (λ k. all (k + 1)) suits.loaded;
     others = others_alone tells moments seen present (Tells (seen old.media).told piece) old.media m here now old.tape (λ k other. all (k + 1)) suits.others;
-    fronts = λ told. fronts_kept moments old.media m (seen old.media).told piece (seen m).told (more told) (suits.fronts told) (now told);
   }
     where
       all : (f : ℕ) → Alone tells moments seen present (Tells (seen old.media).told piece) old.media m here now f
@@ -187,8 +188,8 @@ module _ {D : Type 0} (tells : Type 0) (moments : Moments D Image) (seen : D →
       ])
     ]
 
-    pub taken_seen : tells → tape_in t (seen old.media) ≡ tape_of ((seen old.media).file (slot + 1)) → seen m ≡ seen old.media → shown old.journal (Some t) (seen m) ≡ seen_of seen old
-    taken_seen told now same = ap (λ (s : Image). shown old.journal (Some t) s) same ∙ shown_same old.journal (Some t) old.tape (seen old.media) (taken_at told now)
+    pub taken_state : (told : tells) → tape_in t (seen old.media) ≡ tape_of ((seen old.media).file (slot + 1)) → seen m ≡ seen old.media → SameBut (shown_of seen old) (shown old.journal (Some t) (seen m))
+    taken_state told now same = subst (λ (i : Image). SameBut (shown_of seen old) (shown old.journal (Some t) i)) (sym same) (shown_same old.journal (Some t) old.tape (seen old.media) (taken_at told now))
 
   -- all of the tape that was taken up is settled
   pub taken_settled : (t : Tape) (m : D) → tells → TapeSuits tells moments seen present t m → t.settled ≡ t.records → (k : ℕ) → settled_in (Some t) (seen m) k ≡ length ((shown old.journal (Some t) (seen m)).tape k)
@@ -228,6 +229,6 @@ module _ {D : Type 0} (tells : Type 0) (seen : D → Image) (present : D → ℕ
   })) files more
 
 -- a step that settles, and one that changes nothing
-pub settle_then : {D : Type 0} (moments : Moments (MediaPlant D) Stock) (loaded : Option ℕ) (slot : ℕ) (settled : ℕ → ℕ) (whole : Stock) (old mid new : MediaPlant D) → Leads moments old mid (MaySettle loaded slot settled whole) → Leads moments mid new Same → Leads moments old new (MaySettle loaded slot settled whole)
-settle_then moments loaded slot settled whole old mid new first second = joined moments old mid new (MaySettle loaded slot settled whole) Same (MaySettle loaded slot settled whole) first second (λ a b was step. step)
-    (λ a b c was step left same. subst (λ (s : Stock). MaySettle loaded slot settled whole a s) (sym same) step)
+pub settle_then : {D : Type 0} (moments : Moments (MediaPlant D) Stock) (loaded : Option ℕ) (slot : ℕ) (s : State) (old mid new : MediaPlant D) → Leads moments old mid (MaySettle loaded slot s) → Leads moments mid new Same → Leads moments old new (MaySettle loaded slot s)
+settle_then moments loaded slot s old mid new first second = joined moments old mid new (MaySettle loaded slot s) Same (MaySettle loaded slot s) first second (λ a b was step. step)
+    (λ a b c was step left same. subst (λ (i : Stock). MaySettle loaded slot s a i) (sym same) step)

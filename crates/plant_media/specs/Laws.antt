@@ -1,81 +1,101 @@
 -- The laws of a plant, of one over a media.
-use Rattle.std.proofs.Common.{◌≡◌, ◌≢◌, inl, inr, ℕ, ◌+◌, ◌-◌, ◌<◌, ◌≤◌, Bool, List, length, take, Some, IsTrue, sym, ◌∙◌, ap, subst, arith}
+use Rattle.std.proofs.Common.{◌≡◌, ◌≢◌, inl, inr, ℕ, ◌+◌, ◌-◌, ◌^◌, ◌<◌, ◌≤◌, Bool, List, length, take, Some, IsTrue, sym, ◌∙◌, ap, subst, arith}
 use Rattle.crash_moments.specs.Moments.{Moments}
 use Rattle.media_core.specs.Media.{Image}
 use Rattle.crash_moments.specs.Telling.{IsFront}
-use Rattle.crash_log.specs.CrashLog.{file_of, log_bytes, settled_of}
+use Rattle.crash_log.specs.CrashLog.{file_of, length_of, log_bytes, settled_of}
+use Rattle.crash_log.specs.declared.log.CrashLog.{CrashLog}
 use Rattle.crash_log.proofs.Fitting.{settled_front, settled_within, log_left, whole_left, bytes_long}
-use Rattle.plant_core.specs.Steps.{IsTorn}
-use Rattle.plant_core.specs.Stock.{Stock, settled_part}
+use Rattle.plant_core.specs.Crashes.{State, IsTorn, IsWithin, LeftIn, settled_part}
+use Rattle.plant_core.specs.Stock.{Stock}
 use Rattle.plant_media.specs.Stock.{tape_of, journal_of, stock_of}
 use Rattle.plant_media.specs.Loaded.{TapeSuits}
-use Rattle.plant_media.specs.Slots.{slots_here}
-use Rattle.plant_media.specs.State.{seen_of, moments_of, present_of, loaded_of, records_of_loaded, tapes_settled_of, log_size_of, log_settled_of, Suits}
+use Rattle.plant_media.specs.Slots.{records_in, settled_in, slots_here, tape_at}
+use Rattle.plant_media.specs.State.{shown_of, moments_of, loaded_of, Suits}
 use Rattle.plant_media.specs.declared.plant.MediaPlant.{MediaPlant}
 use Rattle.plant_media.specs.Shown.{journal_whole}
-use Rattle.plant_media.specs.Slotting.{shown_tape, shown_log, shown_told, one_stock, which, of_loaded, at_other, settled_other, loaded_counted, torn_left, settled_read}
+use Rattle.plant_media.specs.Slotting as slotting
+use Rattle.plant_media.specs.Slotting.{shown_tape, shown_log, shown_told, shown_settled, shown_kept, one_stock, which, of_loaded, at_other, settled_other, loaded_counted, torn_left, settled_read}
 
 pub few : (n : ℕ) → n ≤ 65536 → n - 1 ≤ 65535
 few n le = omega arith
+
+pub small_log : (log : CrashLog) → length_of log ≤ 2 ^ 38
+small_log log = log.bounded.room
 
 pub below : (here : ℕ → Bool) (n k : ℕ) → ((f : ℕ) → IsTrue (here f) → f < n) → IsTrue (slots_here here k) → k < n - 1
 unfolding slots_here
 below here n k within is = omega (arith, within (k + 1) is)
 
 module _ {D : Type 0} (tells : Type 0) (moments : Moments D Image) (seen : D → Image) (present : D → ℕ → Bool) (plant : MediaPlant D) (suits : Suits tells moments seen present plant) where
-  pub is_here : (k : ℕ) → loaded_of plant ≡ Some k → IsTrue (present_of present plant k)
+  pub is_here : (k : ℕ) → loaded_of plant ≡ Some k → IsTrue (slots_here (present plant.media) k)
   unfolding slots_here
   is_here k loaded = elim (which plant.tape k) [
     | inl (t, is, slot) ↦ subst (λ (n : ℕ). IsTrue (present plant.media (n + 1))) slot (of_loaded (λ t. TapeSuits tells moments seen present t plant.media) plant.tape t is suits.loaded).here
     | inr other ↦ absurd (other loaded)
   ]
 
-  pub within : log_settled_of plant ≤ log_size_of plant
-  within = settled_within plant.journal
-
   module _ (told : tells) where
     abbrev image : Image
     image = seen plant.media
 
-    pub counted : (k : ℕ) → loaded_of plant ≡ Some k → records_of_loaded plant ≡ length ((seen_of seen plant).tape k)
+    abbrev state : State
+    state = shown_of seen plant
+
+    pub counted : (k : ℕ) → loaded_of plant ≡ Some k → records_in plant.tape ≡ length (state.tape k)
     counted k loaded = loaded_counted tells moments seen present plant.tape plant.media told suits.loaded k loaded ∙ ap length (sym (shown_tape plant.journal plant.tape image k))
 
-    pub log_counted : log_size_of plant ≡ length (seen_of seen plant).log
+    pub log_counted : length_of plant.journal ≡ length state.log
     log_counted = sym (ap length (shown_log plant.journal plant.tape image) ∙ ap (λ (f : ℕ). length (log_bytes plant.journal (image.file f))) (sym suits.journal.file)
         ∙ bytes_long moments seen plant.journal plant.media (suits.journal.fits told))
 
-    pub others_whole : (k : ℕ) → loaded_of plant ≢ Some k → tapes_settled_of seen plant k ≡ length ((seen_of seen plant).tape k)
-    others_whole k other = settled_other plant.tape image k other ∙ ap length (sym (shown_tape plant.journal plant.tape image k ∙ at_other plant.tape image k other))
+    pub all_within : IsWithin state
+    all_within = record {
+      log = omega (arith, shown_kept plant.journal plant.tape image, settled_within plant.journal, log_counted);
+      tapes = λ k. omega (arith, shown_settled plant.journal plant.tape image k, slotting.settled_within tells moments seen present plant.tape plant.media told suits.loaded k, ap length (shown_tape plant.journal plant.tape image k));
+    }
 
-    log_front : (c : Image) → moments.may_leave plant.media c → journal_of (c.file 0) ≡ take (log_settled_of plant) (seen_of seen plant).log
+    pub others_whole : (k : ℕ) → loaded_of plant ≢ Some k → state.settled k ≡ length (state.tape k)
+    others_whole k other = shown_settled plant.journal plant.tape image k ∙ settled_other plant.tape image k other ∙ ap length (sym (shown_tape plant.journal plant.tape image k ∙ at_other plant.tape image k other))
+
+    log_front : (c : Image) → moments.may_leave plant.media c → journal_of (c.file 0) ≡ Some (take state.log_settled state.log)
     log_front c left =
         let j = suits.journal in
         ap (λ (f : ℕ). journal_of (c.file f)) (sym j.file) ∙ journal_whole (c.file (file_of plant.journal)) (whole_left moments seen plant.journal plant.media (j.fits told) j.whole c left)
-        ∙ log_left moments seen plant.journal plant.media (j.fits told) c left
+        ∙ ap (λ (l : List ℕ). Some l) (log_left moments seen plant.journal plant.media (j.fits told) c left
         ∙ settled_front plant.journal (image.file (file_of plant.journal))
         ∙ ap (λ (f : ℕ). take (settled_of plant.journal) (log_bytes plant.journal (image.file f))) j.file
         ∙ ap (λ (l : List ℕ). take (settled_of plant.journal) l) (sym (shown_log plant.journal plant.tape image))
+        ∙ ap (λ (n : ℕ). take n state.log) (sym (shown_kept plant.journal plant.tape image)))
 
-    pub log_is_left : (c : Stock) → (moments_of moments).may_leave plant c → c.log ≡ take (log_settled_of plant) (seen_of seen plant).log
-    log_is_left c left = ap (λ (s : Stock). s.log) left.is ∙ log_front left.from left.was
+    tapes_left : (c : Image) → moments.may_leave plant.media c → (k : ℕ) → IsTorn (state.settled k) (state.tape k) (tape_of (c.file (k + 1)))
+    tapes_left c left k =
+        subst (λ (n : ℕ). IsTorn n (state.tape k) (tape_of (c.file (k + 1)))) (sym (shown_settled plant.journal plant.tape image k))
+        (subst (λ l. IsTorn (settled_in plant.tape image k) l (tape_of (c.file (k + 1)))) (sym (shown_tape plant.journal plant.tape image k))
+        (torn_left tells moments seen present plant.tape plant.media told suits.loaded (suits.others told) c left k))
 
-    pub tapes_are_left : (c : Stock) (k : ℕ) → (moments_of moments).may_leave plant c → IsTorn (tapes_settled_of seen plant k) ((seen_of seen plant).tape k) (c.tape k)
-    tapes_are_left c k left =
-        subst (IsTorn (tapes_settled_of seen plant k) ((seen_of seen plant).tape k)) (ap (λ (s : Stock). s.tape k) (sym left.is))
-        (subst (λ l. IsTorn (tapes_settled_of seen plant k) l (tape_of (left.from.file (k + 1)))) (sym (shown_tape plant.journal plant.tape image k))
-        (torn_left tells moments seen present plant.tape plant.media told suits.loaded (suits.others told) left.from left.was k))
+    module _ (fronts : (c : Image) → moments.may_leave plant.media c → IsFront c.told image.told) where
+      pub is_left : (c : Stock) → (moments_of moments).may_leave plant c → LeftIn state c
+      is_left c left = subst (LeftIn state) (sym left.is) (record {
+        log = log_front left.from left.was;
+        tapes = tapes_left left.from left.was;
+        told = subst (λ (l : List ℕ). IsFront left.from.told l) (sym (shown_told plant.journal plant.tape image)) (fronts left.from left.was);
+      })
 
-    pub told_is_left : (c : Stock) → (moments_of moments).may_leave plant c → IsFront c.told (seen_of seen plant).told
-    told_is_left c left =
-        subst (λ (l : List ℕ). IsFront l (seen_of seen plant).told) (ap (λ (s : Stock). s.told) (sym left.is))
-        (subst (λ (l : List ℕ). IsFront left.from.told l) (sym (shown_told plant.journal plant.tape image)) (suits.fronts told left.from left.was))
-
-    pub settled_is_left : moments.may_leave plant.media image → (moments_of moments).may_leave plant (settled_part (log_settled_of plant) (tapes_settled_of seen plant) (seen_of seen plant))
+    pub settled_is_left : moments.may_leave plant.media image → (moments_of moments).may_leave plant (settled_part state)
     settled_is_left reads = record {
       from = image;
       was = reads;
-      is = one_stock (settled_part (log_settled_of plant) (tapes_settled_of seen plant) (seen_of seen plant)) (stock_of image)
+      is = one_stock (settled_part state) (stock_of image)
           (sym (log_front image reads))
-          (λ k. ap (λ l. take (tapes_settled_of seen plant k) l) (shown_tape plant.journal plant.tape image k) ∙ settled_read tells moments seen present plant.tape plant.media told suits.loaded (suits.others told) reads k)
+          (λ k. ap (λ l. take (state.settled k) l) (shown_tape plant.journal plant.tape image k) ∙ ap (λ (n : ℕ). take n (tape_at plant.tape image k)) (shown_settled plant.journal plant.tape image k)
+          ∙ settled_read tells moments seen present plant.tape plant.media told suits.loaded (suits.others told) reads k)
           (shown_told plant.journal plant.tape image);
     }
+
+-- what was told of an image is a front of what was told
+pub told_is_left : {D : Type 0} (moments : Moments D Image) (seen : D → Image) (plant : MediaPlant D) → ((c : Image) → moments.may_leave plant.media c → IsFront c.told (seen plant.media).told)
+    → (c : Stock) → (moments_of moments).may_leave plant c → IsFront c.told (shown_of seen plant).told
+told_is_left moments seen plant fronts c left =
+    subst (λ (l : List ℕ). IsFront l (shown_of seen plant).told) (ap (λ (s : Stock). s.told) (sym left.is))
+    (subst (λ (l : List ℕ). IsFront left.from.told l) (sym (shown_told plant.journal plant.tape (seen plant.media))) (fronts left.from left.was))

@@ -11,7 +11,7 @@ abbrev pub media_after : {D : Type 0} → Result (MediaPlant D) (Unopened D) →
 media_after (Ok plant) = plant.media
 media_after (Err unopened) = unopened.media
 
--- A fault has its cause: the count of the media's faults rose, or the journal is damaged, with place 0.
+-- A fault has its cause: the count of the media's faults rose, or it is as before and the journal is damaged, with place 0.
 abbrev pub HasCauseIn : Type 0 → Bool → ℕ → ℕ → OpenFault → Type 0
 HasCauseIn tells damaged before now Failed = Rose before now
-HasCauseIn tells damaged before now (BadLog at) = (at ≡ 0) × (tells → damaged ≡ true)
+HasCauseIn tells damaged before now (BadLog at) = (at ≡ 0) × (now ≡ before) × (tells → damaged ≡ true)

@@ -1,5 +1,5 @@
 -- What a file and a loaded tape show, by whether they are damaged.
-use Rattle.std.proofs.Common.{◌≡◌, ◌⊎◌, inl, inr, ℕ, ◌+◌, Bool, true, false, List, [], ◌∷◌, slice_get, refl, sym, ◌∙◌, ap}
+use Rattle.std.proofs.Common.{◌≡◌, ◌⊎◌, inl, inr, ℕ, ◌+◌, Bool, true, false, List, [], ◌∷◌, Some, slice_get, refl, sym, ◌∙◌, ap}
 use Rattle.media_core.specs.Media.{Image}
 use Rattle.crash_log.specs.Log.{log_of, is_damaged}
 use Rattle.crash_log.specs.CrashLog.{damaged_of, log_bytes}
@@ -21,7 +21,7 @@ pub tape_whole : (file : List ℕ) → is_damaged file ≡ false → tape_of fil
 unfolding tape_of
 tape_whole file is = ap (λ (b : Bool). tape_shown b (log_of file)) is
 
-pub journal_whole : (file : List ℕ) → is_damaged file ≡ false → journal_of file ≡ log_of file
+pub journal_whole : (file : List ℕ) → is_damaged file ≡ false → journal_of file ≡ Some (log_of file)
 unfolding journal_of
 journal_whole file is = ap (λ (b : Bool). log_shown b (log_of file)) is
 

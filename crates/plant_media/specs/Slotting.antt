@@ -7,10 +7,10 @@ use Rattle.std.proofs.Math.Nat.{le_refl}
 use Rattle.crash_moments.specs.Moments.{Moments}
 use Rattle.media_core.specs.Media.{Image}
 use Rattle.crash_log.specs.Fit.{IsStill}
-use Rattle.crash_log.specs.CrashLog.{log_bytes}
+use Rattle.crash_log.specs.CrashLog.{log_bytes, settled_of}
 use Rattle.crash_log.specs.declared.log.CrashLog.{CrashLog}
 use Rattle.plant_core.specs.Records.{Record}
-use Rattle.plant_core.specs.Steps.{IsTorn}
+use Rattle.plant_core.specs.Crashes.{IsTorn}
 use Rattle.plant_core.specs.Stock.{Stock}
 use Rattle.plant_media.specs.Stock.{tape_of}
 use Rattle.plant_media.specs.Loaded.{tape_in, TapeSuits}
@@ -63,6 +63,14 @@ pub shown_told : (journal : CrashLog) (tape : Option Tape) (image : Image) → (
 unfolding shown
 shown_told journal tape image = refl
 
+pub shown_settled : (journal : CrashLog) (tape : Option Tape) (image : Image) (k : ℕ) → (shown journal tape image).settled k ≡ settled_in tape image k
+unfolding shown
+shown_settled journal tape image k = refl
+
+pub shown_kept : (journal : CrashLog) (tape : Option Tape) (image : Image) → (shown journal tape image).log_settled ≡ settled_of journal
+unfolding shown
+shown_kept journal tape image = refl
+
 -- stocks that agree in all parts are one
 pub one_stock : (a b : Stock) → a.log ≡ b.log → ((k : ℕ) → a.tape k ≡ b.tape k) → a.told ≡ b.told → a ≡ b
 one_stock a b log tapes told = λ i. record { log = log i; tape = λ k. tapes k i; told = told i }
@@ -95,6 +103,21 @@ module _ {D : Type 0} (tells : Type 0) (moments : Moments D Image) (seen : D →
         ap records_in is ∙ (held_by t is).counted told
         ∙ sym (ap length (ap (λ (o : Option Tape). tape_at o (seen media) k) is ∙ at_loaded t (seen media) k (sym slot)))
     | inr other ↦ absurd (other loaded)
+  ]
+
+  -- no more of a tape is settled than it has
+  pub settled_within : (k : ℕ) → settled_in tape (seen media) k ≤ length (tape_at tape (seen media) k)
+  settled_within k = elim (which tape k) [
+    | inl (t, is, slot) ↦
+        let h = held_by t is in
+        omega (
+          arith,
+          h.within,
+          h.counted told,
+          ap (λ (o : Option Tape). settled_in o (seen media) k) is ∙ settled_loaded t (seen media) k (sym slot),
+          ap length (ap (λ (o : Option Tape). tape_at o (seen media) k) is ∙ at_loaded t (seen media) k (sym slot)),
+        )
+    | inr other ↦ omega (arith, settled_other tape (seen media) k other, ap length (at_other tape (seen media) k other))
   ]
 
   -- each image has of each tape what is settled

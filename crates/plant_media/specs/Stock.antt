@@ -1,5 +1,5 @@
 -- What the files of a media stand for: file 0 is the journal, file k + 1 the tape of slot k.
-use Rattle.std.specs.Prelude.{◌≡◌, ◌⊎◌, ℕ, ◌+◌, Bool, true, false, List, [], ◌∷◌}
+use Rattle.std.specs.Prelude.{◌≡◌, ◌⊎◌, ℕ, ◌+◌, Bool, true, false, List, [], ◌∷◌, Option, Some, None}
 use Rattle.media_core.specs.Media.{Image}
 use Rattle.crash_log.specs.Log.{log_of, is_damaged}
 use Rattle.plant_core.specs.Records.{Record, bad}
@@ -14,15 +14,12 @@ tape_shown false bytes = records_of bytes
 unfoldable pub tape_of : List ℕ → List Record
 tape_of file = tape_shown (is_damaged file) (log_of file)
 
--- A damaged journal has no log. 256, which is no byte, stands for it, so that no journal's log is taken for it.
-abbrev pub no_log : List ℕ
-no_log = 256 ∷ []
+-- a damaged journal has no log
+abbrev pub log_shown : Bool → List ℕ → Option (List ℕ)
+log_shown true bytes = None
+log_shown false bytes = Some bytes
 
-abbrev pub log_shown : Bool → List ℕ → List ℕ
-log_shown true bytes = no_log
-log_shown false bytes = bytes
-
-unfoldable pub journal_of : List ℕ → List ℕ
+unfoldable pub journal_of : List ℕ → Option (List ℕ)
 journal_of file = log_shown (is_damaged file) (log_of file)
 
 -- the stock of files and an output
@@ -45,4 +42,4 @@ abbrev pub SameJournal : List ℕ → List ℕ → Type 0
 SameJournal old new = journal_of new ≡ journal_of old
 
 abbrev pub JournalOr : List ℕ → List ℕ → List ℕ → Type 0
-JournalOr log old new = (journal_of new ≡ journal_of old) ⊎ (journal_of new ≡ log)
+JournalOr log old new = (journal_of new ≡ journal_of old) ⊎ (journal_of new ≡ Some log)

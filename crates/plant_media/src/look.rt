@@ -26,7 +26,7 @@ pub fn look<M: Media>(
     ensures count { M.count media.new ≡ M.count media.old }
     ensures present { M.present media.new ≡ M.present media.old }
     ensures cause { HasCause (M.faults media.old) (M.faults media.new) result }
-    ensures tell_faults { M.tell_faults media.old ≤ M.tell_faults media.new }
+    ensures tell_faults { M.tell_faults media.new ≡ M.tell_faults media.old }
 {
     if let Some(tape) = tape {
         if tape.slot == slot {

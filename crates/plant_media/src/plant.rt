@@ -2,10 +2,11 @@
 ghost use Rattle.std.specs.Prelude.{◌≡◌, ◌≢◌, ◌↔◌, ◌+◌, ◌-◌, ◌^◌, min, ◌<◌, ◌≤◌, ◌++◌, [], ◌∷◌, List, ℕ, length, take, Option, Some, None, IfOk, IfErr, OnOk, IfSome, IsSome, IsTrue, Bool, true, false};
 ghost use Rattle.crash_moments.specs.Moments.{Leads, HasCause, mapped};
 ghost use Rattle.media_core.specs.Media.{Image, Same};
-ghost use Rattle.crash_moments.specs.Telling.{IsFront};
 ghost use Rattle.crash_log.specs.Log.{is_damaged};
 ghost use Rattle.crash_log.specs.CrashLog.{length_of, settled_of, damaged_of};
-ghost use Rattle.crash_log.specs.Fit.{IsStill, as_read};
+ghost use Rattle.crash_log.specs.Fit.{as_read};
+ghost use Rattle.media_core.specs.Still.{AreStill};
+ghost use Rattle.plant_core.specs.Crashes.{IsSettled, seen_in, settled_part};
 ghost use Rattle.plant_core.specs.Steps.{Same as SameStock, MaySettle};
 ghost use Rattle.plant_media.specs.Stock.{stock_of};
 
@@ -16,6 +17,9 @@ use crash_log::CrashLog;
 use crash_moments::raised;
 use media_core::Media;
 use plant_core::{Block, Failed, Kind, Plant, PutFault};
+
+/// The least number of records with which a tape takes no more. Where contents are told none has so many when one is put.
+const RECORD_LIMIT: u32 = 524_288;
 
 /// A log, tapes and an output over a media. File 0 is the log's, file `k + 1` that of slot `k`. Of the tapes at most the
 /// loaded one's state is kept. No call takes memory.
@@ -29,29 +33,30 @@ pub struct MediaPlant<M: Media> {
 
 impl<M: Media> MediaPlant<M> {
     ghost use Rattle.plant_media.specs.Opening.{media_after, HasCauseIn};
-    ghost use Rattle.plant_media.specs.State.{media_of, seen_of, moments_of, loaded_of, tapes_settled_of, log_size_of, log_settled_of, loads_of, IsSound, Survives};
+    ghost use Rattle.plant_media.specs.Slots.{records_in};
+    ghost use Rattle.plant_media.specs.State.{media_of, shown_of, moments_of, loaded_of, IsSound, Survives, SameBut};
 
     /// Opens the plant that the files of a media have. Nothing is written: the media reads as before, and a crash leaves what
-    /// it left before. Opening has no condition. The plant survives a crash where no write to a file waits for a sync, and what
-    /// was told of each image is a front of what was told: so it is where a program begins.
+    /// it left before. Opening has no condition, and all that the plant has is settled. It survives a crash where no write to a
+    /// file waits for a sync: so it is where a program begins.
     ///
     /// `Failed` comes only where the media's count of faults rose, `BadLog` exactly where the journal's file is damaged. Then
     /// the media is handed back.
     pub fn open(mut media: M) -> Result<MediaPlant<M>, Unopened<M>>
         ensures sound { IfOk result (λ plant. IsSound M.tells M.seen M.present plant) }
-        ensures survives { M.tells → ((k : ℕ) → IsStill M.time M.seen k media) → ((c : Image) → M.time.may_leave media c → IsFront c.told (M.seen media).told) → IfOk result (λ plant. Survives M.tells M.time M.seen M.present plant) }
-        ensures stock { M.tells → IfOk result (λ plant. seen_of M.seen plant ≡ stock_of (M.seen media)) }
+        ensures survives { M.tells → AreStill M.time M.seen media → IfOk result (λ plant. Survives M.tells M.time M.seen M.present plant) }
+        ensures stock { M.tells → IfOk result (λ plant. stock_of (M.seen media) ≡ seen_in (shown_of M.seen plant)) }
+        ensures settled { M.tells → IfOk result (λ plant. IsSettled (shown_of M.seen plant)) }
         ensures loaded { IfOk result (λ plant. loaded_of plant ≡ None) }
-        ensures settled { IfOk result (λ plant. log_settled_of plant ≡ log_size_of plant) }
-        ensures loads { IfOk result (λ plant. loads_of plant ≡ 0) }
+        ensures loads { IfOk result (λ plant. plant.loads ≡ 0) }
         ensures whole { M.tells → OnOk result (is_damaged ((M.seen media).file 0) ≡ false) }
         ensures fault { IfErr result (λ unopened. HasCauseIn M.tells (is_damaged ((M.seen media).file 0)) (M.faults media) (M.faults unopened.media) unopened.fault) }
         ensures seen { M.tells → M.seen (media_after result) ≡ M.seen media }
         ensures crash { M.tells → Leads M.time media (media_after result) Same }
         ensures count { M.count (media_after result) ≡ M.count media }
         ensures present { M.present (media_after result) ≡ M.present media }
-        ensures faults { M.faults media ≤ M.faults (media_after result) }
-        ensures tell_faults { M.tell_faults media ≤ M.tell_faults (media_after result) }
+        ensures faults { OnOk result (M.faults (media_after result) ≡ M.faults media) }
+        ensures tell_faults { M.tell_faults (media_after result) ≡ M.tell_faults media }
     {
         match CrashLog::open(&mut media, 0, 268435456) {
             Ok(journal) => {
@@ -75,9 +80,10 @@ impl<M: Media> MediaPlant<M> {
         }
     }
 
-    /// Hands the media back.
+    /// Hands the media back. Its files have what is settled of the plant: all that the plant shows, where all is settled.
     pub fn into_media(self) -> M
-        ensures { result ≡ media_of self }
+        ensures media { result ≡ media_of self }
+        ensures stock { M.tells → IsSound M.tells M.seen M.present self → stock_of (M.seen result) ≡ settled_part (shown_of M.seen self) }
     {
         let MediaPlant {
             media,
@@ -98,6 +104,16 @@ impl<M: Media> MediaPlant<M> {
         }
     }
 
+    /// Whether the loaded tape has so many records that it takes no more.
+    fn is_full(&self) -> bool
+        ensures { IsTrue result ↔ (524288 ≤ records_in self.now.tape) }
+    {
+        match &self.tape {
+            Some(tape) => tape.records >= RECORD_LIMIT,
+            None => false,
+        }
+    }
+
     /// Settles what was put on the loaded tape, before another one is loaded.
     fn put_away(&mut self, slot: u32) -> Result<(), Failed>
         requires sound { IsSound M.tells M.seen M.present self.old }
@@ -107,12 +123,12 @@ impl<M: Media> MediaPlant<M> {
         ensures all { OnOk result (IfSome self.new.tape (λ t. t.settled ≡ t.records)) }
         ensures loaded { OnOk result (loaded_of self.new ≡ loaded_of self.old) }
         ensures journal { self.new.journal ≡ self.old.journal }
-        ensures seen { M.tells → OnOk result (seen_of M.seen self.new ≡ seen_of M.seen self.old) }
-        ensures crash { M.tells → Survives M.tells M.time M.seen M.present self.old → Leads (moments_of M.time) self.old self.new (MaySettle (loaded_of self.old) slot (tapes_settled_of M.seen self.old) (seen_of M.seen self.old)) }
+        ensures seen { M.tells → OnOk result (SameBut (shown_of M.seen self.old) (shown_of M.seen self.new)) }
+        ensures crash { M.tells → Survives M.tells M.time M.seen M.present self.old → Leads (moments_of M.time) self.old self.new (MaySettle (loaded_of self.old) slot (shown_of M.seen self.old)) }
         ensures count { M.count self.new.media ≡ M.count self.old.media }
         ensures present { M.present self.new.media ≡ M.present self.old.media }
         ensures cause { HasCause (M.faults self.old.media) (M.faults self.new.media) result }
-        ensures tell_faults { M.tell_faults self.old.media ≤ M.tell_faults self.new.media }
+        ensures tell_faults { M.tell_faults self.new.media ≡ M.tell_faults self.old.media }
         ensures loads { self.new.loads ≡ self.old.loads }
     {
         match &mut self.tape {
@@ -135,13 +151,13 @@ impl<M: Media> MediaPlant<M> {
         ensures survives { M.tells → Survives M.tells M.time M.seen M.present self.old → OnOk result (Survives M.tells M.time M.seen M.present self.new) }
         ensures loaded { OnOk result (loaded_of self.new ≡ Some slot) }
         ensures journal { self.new.journal ≡ self.old.journal }
-        ensures seen { M.tells → OnOk result (seen_of M.seen self.new ≡ seen_of M.seen self.old) }
-        ensures all { M.tells → OnOk result ((k : ℕ) → tapes_settled_of M.seen self.new k ≡ length ((seen_of M.seen self.new).tape k)) }
+        ensures seen { M.tells → OnOk result (SameBut (shown_of M.seen self.old) (shown_of M.seen self.new)) }
+        ensures all { M.tells → OnOk result ((k : ℕ) → (shown_of M.seen self.new).settled k ≡ length ((shown_of M.seen self.new).tape k)) }
         ensures crash { M.tells → Leads (moments_of M.time) self.old self.new SameStock }
         ensures count { M.count self.new.media ≡ M.count self.old.media }
         ensures present { M.present self.new.media ≡ M.present self.old.media }
         ensures cause { HasCause (M.faults self.old.media) (M.faults self.new.media) result }
-        ensures tell_faults { M.tell_faults self.old.media ≤ M.tell_faults self.new.media }
+        ensures tell_faults { M.tell_faults self.new.media ≡ M.tell_faults self.old.media }
         ensures counted { OnOk result (self.new.loads ≡ min (self.old.loads + 1) (2 ^ 64 - 1)) }
         ensures loads { self.old.loads ≤ self.new.loads }
     {
@@ -157,38 +173,18 @@ impl<M: Media> MediaPlant<M> {
 }
 
 impl<M: Media> Plant for MediaPlant<M> {
-    ghost use Rattle.plant_media.specs.State.{seen_of, moments_of, slots_of, present_of, loaded_of, records_of_loaded, tapes_settled_of, log_size_of, log_settled_of, loads_of, IsSound, Survives};
-    ghost use Rattle.plant_media.specs.Laws.{few, below, is_here, within, counted, log_counted, others_whole, log_is_left, tapes_are_left, told_is_left, settled_is_left};
+    ghost use Rattle.plant_media.specs.State.{view_of, moments_of, IsSound, Survives};
+    ghost use Rattle.plant_media.specs.Laws.{few, below, small_log, is_here, counted, log_counted, all_within, others_whole, is_left, told_is_left, settled_is_left};
 
     ghost tells = { M.tells };
 
-    ghost seen = { seen_of M.seen };
+    ghost view = { view_of M.seen M.count M.present M.faults M.tell_faults };
 
     ghost time = { moments_of M.time };
 
     ghost sound = { IsSound M.tells M.seen M.present };
 
     ghost survives = { Survives M.tells M.time M.seen M.present };
-
-    ghost slots = { slots_of M.count };
-
-    ghost present = { present_of M.present };
-
-    ghost loaded = { loaded_of };
-
-    ghost records = { records_of_loaded };
-
-    ghost settled = { tapes_settled_of M.seen };
-
-    ghost log_size = { log_size_of };
-
-    ghost log_settled = { log_settled_of };
-
-    ghost loads = { loads_of };
-
-    ghost faults = { λ p. M.faults p.media };
-
-    ghost tell_faults = { λ p. M.tell_faults p.media };
 
     ghost few_slots = { λ s sound. few (M.count s.media) (M.few_files s.media) };
 
@@ -200,15 +196,15 @@ impl<M: Media> Plant for MediaPlant<M> {
 
     ghost log_told = { λ s told sound. log_counted M.tells (as_read M.seen) M.seen M.present s sound told };
 
-    ghost log_within = { λ s sound. within M.tells (as_read M.seen) M.seen M.present s sound };
+    ghost log_small = { λ s sound. small_log s.journal };
+
+    ghost within = { λ s told sound. all_within M.tells (as_read M.seen) M.seen M.present s sound told };
 
     ghost others_settled = { λ s k told sound other. others_whole M.tells (as_read M.seen) M.seen M.present s sound told k other };
 
-    ghost log_left = { λ s c told sound survives left. log_is_left M.tells M.time M.seen M.present s survives told c left };
+    ghost left = { λ s c told sound survives left. is_left M.tells M.time M.seen M.present s survives told (λ i was. M.told_left s.media i told was) c left };
 
-    ghost tapes_left = { λ s c k told sound survives left. tapes_are_left M.tells M.time M.seen M.present s survives told c k left };
-
-    ghost told_left = { λ s c told sound survives left. told_is_left M.tells M.time M.seen M.present s survives told c left };
+    ghost told_left = { λ s c told left. told_is_left M.time M.seen s (λ i was. M.told_left s.media i told was) c left };
 
     ghost settled_may_be_left = { λ s told sound survives. settled_is_left M.tells M.time M.seen M.present s survives told (M.seen_may_be_left s.media told) };
 
@@ -264,6 +260,9 @@ impl<M: Media> Plant for MediaPlant<M> {
     }
 
     fn tape_put(&mut self, block: &Block) -> Result<(), Failed> {
+        if self.is_full() {
+            return Ok(());
+        }
         match &mut self.tape {
             Some(tape) => match tape.put(&mut self.media, block) {
                 Ok(()) => Ok(()),
@@ -274,6 +273,9 @@ impl<M: Media> Plant for MediaPlant<M> {
     }
 
     fn tape_mark(&mut self) -> Result<(), Failed> {
+        if self.is_full() {
+            return Ok(());
+        }
         match &mut self.tape {
             Some(tape) => match tape.mark(&mut self.media) {
                 Ok(()) => Ok(()),

@@ -46,7 +46,7 @@ fn append<M: Media>(log: &mut CrashLog, media: &mut M, bytes: &[u8]) -> Result<(
     ensures count { M.count media.new ≡ M.count media.old }
     ensures present { M.present media.new ≡ M.present media.old }
     ensures cause { HasCause (M.faults media.old) (M.faults media.new) result }
-    ensures tell_faults { M.tell_faults media.old ≤ M.tell_faults media.new }
+    ensures tell_faults { M.tell_faults media.new ≡ M.tell_faults media.old }
 {
     match log.put(media, bytes) {
         Ok(()) => Ok(()),
@@ -72,7 +72,7 @@ impl Tape {
         ensures count { M.count media.new ≡ M.count media.old }
         ensures present { M.present media.new ≡ M.present media.old }
         ensures cause { HasCause (M.faults media.old) (M.faults media.new) result }
-        ensures tell_faults { M.tell_faults media.old ≤ M.tell_faults media.new }
+        ensures tell_faults { M.tell_faults media.new ≡ M.tell_faults media.old }
     {
         let log = CrashLog::open(media, slot + 1, 1 << 34)?;
         let records = if log.damaged() {
@@ -98,7 +98,7 @@ impl Tape {
         ensures count { M.count media.new ≡ M.count media.old }
         ensures present { M.present media.new ≡ M.present media.old }
         ensures cause { HasCause (M.faults media.old) (M.faults media.new) result }
-        ensures tell_faults { M.tell_faults media.old ≤ M.tell_faults media.new }
+        ensures tell_faults { M.tell_faults media.new ≡ M.tell_faults media.old }
     {
         let at = 16385 * u64::from(i);
         if self.log.damaged() || self.log.len() < at + 16385 {
@@ -125,7 +125,7 @@ impl Tape {
         ensures count { M.count media.new ≡ M.count media.old }
         ensures present { M.present media.new ≡ M.present media.old }
         ensures cause { HasCause (M.faults media.old) (M.faults media.new) result }
-        ensures tell_faults { M.tell_faults media.old ≤ M.tell_faults media.new }
+        ensures tell_faults { M.tell_faults media.new ≡ M.tell_faults media.old }
     {
         if self.records == 0 {
             return Ok(None);
@@ -153,7 +153,7 @@ impl Tape {
         ensures count { M.count media.new ≡ M.count media.old }
         ensures present { M.present media.new ≡ M.present media.old }
         ensures cause { HasCause (M.faults media.old) (M.faults media.new) result }
-        ensures tell_faults { M.tell_faults media.old ≤ M.tell_faults media.new }
+        ensures tell_faults { M.tell_faults media.new ≡ M.tell_faults media.old }
     {
         append(&mut self.log, media, &[first])?;
         append(&mut self.log, media, rest)?;
@@ -177,7 +177,7 @@ impl Tape {
         ensures count { M.count media.new ≡ M.count media.old }
         ensures present { M.present media.new ≡ M.present media.old }
         ensures cause { HasCause (M.faults media.old) (M.faults media.new) result }
-        ensures tell_faults { M.tell_faults media.old ≤ M.tell_faults media.new }
+        ensures tell_faults { M.tell_faults media.new ≡ M.tell_faults media.old }
     {
         self.put_record(media, 0, block)?;
         Ok(())
@@ -198,7 +198,7 @@ impl Tape {
         ensures count { M.count media.new ≡ M.count media.old }
         ensures present { M.present media.new ≡ M.present media.old }
         ensures cause { HasCause (M.faults media.old) (M.faults media.new) result }
-        ensures tell_faults { M.tell_faults media.old ≤ M.tell_faults media.new }
+        ensures tell_faults { M.tell_faults media.new ≡ M.tell_faults media.old }
     {
         self.log.commit(media)?;
         self.settled = self.records;
@@ -219,7 +219,7 @@ impl Tape {
         ensures count { M.count media.new ≡ M.count media.old }
         ensures present { M.present media.new ≡ M.present media.old }
         ensures cause { HasCause (M.faults media.old) (M.faults media.new) result }
-        ensures tell_faults { M.tell_faults media.old ≤ M.tell_faults media.new }
+        ensures tell_faults { M.tell_faults media.new ≡ M.tell_faults media.old }
     {
         if self.settled < self.records {
             self.commit(media)?;
@@ -243,7 +243,7 @@ impl Tape {
         ensures count { M.count media.new ≡ M.count media.old }
         ensures present { M.present media.new ≡ M.present media.old }
         ensures cause { HasCause (M.faults media.old) (M.faults media.new) result }
-        ensures tell_faults { M.tell_faults media.old ≤ M.tell_faults media.new }
+        ensures tell_faults { M.tell_faults media.new ≡ M.tell_faults media.old }
     {
         let zeros = [0; 16384];
         self.put_record(media, 1, &zeros)?;
@@ -267,7 +267,7 @@ impl Tape {
         ensures count { M.count media.new ≡ M.count media.old }
         ensures present { M.present media.new ≡ M.present media.old }
         ensures cause { HasCause (M.faults media.old) (M.faults media.new) result }
-        ensures tell_faults { M.tell_faults media.old ≤ M.tell_faults media.new }
+        ensures tell_faults { M.tell_faults media.new ≡ M.tell_faults media.old }
     {
         let size = (16385 * u64::from(n)).min(self.log.len());
         self.log.cut(media, size)?;

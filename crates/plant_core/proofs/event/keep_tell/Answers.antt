@@ -1,9 +1,7 @@
-use Rattle.std.proofs.Common.{◌≡◌, ◌++◌, ◌∷◌, [], List, ap, ◌∙◌, rules}
-use Rattle.plant_core.specs.declared.event.Event.{Event}
-use Rattle.plant_core.specs.declared.event.Event.TheVariants as Of
+use Rattle.std.proofs.Common.{◌≡◌, rules}
 use Rattle.plant_core.proofs.event.keep_tell.Goals as goal
 
-pub returns-in-Ok-clause-past : goal.returns-in-Ok-clause-past
-returns-in-Ok-clause-past c =
+pub returns-clause-past : goal.returns-clause-past
+returns-clause-past c =
     let same : c.in_ok-bytes.bytes.items ≡ c.args.piece.now = search rules in
-    record { kept = c.in_ok-bytes.bytes; is = same; more = c.keep.ensures.kept ∙ ap (λ (es : List Event). es ++ Of.Tell c.in_ok-bytes.bytes ∷ []) c.make_room.ensures.kept }
+    record { kept = c.in_ok-bytes.bytes; is = same; more = c.in_ok-keep.ensures.ok }

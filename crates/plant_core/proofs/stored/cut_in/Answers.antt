@@ -1,7 +1,6 @@
-use Rattle.std.proofs.Common.{arith, ◌<◌, length, take, sym, ◌∙◌, ap, rules}
-use Rattle.std.proofs.lemmas.List.{length-take}
+use Rattle.std.proofs.Common.{◌<◌, length, take, sym, ◌∙◌, ap, rules}
 use Rattle.plant_core.specs.Tapes.{records_in}
-use Rattle.plant_core.proofs.TapeLists.{records_at_at, records_at_set, records_in-take, records_in-length, total_set}
+use Rattle.plant_core.proofs.TapeLists.{records_at_at, records_at_set, records_in-take}
 use Rattle.plant_core.proofs.stored.cut_in.Goals as goal
 
 pub returns-clause-cut : goal.returns-clause-cut
@@ -10,10 +9,3 @@ returns-clause-cut c = λ k.
     let is = records_at_at c.args.tapes.now.items c.args.slot c.index_mut.result.now below c.index_mut.ensures.value in
     records_at_set c.args.tapes.now.items c.args.slot c.truncate.new.self (take c.args.n) k below
     (ap records_in c.truncate.ensures.items ∙ records_in-take c.args.n c.index_mut.result.now.items ∙ ap (take c.args.n) (sym is))
-
-pub returns-clause-total : goal.returns-clause-total
-returns-clause-total c =
-    let below : c.args.slot < length c.args.tapes.now.items = search rules in
-    let is = records_at_at c.args.tapes.now.items c.args.slot c.index_mut.result.now below c.index_mut.ensures.value in
-    let set = total_set c.args.tapes.now.items c.args.slot c.truncate.new.self c.index_mut.result.now below c.index_mut.ensures.value in
-    omega (arith, set, ap length c.truncate.ensures.items, length-take c.args.n c.index_mut.result.now.items, ap length is, records_in-length c.index_mut.result.now.items)

@@ -1,7 +1,7 @@
-use Rattle.std.proofs.Common.{length-append, arith, ◌<◌, [], ◌∷◌, ◌++◌, length, List, sym, ◌∙◌, ap, rules}
+use Rattle.std.proofs.Common.{◌<◌, [], ◌∷◌, ◌++◌, length, List, sym, ◌∙◌, ap, rules}
 use Rattle.plant_core.specs.Records.{Record}
 use Rattle.plant_core.specs.Tapes.{record_of, records_in}
-use Rattle.plant_core.proofs.TapeLists.{records_at_at, records_at_set, records_at_set_back, records_in-push, total_set}
+use Rattle.plant_core.proofs.TapeLists.{records_at_at, records_at_set, records_at_set_back, records_in-push}
 use Rattle.plant_core.proofs.stored.push_in.Goals as goal
 
 pub returns-in-Ok-clause-ok : goal.returns-in-Ok-clause-ok
@@ -16,15 +16,3 @@ returns-in-Err-clause-err c = λ k.
     let below : c.args.slot < length c.args.tapes.now.items = search rules in
     let is = records_at_at c.args.tapes.now.items c.args.slot c.index_mut.result.now below c.index_mut.ensures.value in
     records_at_set_back c.args.tapes.now.items c.args.slot c.push_on.new.tape k below (ap records_in c.in-Err.ensures.err ∙ sym is)
-
-pub returns-in-Ok-clause-total : goal.returns-in-Ok-clause-total
-returns-in-Ok-clause-total c =
-    let below : c.args.slot < length c.args.tapes.now.items = search rules in
-    let set = total_set c.args.tapes.now.items c.args.slot c.push_on.new.tape c.index_mut.result.now below c.index_mut.ensures.value in
-    omega (arith, set, ap length c.in-Ok.ensures.ok, length-append c.index_mut.result.now.items (c.args.stored ∷ []))
-
-pub returns-in-Err-clause-total_err : goal.returns-in-Err-clause-total_err
-returns-in-Err-clause-total_err c =
-    let below : c.args.slot < length c.args.tapes.now.items = search rules in
-    let set = total_set c.args.tapes.now.items c.args.slot c.push_on.new.tape c.index_mut.result.now below c.index_mut.ensures.value in
-    omega (arith, set, ap length c.in-Err.ensures.err)

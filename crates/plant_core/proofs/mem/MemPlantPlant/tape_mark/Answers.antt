@@ -1,62 +1,21 @@
-use Rattle.std.proofs.Common.{◌≡◌, ◌==◌, if◌then◌else◌, ◌∷◌, ◌++◌, [], ℕ, length, List, sym, ap, subst, arith, length-append, ◌∙◌}
-use Rattle.plant_core.specs.declared.event.Event.{Event}
-use Rattle.plant_core.specs.declared.event.Event.TheVariants.{Put, Settle}
+use Rattle.std.proofs.Common.{refl, ◌∙◌}
 use Rattle.plant_core.specs.declared.stored.Stored.TheVariants.{Mark}
-use Rattle.plant_core.specs.Past.{blank, after}
-use Rattle.plant_core.specs.Records.{Record, mark}
-use Rattle.plant_core.specs.Stock.{slot_of}
-use Rattle.plant_core.specs.Tapes.{records_at}
-use Rattle.plant_core.proofs.Keeping.{all_settled, some_slot, mark_becomes, mark_settled, now_is, tapes_follow, others_follow, short_follow, one_longer}
-use Rattle.plant_core.proofs.Leading.{mark_leads, put_stays}
+use Rattle.plant_core.specs.Records.{mark}
+use Rattle.plant_core.proofs.Calls.{put_crash, mark_only, mark_crash, mark_records}
+use Rattle.plant_core.proofs.Leading.{put_stays}
 use Rattle.plant_core.proofs.mem.MemPlantPlant.tape_mark.Goals as goal
 
-abbrev more : List Record → List Record
-more l = l ++ mark ∷ []
+pub returns-in_err-put-in-Some-clause-crash : goal.returns-in_err-put-in-Some-clause-crash
+returns-in_err-put-in-Some-clause-crash c = λ told survives k at. put_stays c.args.self.now c.put.new.self k mark c.in_err-put-in-Some.ensures.err
 
-marked : (past past' : List Event) (k k' : ℕ) → k ≡ k' → past' ≡ past ++ Put k Mark ∷ [] ++ Settle k ∷ [] → past' ≡ past ++ Put k' Mark ∷ [] ++ Settle k' ∷ []
-marked past past' k k' same was = subst (λ (k : ℕ). past' ≡ past ++ Put k Mark ∷ [] ++ Settle k ∷ []) same was
+pub returns-in_err-settle-in-Some-clause-crash : goal.returns-in_err-settle-in-Some-clause-crash
+returns-in_err-settle-in-Some-clause-crash c = λ told survives k at. put_crash c.args.self.now c.settle.new.self c.in-Some.slot k c.in-Some.is at Mark mark refl (c.in_err-settle-in-Some.ensures.err ∙ c.in_ok-put-in-Some.ensures.ok)
 
-pub invariant_of-self : goal.invariant_of-self
-invariant_of-self c =
-    let m = c.args.self.now in
-    let k = slot_of m.loaded in
-    let b = mark_becomes m.past.items c.keep_mark.new.past.items k (marked c.args.self.now.past.items c.keep_mark.new.past.items _ _ c.slot-slot.ensures c.in-Ok.ensures.past) in
-    let changed = subst (λ (k : ℕ). (j : ℕ) → records_at c.keep_mark.new.tapes.items j ≡ (if j == k then records_at m.tapes.items j ++ mark ∷ [] else records_at m.tapes.items j)) c.slot-slot.ensures c.in-Ok.ensures.ok in
-    record {
-      tapes_kept = tapes_follow k more _ _ b m.tapes.items c.keep_mark.new.tapes.items m.tapes_kept changed;
-      log_kept = m.log_kept ∙ sym b.log;
-      few_slots = omega (arith, c.in-Ok.ensures.count, m.few_slots);
-      short = short_follow k more m.tapes.items c.keep_mark.new.tapes.items m.short changed (one_longer mark m.tapes.items k _ (m.tapes_kept k) c.requires.room);
-      loaded_here = λ j here. omega (arith, c.in-Ok.ensures.count, m.loaded_here j here);
-      others_settled = others_follow k more _ _ b m.loaded (some_slot m.loaded c.requires.loaded) m.others_settled;
-      tapes_settled = λ none. all_settled k more _ _ b m.loaded (some_slot m.loaded c.requires.loaded) m.others_settled (mark_settled m.past.items c.keep_mark.new.past.items k (marked c.args.self.now.past.items c.keep_mark.new.past.items _ _ c.slot-slot.ensures c.in-Ok.ensures.past)).here;
-      log_settled = λ none. b.log_settled ∙ m.log_settled none ∙ ap length (sym b.log);
-      reserved = omega (arith, m.reserved, c.waiting-waiting.ensures.sum, c.in-Ok.ensures.room);
-      covered = omega (arith, m.covered, c.in-Ok.ensures.total);
-    }
+pub returns-clause-only : goal.returns-clause-only
+returns-clause-only c = λ k at. mark_only c.args.self.now c.settle.new.self c.in-Some.slot k c.in-Some.is at _ (c.settle.ensures.loaded ∙ c.put.ensures.loaded) c.in_ok-put-in-Some.ensures.ok c.in_ok-settle-in-Some.ensures.ok
 
-pub returns-in-Ok-clause-put : goal.returns-in-Ok-clause-put
-returns-in-Ok-clause-put c =
-    let m = c.args.self.now in
-    now_is (slot_of m.loaded) more _ _ (mark_becomes m.past.items c.keep_mark.new.past.items (slot_of m.loaded) (marked c.args.self.now.past.items c.keep_mark.new.past.items _ _ c.slot-slot.ensures c.in-Ok.ensures.past))
+pub returns-clause-records : goal.returns-clause-records
+returns-clause-records c = λ room. mark_records c.args.self.now c.settle.new.self c.in-Some.slot c.in-Some.is (c.settle.ensures.loaded ∙ c.put.ensures.loaded) _ c.in_ok-put-in-Some.ensures.ok c.in_ok-settle-in-Some.ensures.ok
 
-pub returns-in-Ok-clause-records : goal.returns-in-Ok-clause-records
-returns-in-Ok-clause-records c =
-    let m = c.args.self.now in
-    let is = now_is (slot_of m.loaded) more _ _ (mark_becomes m.past.items c.keep_mark.new.past.items (slot_of m.loaded) (marked c.args.self.now.past.items c.keep_mark.new.past.items _ _ c.slot-slot.ensures c.in-Ok.ensures.past)) in
-    ap length is.here ∙ length-append ((after m.past.items blank).tape (slot_of m.loaded)) (mark ∷ [])
-
-pub returns-in-Ok-clause-settled : goal.returns-in-Ok-clause-settled
-returns-in-Ok-clause-settled c = mark_settled c.args.self.now.past.items c.keep_mark.new.past.items (slot_of c.args.self.now.loaded) (marked c.args.self.now.past.items c.keep_mark.new.past.items _ _ c.slot-slot.ensures c.in-Ok.ensures.past)
-
-pub returns-in-Ok-clause-log_settled : goal.returns-in-Ok-clause-log_settled
-returns-in-Ok-clause-log_settled c = (mark_becomes c.args.self.now.past.items c.keep_mark.new.past.items _ c.in-Ok.ensures.past).log_settled
-
-pub returns-in-Ok-clause-log_size : goal.returns-in-Ok-clause-log_size
-returns-in-Ok-clause-log_size c = ap length (mark_becomes c.args.self.now.past.items c.keep_mark.new.past.items _ c.in-Ok.ensures.past).log
-
-pub returns-in-Ok-clause-crash : goal.returns-in-Ok-clause-crash
-returns-in-Ok-clause-crash c = mark_leads c.args.self.now _ (slot_of c.args.self.now.loaded) (marked c.args.self.now.past.items c.keep_mark.new.past.items _ _ c.slot-slot.ensures c.in-Ok.ensures.past)
-
-pub returns-in-Err-clause-crash : goal.returns-in-Err-clause-crash
-returns-in-Err-clause-crash c = put_stays c.args.self.now _ _ _ c.in-Err.ensures.past_err
+pub returns-clause-crash : goal.returns-clause-crash
+returns-clause-crash c = λ told survives k at. mark_crash c.args.self.now c.settle.new.self c.in-Some.slot k c.in-Some.is at _ c.in_ok-put-in-Some.ensures.ok c.in_ok-settle-in-Some.ensures.ok

@@ -1,15 +1,19 @@
-use Rattle.std.proofs.Common.{ℕ, Some, ◌∙◌, ap}
+use Rattle.std.proofs.Common.{ℕ, Option, Some, sym, ◌∙◌, ap}
 use Rattle.plant_media.specs.Slots.{slot_in}
-use Rattle.plant_media.proofs.Lifting.{lift_settle}
+use Rattle.plant_media.specs.declared.tape.Tape.{Tape}
+use Rattle.plant_media.proofs.Lifting.{lift_settle, not_zero}
 use Rattle.plant_media.proofs.Keeping.{tape_stays}
-use Rattle.plant_media.proofs.Calling.{held_tape, tape_sound, tape_suits}
+use Rattle.plant_media.proofs.Calling.{put_away_same, held_tape, tape_sound, tape_suits}
 use Rattle.plant_media.proofs.plant.MediaPlant.put_away.Goals as goal
 
 pub returns-in-Ok-clause-seen : goal.returns-in-Ok-clause-seen
 returns-in-Ok-clause-seen g c = λ told.
     let m = g.M.Media in
     let p = c.args.self.now in
-    tape_stays p.journal p.tape c.in-Some.tape c.settle.new.self c.in-Some.is c.in-Ok.ensures.slot (m.seen p.media) (m.seen c.settle.new.media) (c.in-Ok.ensures.frame told) (c.in-Ok.ensures.tape told)
+    let e = c.in-Ok.ensures in
+    let now : Option Tape = Some c.settle.new.self in
+    put_away_same p.journal now p.tape (m.seen p.media) (m.seen c.settle.new.media) ((e.frame told).others 0 (λ same. not_zero c.in-Some.tape.slot (sym same))) (e.frame told).told
+    (tape_stays p.journal p.tape c.in-Some.tape c.settle.new.self c.in-Some.is e.slot (m.seen p.media) (m.seen c.settle.new.media) (e.frame told) (e.tape told))
 
 pub returns-in-Ok-clause-sound : goal.returns-in-Ok-clause-sound
 returns-in-Ok-clause-sound g c =

@@ -1,8 +1,25 @@
+use Rattle.std.proofs.Common.{length, refl, ◌∙◌}
 use Rattle.crash_log.specs.CrashLog.{file_of, log_bytes}
 use Rattle.crash_log.specs.Fit.{as_read}
-use Rattle.plant_media.specs.State.{seen_of}
-use Rattle.plant_media.proofs.Calling.{turn_crash, journal_sound, journal_suits, journal_settled, journal_stays, log_shown_is}
+use Rattle.plant_media.specs.Laws.{log_counted}
+use Rattle.plant_media.specs.State.{shown_of}
+use Rattle.plant_media.proofs.Calling.{turn_crash, journal_sound, journal_suits, journal_alike, log_shown_is}
 use Rattle.plant_media.proofs.plant.MediaPlantPlant.log_commit.Goals as goal
+
+pub returns-in-Ok-clause-only : goal.returns-in-Ok-clause-only
+returns-in-Ok-clause-only g c =
+    let m = g.M.Media in
+    let p = c.args.self.now in
+    let e = c.in-Ok.ensures in
+    record {
+      state = λ told. journal_alike m.tells (as_read m.seen) m.seen m.present p c.requires.sound c.commit.new.media c.commit.new.self e.frame told
+          (shown_of m.seen p).log (length (shown_of m.seen p).log)
+          (e.bytes told ∙ log_shown_is m.tells (as_read m.seen) m.seen m.present p c.requires.sound)
+          (e.log.settled ∙ log_counted m.tells (as_read m.seen) m.seen m.present p c.requires.sound told);
+      loaded = refl;
+      records = refl;
+      log_size = e.log.size;
+    }
 
 pub returns-in-Ok-clause-sound : goal.returns-in-Ok-clause-sound
 returns-in-Ok-clause-sound g c =
@@ -17,31 +34,16 @@ returns-in-Ok-clause-survives g c = λ told survives.
     journal_suits m.tells m.time m.seen m.present c.args.self.now survives c.commit.new.media c.commit.new.self e.frame e.present _ (λ told. (c.commit.ensures.crash told (survives.journal.fits told)).now) _ _ e.log
     c.in-Ok.ensures.survives
 
-pub returns-in-Ok-clause-seen : goal.returns-in-Ok-clause-seen
-returns-in-Ok-clause-seen g c = λ told.
-    let m = g.M.Media in
-    let p = c.args.self.now in
-    let file = (m.seen p.media).file (file_of p.journal) in
-    journal_stays m.tells (as_read m.seen) m.seen m.present p c.requires.sound c.commit.new.media c.commit.new.self c.in-Ok.ensures.frame told
-    (c.in-Ok.ensures.bytes told)
-
-pub returns-in-Ok-clause-settled : goal.returns-in-Ok-clause-settled
-returns-in-Ok-clause-settled g c =
-    let m = g.M.Media in
-    let p = c.args.self.now in
-    let file = (m.seen p.media).file (file_of p.journal) in
-    journal_settled m.tells (as_read m.seen) m.seen m.present p c.requires.sound c.commit.new.media c.commit.new.self c.in-Ok.ensures.frame
-
 pub returns-in-Ok-clause-crash : goal.returns-in-Ok-clause-crash
 returns-in-Ok-clause-crash g c = λ told survives.
     let m = g.M.Media in
     let p = c.args.self.now in
-    turn_crash m.tells m.time m.seen m.present p survives c.commit.new.media c.commit.new.self told (log_bytes p.journal ((m.seen p.media).file (file_of p.journal))) (seen_of m.seen p).log
+    turn_crash m.tells m.time m.seen m.present p survives c.commit.new.media c.commit.new.self told (log_bytes p.journal ((m.seen p.media).file (file_of p.journal))) (shown_of m.seen p).log
     (log_shown_is m.tells m.time m.seen m.present p survives) (c.commit.ensures.crash told (survives.journal.fits told))
 
 pub returns-in-Err-clause-crash : goal.returns-in-Err-clause-crash
 returns-in-Err-clause-crash g c = λ told survives.
     let m = g.M.Media in
     let p = c.args.self.now in
-    turn_crash m.tells m.time m.seen m.present p survives c.commit.new.media c.commit.new.self told (log_bytes p.journal ((m.seen p.media).file (file_of p.journal))) (seen_of m.seen p).log
+    turn_crash m.tells m.time m.seen m.present p survives c.commit.new.media c.commit.new.self told (log_bytes p.journal ((m.seen p.media).file (file_of p.journal))) (shown_of m.seen p).log
     (log_shown_is m.tells m.time m.seen m.present p survives) (c.commit.ensures.crash told (survives.journal.fits told))

@@ -1,14 +1,24 @@
-use Rattle.std.proofs.Common.{◌≡◌, ◌++◌}
+use Rattle.std.proofs.Common.{ℕ, List, ◌++◌, refl, sym, ◌∙◌, ap}
 use Rattle.crash_log.specs.Fit.{as_read}
-use Rattle.plant_media.proofs.Calling.{put_crash, journal_sound, journal_suits, journal_settled, journal_changed}
+use Rattle.plant_media.specs.State.{shown_of}
+use Rattle.plant_media.specs.Slotting.{shown_kept}
+use Rattle.plant_media.proofs.Calling.{put_crash, journal_sound, journal_suits, journal_alike, log_shown_is}
 use Rattle.plant_media.proofs.plant.MediaPlantPlant.log_put.Goals as goal
 
-pub returns-in-Ok-clause-put : goal.returns-in-Ok-clause-put
-returns-in-Ok-clause-put g c = λ told.
+pub returns-in-Ok-clause-only : goal.returns-in-Ok-clause-only
+returns-in-Ok-clause-only g c =
     let m = g.M.Media in
     let p = c.args.self.now in
-    journal_changed m.tells (as_read m.seen) m.seen m.present p c.requires.sound c.put.new.media c.put.new.self c.in-Ok.ensures.frame told
-    (λ old new. new ≡ old ++ c.args.piece.now) (c.in-Ok.ensures.bytes told)
+    let e = c.in-Ok.ensures in
+    record {
+      state = λ told. journal_alike m.tells (as_read m.seen) m.seen m.present p c.requires.sound c.put.new.media c.put.new.self e.frame told
+          ((shown_of m.seen p).log ++ c.args.piece.now) (shown_of m.seen p).log_settled
+          (e.bytes told ∙ ap (λ (l : List ℕ). l ++ c.args.piece.now) (log_shown_is m.tells (as_read m.seen) m.seen m.present p c.requires.sound))
+          (e.log.settled ∙ sym (shown_kept p.journal p.tape (m.seen p.media)));
+      loaded = refl;
+      records = refl;
+      log_size = e.log.size;
+    }
 
 pub returns-in-Ok-clause-sound : goal.returns-in-Ok-clause-sound
 returns-in-Ok-clause-sound g c =
@@ -22,12 +32,6 @@ returns-in-Ok-clause-survives g c = λ told survives.
     let e = c.in-Ok.ensures in
     journal_suits m.tells m.time m.seen m.present c.args.self.now survives c.put.new.media c.put.new.self e.frame e.present _ (λ told. (c.put.ensures.crash told (survives.journal.fits told)).now) _ _ e.log
     (λ told. c.in-Ok.ensures.survives told (survives.journal.fits told))
-
-pub returns-in-Ok-clause-settled : goal.returns-in-Ok-clause-settled
-returns-in-Ok-clause-settled g c =
-    let m = g.M.Media in
-    let p = c.args.self.now in
-    journal_settled m.tells (as_read m.seen) m.seen m.present p c.requires.sound c.put.new.media c.put.new.self c.in-Ok.ensures.frame
 
 pub returns-in-Ok-clause-crash : goal.returns-in-Ok-clause-crash
 returns-in-Ok-clause-crash g c = λ told survives. let m = g.M.Media in put_crash m.tells m.time m.seen m.present c.args.self.now survives c.put.new.media c.put.new.self told (c.put.ensures.crash told (survives.journal.fits told))

@@ -1,14 +1,19 @@
-use Rattle.std.proofs.Common.{◌≡◌, refl}
+use Rattle.std.proofs.Common.{length, refl}
 use Rattle.crash_log.specs.Fit.{as_read}
-use Rattle.plant_media.proofs.Calling.{turn_crash, journal_sound, journal_suits, journal_settled, journal_changed}
+use Rattle.plant_media.proofs.Calling.{turn_crash, journal_sound, journal_suits, journal_alike}
 use Rattle.plant_media.proofs.plant.MediaPlantPlant.log_replace.Goals as goal
 
-pub returns-in-Ok-clause-replaced : goal.returns-in-Ok-clause-replaced
-returns-in-Ok-clause-replaced g c = λ told.
+pub returns-in-Ok-clause-only : goal.returns-in-Ok-clause-only
+returns-in-Ok-clause-only g c =
     let m = g.M.Media in
     let p = c.args.self.now in
-    journal_changed m.tells (as_read m.seen) m.seen m.present p c.requires.sound c.replace.new.media c.replace.new.self c.in-Ok.ensures.frame told
-    (λ old new. new ≡ c.args.bytes.now) (c.in-Ok.ensures.bytes told)
+    let e = c.in-Ok.ensures in
+    record {
+      state = λ told. journal_alike m.tells (as_read m.seen) m.seen m.present p c.requires.sound c.replace.new.media c.replace.new.self e.frame told c.args.bytes.now (length c.args.bytes.now) (e.bytes told) e.log.settled;
+      loaded = refl;
+      records = refl;
+      log_size = e.log.size;
+    }
 
 pub returns-in-Ok-clause-sound : goal.returns-in-Ok-clause-sound
 returns-in-Ok-clause-sound g c =
@@ -22,12 +27,6 @@ returns-in-Ok-clause-survives g c = λ told survives.
     let e = c.in-Ok.ensures in
     journal_suits m.tells m.time m.seen m.present c.args.self.now survives c.replace.new.media c.replace.new.self e.frame e.present _ (λ told. (c.replace.ensures.crash told (survives.journal.fits told)).now) _ _ e.log
     c.in-Ok.ensures.survives
-
-pub returns-in-Ok-clause-settled : goal.returns-in-Ok-clause-settled
-returns-in-Ok-clause-settled g c =
-    let m = g.M.Media in
-    let p = c.args.self.now in
-    journal_settled m.tells (as_read m.seen) m.seen m.present p c.requires.sound c.replace.new.media c.replace.new.self c.in-Ok.ensures.frame
 
 pub returns-in-Ok-clause-crash : goal.returns-in-Ok-clause-crash
 returns-in-Ok-clause-crash g c = λ told survives. let m = g.M.Media in turn_crash m.tells m.time m.seen m.present c.args.self.now survives c.replace.new.media c.replace.new.self told c.args.bytes.now c.args.bytes.now refl (c.replace.ensures.crash told (survives.journal.fits told))

@@ -1,7 +1,7 @@
-use Rattle.std.proofs.Common.{◌+◌, ◌<◌, List, sym, subst, arith}
+use Rattle.std.proofs.Common.{refl, ◌+◌, ◌<◌, List, sym, subst, arith}
 use Rattle.plant_core.specs.Records.{Record, ShowsFirst}
 use Rattle.plant_media.specs.Slotting.{shown_tape}
-use Rattle.plant_media.proofs.Calling.{read_sound, read_suits, file_here}
+use Rattle.plant_media.proofs.Calling.{read_alike, read_sound, read_suits, file_here}
 use Rattle.plant_media.proofs.plant.MediaPlantPlant.peek.Goals as goal
 
 pub look-requires-clause-slot : goal.look-requires-clause-slot
@@ -17,6 +17,12 @@ pub returns-in-Ok-clause-first : goal.returns-in-Ok-clause-first
 returns-in-Ok-clause-first g c = λ told.
     let p = c.args.self.now in
     subst (λ (l : List Record). ShowsFirst l c.in-Ok.shown c.look.new.into) (sym (shown_tape p.journal p.tape (g.M.Media.seen p.media) c.args.slot)) (c.in-Ok.ensures.first told)
+
+pub returns-in-Ok-clause-only : goal.returns-in-Ok-clause-only
+returns-in-Ok-clause-only g c =
+    let m = g.M.Media in
+    let p = c.args.self.now in
+    record { state = λ told. read_alike p.journal p.tape (m.seen p.media) (m.seen c.look.new.media) (c.look.ensures.seen told); loaded = refl; records = refl; log_size = refl }
 
 pub returns-in-Ok-clause-sound : goal.returns-in-Ok-clause-sound
 returns-in-Ok-clause-sound g c = let m = g.M.Media in read_sound m.tells m.seen m.present c.args.self.now c.requires.sound c.look.new.media c.in-Ok.ensures.present c.look.ensures.seen

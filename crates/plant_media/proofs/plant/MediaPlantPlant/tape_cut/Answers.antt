@@ -1,19 +1,25 @@
-use Rattle.std.proofs.Common.{◌≡◌, take, subst}
+use Rattle.std.proofs.Common.{ℕ, Some, refl, sym, ◌∙◌, ap, subst}
 use Rattle.plant_core.specs.Records.{NoBad}
 use Rattle.crash_log.specs.Fit.{as_read}
-use Rattle.plant_media.proofs.Lifting.{lift_cut}
-use Rattle.plant_media.proofs.Keeping.{tape_changed, settled_now}
+use Rattle.plant_media.specs.Slots.{slot_in}
+use Rattle.plant_media.proofs.Lifting.{slot_is, lift_cut}
+use Rattle.plant_media.proofs.Keeping.{cut_alike}
 use Rattle.plant_media.proofs.Calling.{held_tape, loaded_tape, tape_sound, tape_suits}
 use Rattle.plant_media.proofs.plant.MediaPlantPlant.tape_cut.Goals as goal
 
 pub cut-requires-clause-whole : goal.cut-requires-clause-whole
-cut-requires-clause-whole g c = λ told some. subst NoBad (loaded_tape g.M.Media.tells (as_read g.M.Media.seen) g.M.Media.seen g.M.Media.present c.args.self.now c.requires.sound c.in-Some.tape c.in-Some.is) (c.requires.whole told some)
+cut-requires-clause-whole g c = λ told some. subst NoBad (loaded_tape g.M.Media.tells (as_read g.M.Media.seen) g.M.Media.seen g.M.Media.present c.args.self.now c.requires.sound c.in-Some.tape c.in-Some.is c.in-Some.tape.slot (ap slot_in c.in-Some.is)) (c.requires.whole told some c.in-Some.tape.slot (ap slot_in c.in-Some.is))
 
-pub returns-in-Ok-clause-kept : goal.returns-in-Ok-clause-kept
-returns-in-Ok-clause-kept g c = λ told.
+pub returns-in-Ok-clause-only : goal.returns-in-Ok-clause-only
+returns-in-Ok-clause-only g c = λ k at.
     let m = g.M.Media in
     let p = c.args.self.now in
-    tape_changed p.journal p.tape c.in-Some.tape c.cut.new.self c.in-Some.is c.in-Ok.ensures.slot (m.seen p.media) (m.seen c.cut.new.media) (c.in-Ok.ensures.frame told) (λ old new. new ≡ take c.args.n old) (c.in-Ok.ensures.tape told)
+    let e = c.in-Ok.ensures in
+    record {
+      state = λ told. cut_alike p.journal p.tape c.in-Some.tape c.cut.new.self c.in-Some.is e.slot (m.seen p.media) (m.seen c.cut.new.media) (e.frame told) k (slot_is m.seen p c.in-Some.tape c.in-Some.is k at) c.args.n (e.tape told) (e.settled ∙ sym e.records ∙ e.fits.counted told);
+      loaded = ap (λ (n : ℕ). Some n) e.slot ∙ sym (ap slot_in c.in-Some.is);
+      log_size = refl;
+    }
 
 pub returns-in-Ok-clause-sound : goal.returns-in-Ok-clause-sound
 returns-in-Ok-clause-sound g c =
@@ -29,22 +35,16 @@ returns-in-Ok-clause-survives g c = λ told survives.
     let held = held_tape m.tells m.time m.seen m.present p survives c.in-Some.tape c.in-Some.is in
     tape_suits m.tells m.time m.seen m.present p survives c.cut.new.media c.in-Some.tape c.cut.new.self c.in-Some.is e.slot e.present _ (λ told. (c.cut.ensures.crash told held).now) e.frame (e.survives told)
 
-pub returns-in-Ok-clause-settled : goal.returns-in-Ok-clause-settled
-returns-in-Ok-clause-settled g c = λ told.
-    let m = g.M.Media in
-    let p = c.args.self.now in
-    settled_now p.journal p.tape c.in-Some.tape c.cut.new.self c.in-Some.is c.in-Ok.ensures.slot (m.seen p.media) (m.seen c.cut.new.media) (c.in-Ok.ensures.frame told) c.args.n c.in-Ok.ensures.settled
-
 pub returns-in-Ok-clause-crash : goal.returns-in-Ok-clause-crash
-returns-in-Ok-clause-crash g c = λ told survives.
+returns-in-Ok-clause-crash g c = λ told survives k at.
     let m = g.M.Media in
     let p = c.args.self.now in
     let held = held_tape m.tells m.time m.seen m.present p survives c.in-Some.tape c.in-Some.is in
-    lift_cut m.tells m.time m.seen m.present p _ c.in-Some.tape c.in-Some.is held told c.args.n (c.cut.ensures.crash told held)
+    lift_cut m.tells m.time m.seen m.present p _ c.in-Some.tape c.in-Some.is held told k (slot_is m.seen p c.in-Some.tape c.in-Some.is k at) c.args.n (c.cut.ensures.crash told held)
 
 pub returns-in-Err-clause-crash : goal.returns-in-Err-clause-crash
-returns-in-Err-clause-crash g c = λ told survives.
+returns-in-Err-clause-crash g c = λ told survives k at.
     let m = g.M.Media in
     let p = c.args.self.now in
     let held = held_tape m.tells m.time m.seen m.present p survives c.in-Some.tape c.in-Some.is in
-    lift_cut m.tells m.time m.seen m.present p _ c.in-Some.tape c.in-Some.is held told c.args.n (c.cut.ensures.crash told held)
+    lift_cut m.tells m.time m.seen m.present p _ c.in-Some.tape c.in-Some.is held told k (slot_is m.seen p c.in-Some.tape c.in-Some.is k at) c.args.n (c.cut.ensures.crash told held)

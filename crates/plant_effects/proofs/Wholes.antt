@@ -1,13 +1,10 @@
 -- A tape whose records are read one after the other, up to the first bad one.
-use Rattle.std.proofs.Common.{◌≡◌, ◌≢◌, inl, inr, ℕ, ◌+◌, ◌<◌, ◌≤◌, List, length, Option, Some, slice_get, refl, sym, ◌∙◌, ap, subst, arith}
+use Rattle.std.proofs.Common.{◌≡◌, ◌≢◌, inl, inr, ℕ, ◌+◌, ◌<◌, ◌≤◌, List, length, Some, slice_get, refl, sym, ◌∙◌, ap, subst, arith}
 use Rattle.std.proofs.lemmas.Bool.{cases_lt}
 use Rattle.std.proofs.lemmas.Option.{slice_get_within}
-use Rattle.crash_moments.specs.Moments.{Moments, Leads}
 use Rattle.plant_core.specs.declared.record.Kind.{Kind}
 use Rattle.plant_core.specs.declared.record.Kind.TheVariants.{Bad}
 use Rattle.plant_core.specs.Records.{Record, block_with, mark, bad, Shows, ShowsAt, NoBad}
-use Rattle.plant_core.specs.Steps.{Same}
-use Rattle.plant_core.specs.Stock.{Stock}
 
 -- none of the first records is bad
 abbrev pub NoneBefore : ℕ → List Record → Type 0
@@ -38,13 +35,3 @@ found_bad tape n kind into at is none = none n (at.is ∙ ap (λ (r : Record). S
 
 pub all_whole : (tape : List Record) (n : ℕ) → length tape ≤ n → NoneBefore n tape → NoBad tape
 all_whole tape n past none i is = none i (omega (arith, slice_get_within tape i bad is, past)) is
-
--- what a plant keeps while it is only read
-pub record OnlyRead {P : Type 0} (tells : Type 0) (seen : P → Stock) (time : Moments P Stock) (sound survives : P → Type 0) (loaded : P → Option ℕ) (records : P → ℕ) (settled : P → ℕ → ℕ) (old new : P) : Type 0 where
-  pub is_sound : sound new
-  pub still_survives : tells → survives old → survives new
-  pub same_seen : tells → seen new ≡ seen old
-  pub same_loaded : loaded new ≡ loaded old
-  pub same_records : records new ≡ records old
-  pub same_settled : tells → settled new ≡ settled old
-  pub leads : tells → Leads time old new Same

@@ -1,0 +1,18 @@
+use Rattle.plant_effects.proofs.TapeCalls.{cuts_step}
+use Rattle.plant_effects.proofs.tape.cut_to.Goals as goal
+
+pub returns-in_err-tape_cut-clause-leaves : goal.returns-in_err-tape_cut-clause-leaves
+returns-in_err-tape_cut-clause-leaves g c =
+    let P = g.P.Plant in
+    let laws = g.met.P.Plant in
+    let old = c.args.plant.now in
+    let new = c.tape_cut.new.self in
+    λ k at. record { crash = cuts_step P k c.args.n old new (λ told survives image left. laws.left old image told c.requires.sound survives left) (λ told survives. c.tape_cut.ensures.crash told survives k at) }
+
+pub returns-clause-leaves : goal.returns-clause-leaves
+returns-clause-leaves g c =
+    let P = g.P.Plant in
+    let laws = g.met.P.Plant in
+    let old = c.args.plant.now in
+    let new = c.tape_cut.new.self in
+    λ k at. record { crash = cuts_step P k c.args.n old new (λ told survives image left. laws.left old image told c.requires.sound survives left) (λ told survives. c.tape_cut.ensures.crash told survives k at) }

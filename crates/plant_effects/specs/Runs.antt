@@ -1,0 +1,63 @@
+-- What a function that is lent a plant did to it, as its effects. Two relations go up through all layers: `Done`, of what was done
+-- whole, and `Leaves`, of what was done in part or whole; beside them `Stays`, which is owed whatever was done.
+use Rattle.std.specs.Prelude.{◌≡◌, ℕ, ◌<◌, ◌≤◌, List, length, Option, Some}
+use Rattle.crash_moments.specs.Moments.{Leads}
+use Rattle.plant_core.specs.declared.plant.Plant.{Ghosts as Plant}
+use Rattle.plant_core.specs.Crashes.{State, Alike}
+use Rattle.plant_core.specs.Effects.{Effect, come, Joint}
+use Rattle.plant_core.specs.Records.{Record, NoBad}
+
+-- what reads give of a plant, and what is settled of it
+abbrev pub state_of : {D : Type 0} → Plant D → D → State
+state_of P plant = (P.view plant).state
+
+-- the slot of the loaded tape
+abbrev pub loaded_of : {D : Type 0} → Plant D → D → Option ℕ
+loaded_of P plant = (P.view plant).loaded
+
+-- this holds of the loaded tape, where contents are told
+abbrev pub OnLoaded : {D : Type 0} → Plant D → (List Record → Type 0) → D → Type 0
+OnLoaded P Is plant = P.tells → (k : ℕ) → loaded_of P plant ≡ Some k → Is ((state_of P plant).tape k)
+
+-- A tape takes one record more: it has fewer than 524,288, and none is bad.
+abbrev pub TakesMore : List Record → Type 0
+TakesMore tape = (length tape < 524288) × NoBad tape
+
+-- all these effects were done
+pub record Done {D : Type 0} (P : Plant D) (effects : List Effect) (old new : D) : Type 0 where
+  pub sound : P.sound new
+  pub survives : P.tells → P.survives old → P.survives new
+  pub state : P.tells → Alike (come effects (state_of P old)) (state_of P new)
+
+-- Whatever of these effects was done: each image since is one of the crash model after the first of them.
+pub record Leaves {D : Type 0} (P : Plant D) (effects : List Effect) (old new : D) : Type 0 where
+  pub crash : P.tells → P.survives old → Leads P.time old new (Joint (state_of P old) effects)
+
+-- the loaded tape is the same, and has as many records
+pub record SameTape {D : Type 0} (P : Plant D) (old new : D) : Type 0 where
+  pub loaded : loaded_of P new ≡ loaded_of P old
+  pub records : (P.view new).records ≡ (P.view old).records
+
+-- the same, and the log has as many bytes
+pub record SameNumbers {D : Type 0} (P : Plant D) (old new : D) : Type 0 where
+  pub tape : SameTape P old new
+  pub log_size : (P.view new).log_size ≡ (P.view old).log_size
+
+-- whatever was done: the slots stay, and no count falls
+pub record Stays {D : Type 0} (P : Plant D) (old new : D) : Type 0 where
+  pub slots : (P.view new).slots ≡ (P.view old).slots
+  pub present : (P.view new).present ≡ (P.view old).present
+  pub loads : (P.view old).loads ≤ (P.view new).loads
+  pub faults : (P.view old).faults ≤ (P.view new).faults
+  pub tell_faults : (P.view old).tell_faults ≤ (P.view new).tell_faults
+
+-- whatever was done by calls on the log and the tapes alone: the count of the output is exactly as before
+pub record StaysQuiet {D : Type 0} (P : Plant D) (old new : D) : Type 0 where
+  pub stays : Stays P old new
+  pub tell_faults : (P.view new).tell_faults ≡ (P.view old).tell_faults
+
+-- whatever was done by calls on the output alone: the other counts are exactly as before
+pub record StaysTelling {D : Type 0} (P : Plant D) (old new : D) : Type 0 where
+  pub stays : Stays P old new
+  pub loads : (P.view new).loads ≡ (P.view old).loads
+  pub faults : (P.view new).faults ≡ (P.view old).faults

@@ -1,0 +1,11 @@
+use Rattle.std.proofs.Common.{refl, sym, ◌∙◌, ap}
+use Rattle.crash_log.specs.Fit.{as_read}
+use Rattle.plant_media.specs.Stock.{stock_of}
+use Rattle.plant_media.specs.Laws.{settled_is_left}
+use Rattle.plant_media.proofs.plant.MediaPlant.into_media.Goals as goal
+
+pub returns-clause-stock : goal.returns-clause-stock
+returns-clause-stock g c = λ told sound.
+    let m = g.M.Media in
+    let left = settled_is_left m.tells (as_read m.seen) m.seen m.present c.args.self sound told refl in
+    ap stock_of (sym left.was) ∙ sym left.is
