@@ -1,13 +1,15 @@
 -- Worked rows of the fold and of the look-ups.
-use Rattle.std.proofs.Common.{◌≡◌, ℕ, List, [], ◌∷◌, Some, None, Ok, Err, refl}
+use Rattle.std.proofs.Common.{◌≡◌, ℕ, List, [], ◌∷◌, Some, None, Ok, Err, refl, arith}
 use Rattle.bk_text.specs.declared.expiry.Expiry.TheVariants.{Unset, Never}
 use Rattle.volume_sets.specs.Testing.{is_pattern}
 use Rattle.budb_changes.specs.declared.records.VolRecordFields.{VolRecordFields}
 use Rattle.budb_changes.specs.declared.records.DumpRecordFields.{DumpRecordFields}
-use Rattle.budb_changes.specs.declared.change.Change.TheVariants.{AddSet, DelSet, AddEntry, DelEntry, AddLevel, DelLevel, AddHost, DelHost, Begin, Take, Done, Found}
+use Rattle.budb_changes.specs.declared.change.Change.TheVariants.{AddSet, DelSet, AddEntry, DelEntry, AddLevel, DelLevel, AddHost, DelHost, Begin, Take, Done, Forget, Found}
 use Rattle.budb_fold.specs.declared.database.Database.{Database}
 use Rattle.budb_fold.specs.Database.{blank, after}
-use Rattle.budb_fold.specs.Lookups.{parent_of, from_of, latest, chain_of}
+use Rattle.budb_fold.specs.Lookups.{greatest_at, parent_of, from_of, latest}
+use Rattle.budb_fold.specs.Chains.{IsChain}
+use Rattle.budb_fold.specs.Checkpoints.{checkpoint}
 
 -- a volume, and a dump of one volume set; `a` is its set, and the base of its tapes
 abbrev volume : List ℕ → ℕ → ℕ → VolRecordFields
@@ -63,12 +65,19 @@ unfit_row = refl
 take_row : after (Begin 2 ∷ Done (dump 2 2 0 f []) ∷ Done (dump 3 2 2 m []) ∷ Done (dump 4 4 0 f []) ∷ Take 2 ∷ Found (dump 3 2 2 m []) ∷ []) ≡ only 4 (dump 4 4 0 f [] ∷ dump 3 2 2 m [] ∷ [])
 take_row = refl
 
+-- a checkpoint keeps the greatest id though its dump was forgotten
+checkpoint_row : checkpoint (after (AddHost (104 ∷ []) 1 ∷ Found (dump 2 2 0 f []) ∷ Done (dump 4 4 0 f []) ∷ Forget 4 ∷ [])) ≡ AddHost (104 ∷ []) 1 ∷ Begin 4 ∷ Found (dump 2 2 0 f []) ∷ []
+checkpoint_row = refl
+
 -- the closest level above that has a dump, and there the greatest id
 parent_row : parent_of (dump 9 9 0 f [] ∷ dump 3 3 0 m [] ∷ dump 7 7 0 m [] ∷ dump 5 5 0 m [] ∷ []) (97 ∷ []) t ≡ 7
 parent_row = refl
 
 parent_far_row : parent_of (dump 2 2 0 f [] ∷ dump 3 3 2 t [] ∷ []) (97 ∷ []) m ≡ 2
 parent_far_row = refl
+
+greatest_none_row : greatest_at (dump 2 2 0 f [] ∷ []) (97 ∷ []) m ≡ None
+greatest_none_row = refl
 
 parent_none_row : parent_of (dump 2 2 0 f [] ∷ []) (98 ∷ []) m ≡ 0
 parent_none_row = refl
@@ -95,11 +104,19 @@ name_row : latest (dump 2 2 0 f (volume (97 ∷ 46 ∷ 98 ∷ 97 ∷ 99 ∷ 107 
 name_row = refl
 
 -- a whole chain, one with an id that isn't listed, and one whose middle record lacks the name
-chain_row : chain_of (dump 2 2 0 f (volume (97 ∷ []) 2 0 ∷ []) ∷ dump 3 3 2 m (volume (97 ∷ []) 3 2 ∷ []) ∷ []) 3 (97 ∷ []) ≡ Ok (2 ∷ 3 ∷ [])
-chain_row = refl
+chain_row : IsChain (dump 2 2 0 f (volume (97 ∷ []) 2 0 ∷ []) ∷ dump 3 3 2 m (volume (97 ∷ []) 3 2 ∷ []) ∷ []) 3 (97 ∷ []) (Ok (2 ∷ 3 ∷ []))
+chain_row = (
+  3 ∷ [],
+  (
+    2,
+    (refl, (record { dump = dump 3 3 2 m (volume (97 ∷ []) 3 2 ∷ []); volume = volume (97 ∷ []) 3 2 }, refl, (λ same. absurd (omega (arith, same))), refl)),
+    (record { dump = dump 2 2 0 f (volume (97 ∷ []) 2 0 ∷ []); volume = volume (97 ∷ []) 2 0 }, refl, refl),
+    refl,
+  ),
+)
 
-chain_missing_row : chain_of (dump 4 4 3 t (volume (97 ∷ []) 4 3 ∷ []) ∷ dump 2 2 0 f (volume (97 ∷ []) 2 0 ∷ []) ∷ []) 4 (97 ∷ []) ≡ Err 3
-chain_missing_row = refl
+chain_missing_row : IsChain (dump 4 4 3 t (volume (97 ∷ []) 4 3 ∷ []) ∷ dump 2 2 0 f (volume (97 ∷ []) 2 0 ∷ []) ∷ []) 4 (97 ∷ []) (Err 3)
+chain_missing_row = (4 ∷ [], (refl, (record { dump = dump 4 4 3 t (volume (97 ∷ []) 4 3 ∷ []); volume = volume (97 ∷ []) 4 3 }, refl, (λ same. absurd (omega (arith, same))), refl)), refl)
 
-chain_lacking_row : chain_of (dump 3 3 2 m (volume (97 ∷ []) 3 2 ∷ []) ∷ dump 2 2 0 f (volume (98 ∷ []) 2 0 ∷ []) ∷ []) 3 (97 ∷ []) ≡ Err 2
-chain_lacking_row = refl
+chain_lacking_row : IsChain (dump 3 3 2 m (volume (97 ∷ []) 3 2 ∷ []) ∷ dump 2 2 0 f (volume (98 ∷ []) 2 0 ∷ []) ∷ []) 3 (97 ∷ []) (Err 2)
+chain_lacking_row = (3 ∷ [], (refl, (record { dump = dump 3 3 2 m (volume (97 ∷ []) 3 2 ∷ []); volume = volume (97 ∷ []) 3 2 }, refl, (λ same. absurd (omega (arith, same))), refl)), refl)

@@ -4,12 +4,12 @@ use Rattle.std.specs.Prelude.{not, ◌||◌, Some, None}
 use Rattle.std.specs.List.{find, list_any}
 use Rattle.std.proofs.lemmas.Bool.{false≢true}
 use Rattle.std.proofs.lemmas.Bool.Decides.{nat_tests}
-use Rattle.budb_fold.specs.Lookups.{Held, beats}
+use Rattle.budb_fold.specs.Lookups.{VolumeDump, beats}
 
-onwards : (name : List ℕ) (a b c : Held) → beats name a b ≡ true → beats name b c ≡ true → beats name a c ≡ true
+onwards : (name : List ℕ) (a b c : VolumeDump) → beats name a b ≡ true → beats name b c ≡ true → beats name a c ≡ true
 onwards name a b c first second = grind (arith, nat_tests)
 
-not_itself : (name : List ℕ) (a : Held) → beats name a a ≡ false
+not_itself : (name : List ℕ) (a : VolumeDump) → beats name a a ≡ false
 not_itself name a = grind (arith, nat_tests)
 
 -- ---- tests over lists
@@ -47,9 +47,9 @@ none_found p (x ∷ xs) none = none_found_at p x xs (p x) (none_found p xs) none
 
 -- One of these that none of them goes before. That it is one of them is said by tests: one that it passes, some of these
 -- pass.
-record Top (name : List ℕ) (all : List Held) : Type 0 where
-  one : Held
-  among : (p : Held → Bool) → p one ≡ true → list_any p all ≡ true
+record Top (name : List ℕ) (all : List VolumeDump) : Type 0 where
+  one : VolumeDump
+  among : (p : VolumeDump → Bool) → p one ≡ true → list_any p all ≡ true
   unbeaten : list_any (λ other. beats name other one) all ≡ false
 
 or_right : (a b : Bool) → b ≡ true → (a || b) ≡ true
@@ -60,7 +60,7 @@ or_left : (a b : Bool) → a ≡ true → (a || b) ≡ true
 or_left true b passes = refl
 or_left false b passes = absurd (false≢true passes)
 
-with_one : (name : List ℕ) (held : Held) (all : List Held) (top : Top name all) (b : Bool) → beats name held top.one ≡ b → Top name (held ∷ all)
+with_one : (name : List ℕ) (held : VolumeDump) (all : List VolumeDump) (top : Top name all) (b : Bool) → beats name held top.one ≡ b → Top name (held ∷ all)
 with_one name held all top true goes = record {
   one = held;
   among = λ p passes. or_left (p held) (list_any p all) passes;
@@ -72,14 +72,14 @@ with_one name held all top false stays = record {
   unbeaten = or_false (beats name held top.one) (list_any (λ other. beats name other top.one) all) stays top.unbeaten;
 }
 
-top_of : (name : List ℕ) (held : Held) (all : List Held) → Top name (held ∷ all)
+top_of : (name : List ℕ) (held : VolumeDump) (all : List VolumeDump) → Top name (held ∷ all)
 top_of name held [] = record { one = held; among = λ p passes. or_left (p held) false passes; unbeaten = or_false (beats name held held) false (not_itself name held) refl }
 top_of name held (next ∷ all) = let top = top_of name next all in with_one name held (next ∷ all) top (beats name held top.one) refl
 
 -- where none is unbeaten there are none
-pub none_is_latest : (name : List ℕ) (all : List Held) → find (λ held. not (list_any (λ other. beats name other held) all)) all ≡ None → all ≡ []
+pub none_is_latest : (name : List ℕ) (all : List VolumeDump) → find (λ held. not (list_any (λ other. beats name other held) all)) all ≡ None → all ≡ []
 none_is_latest name [] none = refl
 none_is_latest name (held ∷ all) none =
     let top : Top name (held ∷ all) = top_of name held all in
-    let p : Held → Bool = λ one. not (list_any (λ other. beats name other one) (held ∷ all)) in
+    let p : VolumeDump → Bool = λ one. not (list_any (λ other. beats name other one) (held ∷ all)) in
     absurd (false≢true (sym (none_found p (held ∷ all) none) ∙ top.among p (ap not top.unbeaten)))

@@ -3,3 +3,9 @@ mod FoldRows
 pub mod Finds
 pub mod ChainLaws
 pub mod LatestLaws
+pub mod Behind
+pub mod SetKeeps
+pub mod LevelKeeps
+pub mod FoldKeeps
+pub mod FoldLaws
+pub mod CheckpointLaws

@@ -1,10 +1,14 @@
 -- The database that changes make: the fold of a log.
-use Rattle.std.specs.Prelude.{ℕ, List, [], ◌∷◌, ◌++◌, max, Bool, true, not, ◌&&◌, ◌==◌, nat_lt, if◌then◌else◌, Option, Result, Ok, Err}
+use Rattle.std.specs.Prelude.{ℕ, List, [], ◌∷◌, ◌++◌, max, Bool, true, not, ◌&&◌, ◌==◌, nat_lt, if◌then◌else◌, Option, Some, None, is_some, Result, Ok, Err}
 use Rattle.std.specs.List.{filter, list_any, list_all}
-use Rattle.std.specs.Result.{is_ok}
+use Rattle.std.specs.Option.{unwrap_or}
 use Rattle.volume_sets.specs.Testing.{is_pattern}
 use Rattle.volume_sets.specs.Sets.{after_add as after_add_set, after_remove as after_remove_set, after_add_entry, after_remove_entry}
 use Rattle.volume_sets.specs.declared.sets.SetEntry.{SetEntry}
+use Rattle.volume_sets.specs.declared.sets.VolumeSet.{VolumeSet}
+use Rattle.volume_sets.specs.declared.sets.SetsFault.{SetsFault}
+use Rattle.dump_levels.specs.declared.levels.Level.{Level}
+use Rattle.dump_levels.specs.declared.levels.LevelFault.{LevelFault}
 use Rattle.dump_levels.specs.Trees.{after_add as after_add_level, after_set as after_set_level, after_remove as after_remove_level}
 use Rattle.budb_changes.specs.declared.records.VolRecordFields.{VolRecordFields}
 use Rattle.budb_changes.specs.declared.records.DumpRecordFields.{DumpRecordFields}
@@ -35,10 +39,7 @@ has_dump listed id = list_any (is_dump id) listed
 abbrev pub is_initial : ℕ → DumpRecordFields → Bool
 is_initial initial dump = dump.initial == initial
 
-abbrev pub has_initial : List DumpRecordFields → ℕ → Bool
-has_initial listed initial = list_any (is_initial initial) listed
-
--- ---- which changes fit
+-- ---- what fits
 
 -- the volume was dumped whole
 abbrev pub is_whole : VolRecordFields → Bool
@@ -53,64 +54,61 @@ fits_record dump listed =
 abbrev pub entry_of : Option (List ℕ) → Option (List ℕ) → List ℕ → SetEntry
 entry_of server partition pattern = record { server = server; partition = partition; pattern = pattern }
 
--- A change fits where it adds what isn't there, and removes or names what is: where the call on the sets or on the
--- levels isn't refused. The pattern of an entry is one, too.
-abbrev pub fits : Change → Database → Bool
-fits (AddSet set) db = is_ok (after_add_set set db.sets)
-fits (DelSet set) db = is_ok (after_remove_set set db.sets)
-fits (AddEntry set server partition pattern) db = is_pattern pattern && is_ok (after_add_entry set (entry_of server partition pattern) db.sets)
-fits (DelEntry set number) db = is_ok (after_remove_entry set number db.sets)
-fits (AddLevel level expiry) db = is_ok (after_add_level db.levels level expiry)
-fits (SetExpiry level expiry) db = is_ok (after_set_level db.levels level expiry)
-fits (DelLevel level) db = is_ok (after_remove_level db.levels level)
-fits (AddHost host port) db = not (has_port db.hosts port)
-fits (DelHost port) db = has_port db.hosts port
-fits (Begin id) db = true
-fits (Take initial) db = has_initial db.listed initial
-fits (Done1 dump) db = fits_record dump db.listed
-fits (Forget id) db = has_dump db.listed id
-fits (Found1 dump) db = fits_record dump db.listed
-fits (Done dump) db = fits_record dump db.listed
-fits (Found dump) db = fits_record dump db.listed
-
--- ---- what a change that fits makes
-
--- what a call leaves
-abbrev pub left_of : {X E : Type 0} → X → Result X E → X
-left_of old (Ok new) = new
-left_of old (Err fault) = old
+-- ---- what a change makes
 
 -- all but those that are so
 abbrev pub without : {X : Type 0} → (X → Bool) → List X → List X
 without is_so xs = filter (λ x. not (is_so x)) xs
 
--- a record is listed last, and its id counts as begun
-abbrev pub with_record : Database → DumpRecordFields → Database
-with_record db dump = record db { greatest = max db.greatest dump.id; listed = db.listed ++ dump ∷ [] }
+-- what a call on the sets leaves, and one on the levels; none where it is refused
+abbrev pub with_sets : Database → Result (List VolumeSet) SetsFault → Option Database
+with_sets db (Ok sets) = Some (record db { sets = sets })
+with_sets db (Err fault) = None
 
-abbrev pub made : Change → Database → Database
-made (AddSet set) db = record db { sets = left_of db.sets (after_add_set set db.sets) }
-made (DelSet set) db = record db { sets = left_of db.sets (after_remove_set set db.sets) }
-made (AddEntry set server partition pattern) db = record db { sets = left_of db.sets (after_add_entry set (entry_of server partition pattern) db.sets) }
-made (DelEntry set number) db = record db { sets = left_of db.sets (after_remove_entry set number db.sets) }
-made (AddLevel level expiry) db = record db { levels = left_of db.levels (after_add_level db.levels level expiry) }
-made (SetExpiry level expiry) db = record db { levels = left_of db.levels (after_set_level db.levels level expiry) }
-made (DelLevel level) db = record db { levels = left_of db.levels (after_remove_level db.levels level) }
-made (AddHost host port) db = record db { hosts = db.hosts ++ record { host = host; port = port } ∷ [] }
-made (DelHost port) db = record db { hosts = without (is_port port) db.hosts }
-made (Begin id) db = record db { greatest = max db.greatest id }
-made (Take initial) db = record db { listed = without (is_initial initial) db.listed }
+abbrev pub with_levels : Database → Result (List Level) LevelFault → Option Database
+with_levels db (Ok levels) = Some (record db { levels = levels })
+with_levels db (Err fault) = None
+
+-- an entry is put last, where its pattern is one
+abbrev pub with_entry : Database → List ℕ → SetEntry → Option Database
+with_entry db set entry = if is_pattern entry.pattern then with_sets db (after_add_entry set entry db.sets) else None
+
+-- a tape host is put last, where its port has none
+abbrev pub with_host : Database → HostPort → Option Database
+with_host db host = if has_port db.hosts host.port then None else Some (record db { hosts = db.hosts ++ host ∷ [] })
+
+-- a record that fits is listed last, and its id counts as begun
+abbrev pub with_record : Database → DumpRecordFields → Option Database
+with_record db dump =
+    if fits_record dump db.listed then Some (record db { greatest = max db.greatest dump.id; listed = db.listed ++ dump ∷ [] }) else None
+
+-- What a change makes of a database; none where it doesn't fit. What isn't there may be forgotten.
+abbrev pub made : Change → Database → Option Database
+made (AddSet set) db = with_sets db (after_add_set set db.sets)
+made (DelSet set) db = with_sets db (after_remove_set set db.sets)
+made (AddEntry set server partition pattern) db = with_entry db set (entry_of server partition pattern)
+made (DelEntry set number) db = with_sets db (after_remove_entry set number db.sets)
+made (AddLevel level expiry) db = with_levels db (after_add_level db.levels level expiry)
+made (SetExpiry level expiry) db = with_levels db (after_set_level db.levels level expiry)
+made (DelLevel level) db = with_levels db (after_remove_level db.levels level)
+made (AddHost host port) db = with_host db (record { host = host; port = port })
+made (DelHost port) db = Some (record db { hosts = without (is_port port) db.hosts })
+made (Begin id) db = Some (record db { greatest = max db.greatest id })
+made (Take initial) db = Some (record db { listed = without (is_initial initial) db.listed })
 made (Done1 dump) db = with_record db dump
-made (Forget id) db = record db { listed = without (is_dump id) db.listed }
+made (Forget id) db = Some (record db { listed = without (is_dump id) db.listed })
 made (Found1 dump) db = with_record db dump
 made (Done dump) db = with_record db dump
 made (Found dump) db = with_record db dump
+
+abbrev pub fits : Change → Database → Bool
+fits change db = is_some (made change db)
 
 -- ---- the fold
 
 -- a change that doesn't fit changes nothing at all
 abbrev pub after_change : Change → Database → Database
-after_change change db = if fits change db then made change db else db
+after_change change db = unwrap_or (made change db) db
 
 -- one change after the other
 abbrev pub after_from : List Change → Database → Database

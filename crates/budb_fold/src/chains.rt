@@ -20,8 +20,8 @@ fn reversed(ids: List<u32>) -> List<u32>
 
 /// The chain of a dump for a volume of this name: the dump alone where its from time is 0, else its parent's chain and then
 /// the dump. `Missing` tells the first id, going upwards, that isn't among the records or whose record doesn't hold the name.
-/// In records whose parents lie below them that is all; in others it goes up `id + 1` times at most, and `Missing` tells the
-/// id that it has come to.
+/// Each parent should lie below its dump, as in each database of a log; else `Missing` may tell the id to which so many
+/// steps have led. The search is plain and slow: it goes over the records at each step.
 pub fn chain_of(
     alloc: Global,
     records: &[DumpRecord],

@@ -21,7 +21,8 @@ pub fn fold(alloc: Global, changes: List<Change>) -> Result<Database, AllocError
     Ok(db)
 }
 
-/// The fold of a list of changes followed by more is the fold of more on the fold of the list.
+/// The fold of a list of changes followed by more is the fold of more on the fold of the list; so is the database of a log.
 pub fn fold_of_more()
-    ensures { (first more : AnyList AnyChange) (db : AnyDatabase) → after_from (first ++ more) db ≡ after_from more (after_from first db) }
+    ensures from { (first more : AnyList AnyChange) (db : AnyDatabase) → after_from (first ++ more) db ≡ after_from more (after_from first db) }
+    ensures log { (log more : AnyList AnyChange) → after (log ++ more) ≡ after_from more (after log) }
 {}

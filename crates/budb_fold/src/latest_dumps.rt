@@ -3,7 +3,7 @@
 
 ghost use Rattle.std.specs.Prelude.{◌≡◌, ◌++◌, [], ◌∷◌, not, None, IfOk, OnOk};
 ghost use Rattle.std.specs.List.{filter, find, list_any, flat_map};
-ghost use Rattle.budb_fold.specs.Lookups.{volume_of, names_for, held_by, held_of, is_before, beats, latest};
+ghost use Rattle.budb_fold.specs.Lookups.{volume_of, names_for, dump_by, volume_dumps, is_before, beats, latest};
 
 use crate::lookups::volume_of;
 use bk_text::{Bytes, List};
@@ -11,19 +11,19 @@ use budb_changes::{DumpRecord, VolRecord};
 use std::alloc::{AllocError, Global};
 use std::marker::Model;
 
-/// A dump, and a volume of its record.
+/// A dump of a volume: the dump's record, and the volume's in it.
 #[derive(Debug, Drop)]
-pub struct Held<'a> {
+pub struct VolumeDump<'a> {
     /// The dump.
     pub dump: &'a DumpRecord,
     /// The volume.
     pub volume: &'a VolRecord,
 }
 
-impl<'a> Model for Held<'a> {
-    ghost use Rattle.budb_fold.specs.Lookups.{Held};
+impl<'a> Model for VolumeDump<'a> {
+    ghost use Rattle.budb_fold.specs.Lookups.{VolumeDump};
 
-    ghost Value = { Held };
+    ghost Value = { VolumeDump };
 
     ghost view = { λ h. record { dump = h.dump.now; volume = h.volume.now } };
 }
@@ -47,25 +47,25 @@ fn names_for(alloc: Global, name: &[u8]) -> Result<List<Bytes>, AllocError>
 }
 
 /// Whether a volume's clone time is below the bound, where there is one.
-fn is_before(before: Option<u32>, held: &Held<'_>) -> bool
-    ensures { result ≡ is_before before held.now }
+fn is_before(before: Option<u32>, one: &VolumeDump<'_>) -> bool
+    ensures { result ≡ is_before before one.now }
 {
     match before {
         None => true,
-        Some(bound) => held.volume.fields().clone < bound,
+        Some(bound) => one.volume.fields().clone < bound,
     }
 }
 
 /// Puts a pair behind those that are there, where its clone time is below the bound.
 fn push_before<'a>(
-    held: &mut Vec<Held<'a>>,
+    dumps: &mut Vec<VolumeDump<'a>>,
     before: Option<u32>,
-    one: Held<'a>,
+    one: VolumeDump<'a>,
 ) -> Result<(), AllocError>
-    ensures { OnOk result (held.new.items ≡ held.old.items ++ filter (is_before before) (one.entry ∷ [])) }
+    ensures { OnOk result (dumps.new.items ≡ dumps.old.items ++ filter (is_before before) (one.entry ∷ [])) }
 {
     if is_before(before, &one) {
-        held.push(one)?;
+        dumps.push(one)?;
     }
     Ok(())
 }
@@ -73,54 +73,54 @@ fn push_before<'a>(
 /// Puts the pair of a dump and its volume of this name behind those that are there, where it has one and its clone time
 /// is below the bound.
 fn push_named<'a>(
-    held: &mut Vec<Held<'a>>,
+    dumps: &mut Vec<VolumeDump<'a>>,
     dump: &'a DumpRecord,
     name: &[u8],
     before: Option<u32>,
 ) -> Result<(), AllocError>
-    ensures { OnOk result (held.new.items ≡ held.old.items ++ filter (is_before before) (held_by dump.now (volume_of dump.now name.now))) }
+    ensures { OnOk result (dumps.new.items ≡ dumps.old.items ++ filter (is_before before) (dump_by dump.now (volume_of dump.now name.now))) }
 {
     match volume_of(dump, name) {
         None => Ok(()),
-        Some(volume) => push_before(held, before, Held { dump, volume }),
+        Some(volume) => push_before(dumps, before, VolumeDump { dump, volume }),
     }
 }
 
 /// Puts the pairs of a dump and its volumes of these names behind those that are there.
 fn push_each<'a>(
-    held: &mut Vec<Held<'a>>,
+    dumps: &mut Vec<VolumeDump<'a>>,
     dump: &'a DumpRecord,
     names: &[Bytes],
     before: Option<u32>,
 ) -> Result<(), AllocError>
-    ensures { OnOk result (held.new.items ≡ held.old.items ++ filter (is_before before) (flat_map (λ name. held_by dump.now (volume_of dump.now name)) names.now)) }
+    ensures { OnOk result (dumps.new.items ≡ dumps.old.items ++ filter (is_before before) (flat_map (λ name. dump_by dump.now (volume_of dump.now name)) names.now)) }
 {
     for name in names {
-        push_named(held, dump, name.as_slice(), before)?;
+        push_named(dumps, dump, name.as_slice(), before)?;
     }
     Ok(())
 }
 
 /// The pairs that come into question.
-fn held_of<'a>(
+fn volume_dumps<'a>(
     alloc: Global,
     listed: &'a [DumpRecord],
     name: &[u8],
     before: Option<u32>,
-) -> Result<Vec<Held<'a>>, AllocError>
-    ensures { IfOk result (λ held. held.items ≡ held_of listed.now name.now before) }
+) -> Result<Vec<VolumeDump<'a>>, AllocError>
+    ensures { IfOk result (λ dumps. dumps.items ≡ volume_dumps listed.now name.now before) }
 {
     let names = names_for(alloc, name)?;
-    let mut held = Vec::new(alloc);
+    let mut dumps = Vec::new(alloc);
     for dump in listed {
-        push_each(&mut held, dump, names.as_slice(), before)?;
+        push_each(&mut dumps, dump, names.as_slice(), before)?;
     }
-    Ok(held)
+    Ok(dumps)
 }
 
 /// Whether a pair goes before another: by a greater clone time, then by a greater id, then by the name itself before its
 /// backup volume's.
-fn beats(name: &[u8], a: &Held<'_>, b: &Held<'_>) -> bool
+fn beats(name: &[u8], a: &VolumeDump<'_>, b: &VolumeDump<'_>) -> bool
     ensures { result ≡ beats name.now a.now b.now }
 {
     let (clone, other_clone) = (a.volume.fields().clone, b.volume.fields().clone);
@@ -134,19 +134,19 @@ fn beats(name: &[u8], a: &Held<'_>, b: &Held<'_>) -> bool
 }
 
 /// Whether one of these pairs goes before this one.
-fn is_beaten(held: &[Held<'_>], name: &[u8], one: &Held<'_>) -> bool
-    ensures { result ≡ list_any (λ other. beats name.now other one.now) held.now }
+fn is_beaten(dumps: &[VolumeDump<'_>], name: &[u8], one: &VolumeDump<'_>) -> bool
+    ensures { result ≡ list_any (λ other. beats name.now other one.now) dumps.now }
 {
-    held.iter().any(|other| beats(name, other, one))
+    dumps.iter().any(|other| beats(name, other, one))
 }
 
 /// The first of these pairs that none of them goes before.
-fn first_unbeaten<'a>(held: &[Held<'a>], name: &[u8]) -> Option<Held<'a>>
-    ensures { result ≡ find (λ one. not (list_any (λ other. beats name.now other one) held.now)) held.now }
+fn first_unbeaten<'a>(dumps: &[VolumeDump<'a>], name: &[u8]) -> Option<VolumeDump<'a>>
+    ensures { result ≡ find (λ one. not (list_any (λ other. beats name.now other one) dumps.now)) dumps.now }
 {
-    for one in held {
-        if !is_beaten(held, name, one) {
-            return Some(Held {
+    for one in dumps {
+        if !is_beaten(dumps, name, one) {
+            return Some(VolumeDump {
                 dump: one.dump,
                 volume: one.volume,
             });
@@ -164,10 +164,10 @@ pub fn latest<'a>(
     listed: &'a [DumpRecord],
     name: &[u8],
     before: Option<u32>,
-) -> Result<Option<Held<'a>>, AllocError>
-    ensures is { IfOk result (λ held. held ≡ latest listed.now name.now before) }
-    ensures none { IfOk result (λ held. held ≡ None → held_of listed.now name.now before ≡ []) }
+) -> Result<Option<VolumeDump<'a>>, AllocError>
+    ensures is { IfOk result (λ one. one ≡ latest listed.now name.now before) }
+    ensures none { IfOk result (λ one. one ≡ None → volume_dumps listed.now name.now before ≡ []) }
 {
-    let held = held_of(alloc, listed, name, before)?;
-    Ok(first_unbeaten(held.as_slice(), name))
+    let dumps = volume_dumps(alloc, listed, name, before)?;
+    Ok(first_unbeaten(dumps.as_slice(), name))
 }

@@ -1,10 +1,10 @@
 //! Look-ups in lists of dumps: a dump by its id, a volume of a dump by its name, the parent of a dump, and the time from
 //! which on changes are dumped. Of one name in a record the first alone counts. They are plain and slow.
 
-ghost use Rattle.std.specs.Prelude.{◌≡◌, ◌&&◌, ℕ, max, Some, IfOk};
+ghost use Rattle.std.specs.Prelude.{◌≡◌, ◌&&◌, max, Some, IfOk};
 ghost use Rattle.std.specs.Option.{option_copied, unwrap_or};
 ghost use Rattle.bk_text.specs.Blanks.{is_same_text};
-ghost use Rattle.budb_fold.specs.Lookups.{record_of, volume_of, dumps_at, parent_or, parent_of, from_volume, from_of};
+ghost use Rattle.budb_fold.specs.Lookups.{record_of, volume_of, greatest_at, parent_of, from_volume, from_of};
 
 use bk_text::{LevelPath, SetName};
 use budb_changes::{DumpRecord, VolRecord};
@@ -43,9 +43,9 @@ fn greater_of(id: u32, other: Option<u32>) -> u32
     id.max(other.unwrap_or(0))
 }
 
-/// The greatest id of the dumps of a set at a level.
-fn greatest_at(listed: &[DumpRecord], set: &SetName, level: &LevelPath) -> Option<u32>
-    ensures { (other : ℕ) → unwrap_or result other ≡ parent_or (dumps_at listed.now set.now level.now) other }
+/// The greatest id of the dumps of a set at a level; `None` where there is none. It takes no memory.
+pub fn greatest_at(listed: &[DumpRecord], set: &SetName, level: &LevelPath) -> Option<u32>
+    ensures { result ≡ greatest_at listed.now set.now level.now }
 {
     let mut greatest = None;
     for dump in listed {

@@ -9,8 +9,8 @@ pub use budb_changes::{
     VolRecord, VolRecordFields, decode, encode, no_change_begins_another, one_encoding,
 };
 pub use budb_fold::{
-    ChainFault, Database, Held, HostPort, chain_of, fold, fold_of_more, from_of, latest, parent_of,
-    record_of, volume_of,
+    ChainFault, Database, HostPort, VolumeDump, chain_of, fold, fold_of_more, from_of, greatest_at,
+    latest, parent_of, record_of, volume_of,
 };
 pub use fault::{AppendFault, ReplayFault};
 pub use log::{append, replay};

@@ -5,4 +5,4 @@ use Rattle.budb_fold.specs.Lookups.{beats}
 use Rattle.budb_fold.proofs.latest_dumps.first_unbeaten.Given as goal
 
 abbrev pub invariant-loop-one : goal.invariant-loop-one
-invariant-loop-one l = find (λ one. not (list_any (λ other. beats l.name other one) l.held)) l.held ≡ find (λ one. not (list_any (λ other. beats l.name other one) l.held)) (drop l.one-index l.held)
+invariant-loop-one l = find (λ one. not (list_any (λ other. beats l.name other one) l.dumps)) l.dumps ≡ find (λ one. not (list_any (λ other. beats l.name other one) l.dumps)) (drop l.one-index l.dumps)
