@@ -6,7 +6,7 @@ use Rattle.vnode_model.specs.declared.increments.Increment.{Increment}
 use Rattle.dump_stream.specs.Stream.{Spells}
 use Rattle.dump_stream.specs.Reads.{Begins, IsBad}
 use Rattle.dump_stream.specs.Feeds.{HasFed, IsDone}
-use Rattle.dump_stream.specs.declared.feeding.Reader.{Reader}
+use Rattle.dump_stream.specs.declared.reader.Reader.{Reader}
 use Rattle.dump_stream.proofs.ReadLaws.{one_stream}
 use Rattle.backup_cli.specs.declared.judged.Judged.{Judged}
 use Rattle.backup_cli.specs.declared.judged.Judged.TheVariants.{Ended, Bad}

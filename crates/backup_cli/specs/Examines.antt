@@ -5,7 +5,7 @@ use Rattle.vnode_model.specs.declared.increments.Increment.{Increment}
 use Rattle.dump_stream.specs.Stream.{Spells}
 use Rattle.dump_stream.specs.Reads.{IsCut, IsBad}
 use Rattle.dump_stream.specs.Feeds.{HasFed, IsUnfinished, IsGoing, IsDone}
-use Rattle.dump_stream.specs.declared.feeding.Reader.{Reader}
+use Rattle.dump_stream.specs.declared.reader.Reader.{Reader}
 use Rattle.backup_cli.specs.declared.judged.Judged.{Judged}
 use Rattle.backup_cli.specs.declared.judged.Judged.TheVariants.{Going, Ended}
 use Rattle.backup_cli.specs.declared.judged.Judged.TheVariants as judgements

@@ -5,8 +5,8 @@ use Rattle.std.proofs.lemmas.Bool.{cases_lt}
 use Rattle.std.proofs.lemmas.List.{append-nil, take-append-le}
 use Rattle.dump_stream.specs.declared.machine.Machine.{Machine}
 use Rattle.dump_stream.specs.declared.machine.Ran.TheVariants as ran
-use Rattle.dump_stream.specs.declared.feeding.Reader.{Reader}
-use Rattle.dump_stream.specs.declared.feeding.State.{State}
+use Rattle.dump_stream.specs.declared.reader.Reader.{Reader}
+use Rattle.dump_stream.specs.declared.reader.State.{State}
 use Rattle.dump_stream.specs.Feeds.{HasFed, HasFedAt}
 use Rattle.dump_stream.specs.Stream.{Spells}
 use Rattle.dump_stream.specs.Reads.{Begins, IsBad, Answers, Runs}

@@ -12,7 +12,8 @@ use Rattle.dump_stream.specs.declared.form.Form.TheVariants as forms
 use Rattle.dump_stream.specs.declared.form.Verdict.TheVariants.{Whole, More, Never}
 use Rattle.bk_text.specs.Alphabets.{IsName, IsNameByte}
 use Rattle.vnode_model.specs.Headers.{IsMessage}
-use Rattle.dump_stream.specs.Forms.{IsBytes, IsFixed, IsFixedBytes, size_len, size_in, ComesAfter, number_from, opening, closing, HasForm, IsWhole, Judges}
+use Rattle.vnode_model.specs.Limits.{ComesAfter}
+use Rattle.dump_stream.specs.Forms.{IsBytes, IsFixed, IsFixedBytes, size_len, size_in, number_from, opening, closing, HasForm, IsWhole, Judges}
 
 abbrev pub all_below : List ℕ → Bool
 all_below [] = true

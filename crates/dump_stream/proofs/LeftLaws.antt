@@ -112,6 +112,11 @@ vnode_begun vnodes since old new d none lt part_is step_is taken_is given_is =
     let new_is : left vnodes since new ≡ (head_of e ++ data_of e) ++ (rest ++ 4 ∷ closing) = cc in
     new_is ∙ sym (append_assoc (head_of e ++ data_of e) rest (4 ∷ closing)) ∙ ap (λ (x : List ℕ). x ++ 4 ∷ closing) (sym sections_are) ∙ sym old_is
 
+no_more : (vnodes : List Vnode) (n : ℕ) → length vnodes ≤ n → slice_get vnodes n ≡ None
+no_more [] n le = refl
+no_more (v ∷ vnodes) zero le = absurd (omega arith)
+no_more (v ∷ vnodes) (suc n) le = no_more vnodes n (omega arith)
+
 pub end_begun : (vnodes : List Vnode) (since : ℕ) (old new : Place) → here vnodes since old ≡ [] → old.step ≡ length vnodes
     → new.part ≡ 4 ∷ closing → new.step ≡ old.step + 1 → new.taken ≡ 0 → new.given ≡ 0 → left vnodes since new ≡ left vnodes since old
 end_begun vnodes since old new none last part_is step_is taken_is given_is =
@@ -129,16 +134,35 @@ end_begun vnodes since old new none last part_is step_is taken_is given_is =
     ap (λ (k : ℕ). drop k (step_data vnodes since new.step)) given_is ∙ ap (step_data vnodes since) step_is ∙ data_none in
     let behind_is : behind vnodes since new.step ≡ [] = ap (behind vnodes since) step_is ∙ rw past refl in
     rw (part_left, data_left, behind_is) (sym old_is)
-  where
-    no_more : (vnodes : List Vnode) (n : ℕ) → length vnodes ≤ n → slice_get vnodes n ≡ None
-    no_more [] n le = refl
-    no_more (v ∷ vnodes) zero le = absurd (omega arith)
-    no_more (v ∷ vnodes) (suc n) le = no_more vnodes n (omega arith)
 
 pub over : (vnodes : List Vnode) (since : ℕ) (place : Place) → here vnodes since place ≡ [] → length vnodes < place.step → left vnodes since place ≡ []
 over vnodes since place none past =
     let late : leb place.step (length vnodes) ≡ false = lt-leb place.step (length vnodes) (omega arith) in
     rw (none, late) refl
+
+-- behind the last step only bytes of the end are left
+data_past : (vnodes : List Vnode) (since step : ℕ) → length vnodes < step → step_data vnodes since step ≡ []
+data_past vnodes since step past =
+    let later : eqb step 0 ≡ false = ne_eqb step 0 (λ e. omega (arith, e, past)) in
+    rw (later, no_more vnodes (step - 1) (omega (arith, past))) refl
+
+pub left_past : (vnodes : List Vnode) (since : ℕ) (place : Place) → length vnodes < place.step → left vnodes since place ≡ drop place.taken place.part
+left_past vnodes since place past =
+    let late : leb place.step (length vnodes) ≡ false = lt-leb place.step (length vnodes) (omega arith) in
+    let none : drop place.given (step_data vnodes since place.step) ≡ [] = ap (drop place.given) (data_past vnodes since place.step past) ∙ drop_all place.given [] (omega arith) in
+    rw (late, none) (append-nil (drop place.taken place.part ++ []) ∙ append-nil (drop place.taken place.part))
+
+-- before it the end is left
+pub left_before : (vnodes : List Vnode) (since : ℕ) (place : Place) → place.step ≤ length vnodes → left vnodes since place ≡ [] → ⊥
+left_before vnodes since place within none =
+    let now : leb place.step (length vnodes) ≡ true = le-leb place.step (length vnodes) within in
+    let sections : List ℕ = sections_of (map (entry_from since) (drop place.step vnodes)) in
+    let left_is : left vnodes since place ≡ here vnodes since place ++ (sections ++ 4 ∷ closing) = rw now refl in
+    let long : length (here vnodes since place ++ (sections ++ 4 ∷ closing)) ≡ 0 = ap length (sym left_is ∙ none) in
+    omega (arith, long, length-append (here vnodes since place) (sections ++ 4 ∷ closing), length-append sections (4 ∷ closing))
+
+pub none_left : (taken : ℕ) (part : List ℕ) → drop taken part ≡ [] → length part ≤ taken
+none_left taken part none = omega (arith, length-drop taken part, ap length none)
 
 -- ---- the start
 

@@ -10,3 +10,5 @@ pub mod WrittenLaws
 pub mod SaidLaws
 pub mod PartLaws
 pub mod LeftLaws
+pub mod AllowedLaws
+pub mod InputLaws

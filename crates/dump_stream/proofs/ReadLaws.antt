@@ -9,8 +9,8 @@ use Rattle.dump_stream.specs.declared.sofar.Sofar.{Sofar}
 use Rattle.dump_stream.specs.declared.sofar.Sofar.TheVariants.{Start, Ended}
 use Rattle.dump_stream.specs.declared.machine.Machine.{Machine}
 use Rattle.dump_stream.specs.declared.machine.Ran.TheVariants as ran
-use Rattle.dump_stream.specs.declared.reader.StreamFault.{StreamFault}
-use Rattle.dump_stream.specs.declared.reader.StreamFault.TheVariants.{Cut, Bad, Memory}
+use Rattle.dump_stream.specs.declared.answers.StreamFault.{StreamFault}
+use Rattle.dump_stream.specs.declared.answers.StreamFault.TheVariants.{Cut, Bad, Memory}
 use Rattle.vnode_model.specs.declared.increments.Increment.{Increment}
 use Rattle.dump_stream.specs.Forms.{IsWhole, opening, closing}
 use Rattle.dump_stream.specs.Fields.{spelled}

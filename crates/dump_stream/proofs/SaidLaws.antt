@@ -10,11 +10,11 @@ use Rattle.vnode_model.specs.declared.vnodes.Vnode.{Vnode}
 use Rattle.vnode_model.specs.declared.increments.Entry.{Entry}
 use Rattle.vnode_model.specs.declared.increments.Entry.TheVariants.{Whole, Kept}
 use Rattle.vnode_model.specs.declared.increments.IncrementFields.{IncrementFields}
-use Rattle.vnode_model.specs.Limits.{StandsBefore, IsFit, AreFit, number_of, data_len, most_vnodes, most_data, all_data}
+use Rattle.vnode_model.specs.Limits.{StandsBefore, IsFit, AreFit, number_of, data_len, most_vnodes, most_data, all_data, ComesAfter}
 use Rattle.dump_stream.specs.declared.form.Form.{Form}
 use Rattle.dump_stream.specs.declared.form.Form.TheVariants as forms
 use Rattle.dump_stream.specs.declared.sofar.Field.{Field}
-use Rattle.dump_stream.specs.Forms.{IsBytes, IsWhole, ComesAfter, number_from}
+use Rattle.dump_stream.specs.Forms.{IsBytes, IsWhole, number_from}
 use Rattle.dump_stream.specs.Fields.{Table, AreFields, has, payload_of, number, byte, string, short, bytes_or, body, body_of, if_there}
 use Rattle.dump_stream.specs.Stream.{dump_table, header_table, vnode_table, dump_of, week_of, header_of, vnode_of, entry_of, entry, is_typed, Section, IsSection, AreSections, Spells}
 use Rattle.dump_stream.specs.Sound.{IsNameThere, IsAccessWhole, MayFollow}

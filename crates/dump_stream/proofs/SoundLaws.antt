@@ -10,14 +10,14 @@ use Rattle.vnode_model.specs.declared.vnodes.VnodeKind.TheVariants.{File, Direct
 use Rattle.vnode_model.specs.declared.increments.Entry.{Entry}
 use Rattle.vnode_model.specs.declared.increments.IncrementFields.{IncrementFields}
 use Rattle.vnode_model.specs.Headers.{IsMessage, IsVolHeader}
-use Rattle.vnode_model.specs.Limits.{StandsBefore, KindFits, AccessFits, IsFit, AreFit, number_of, data_len, most_vnodes, most_data, all_data}
+use Rattle.vnode_model.specs.Limits.{StandsBefore, KindFits, AccessFits, IsFit, AreFit, number_of, data_len, most_vnodes, most_data, all_data, ComesAfter}
 use Rattle.dump_stream.specs.declared.form.Form.{Form}
 use Rattle.dump_stream.specs.declared.form.Form.TheVariants as forms
 use Rattle.dump_stream.specs.declared.sofar.Field.{Field}
 use Rattle.dump_stream.specs.declared.sofar.Sofar.{Sofar}
 use Rattle.dump_stream.specs.declared.sofar.Sofar.TheVariants.{Start, Dump, Volume, Vnode, Ended}
 use Rattle.dump_stream.specs.declared.sofar.DumpHead.{DumpHead}
-use Rattle.dump_stream.specs.Forms.{IsWhole, ComesAfter, number_from, size_len}
+use Rattle.dump_stream.specs.Forms.{IsWhole, number_from, size_len}
 use Rattle.dump_stream.specs.Fields.{Table, IsField, AreFields, has, used, payload_of, byte, string, bytes_or, body, body_of}
 use Rattle.dump_stream.specs.Stream.{dump_table, header_table, vnode_table, header_of, entry_of, kind_of, is_typed}
 use Rattle.dump_stream.specs.Machine.{with_field, with_entry, form_at, after}

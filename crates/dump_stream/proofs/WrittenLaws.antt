@@ -17,11 +17,11 @@ use Rattle.vnode_model.specs.declared.increments.Entry.{Entry}
 use Rattle.vnode_model.specs.declared.increments.Entry.TheVariants.{Whole, Kept}
 use Rattle.vnode_model.specs.declared.increments.IncrementFields.{IncrementFields}
 use Rattle.vnode_model.specs.Headers.{IsMessage, IsVolHeader}
-use Rattle.vnode_model.specs.Limits.{IsOdd, IsEven, KindFits, AccessFits, IsFit, IsFitVnode, StandsBefore, AreFit, number_of, data_len, most_vnodes, most_data, all_data}
+use Rattle.vnode_model.specs.Limits.{IsOdd, IsEven, KindFits, AccessFits, IsFit, IsFitVnode, StandsBefore, AreFit, number_of, data_len, most_vnodes, most_data, all_data, ComesAfter}
 use Rattle.dump_stream.specs.declared.form.Form.{Form}
 use Rattle.dump_stream.specs.declared.form.Form.TheVariants as forms
 use Rattle.dump_stream.specs.declared.sofar.Field.{Field}
-use Rattle.dump_stream.specs.Forms.{IsBytes, IsKind, IsWhole, ComesAfter, number_from, opening, closing}
+use Rattle.dump_stream.specs.Forms.{IsBytes, IsKind, IsWhole, number_from, opening, closing}
 use Rattle.dump_stream.specs.Fields.{Table, IsField, AreFields, used, spelled, payload_of, number, short, bytes_or, if_there, body_of}
 use Rattle.dump_stream.specs.Stream.{dump_table, header_table, vnode_table, dump_of, week_of, header_of, kind_of, entry_of, entry, is_typed, Section, section, IsSection, AreSections, Spells}
 use Rattle.dump_stream.specs.Reads.{Answers}

@@ -1,13 +1,13 @@
 -- What feeding pieces answers.
 use Rattle.std.specs.Prelude.{◌≡◌, ℕ, ◌+◌, ◌≤◌, List, ◌++◌, length, Result, Ok, Err}
 use Rattle.vnode_model.specs.declared.increments.Increment.{Increment}
-use Rattle.dump_stream.specs.declared.reader.StreamFault.{StreamFault}
-use Rattle.dump_stream.specs.declared.reader.StreamFault.TheVariants.{Cut, Bad, Memory}
-use Rattle.dump_stream.specs.declared.feeding.Fed.{Fed}
-use Rattle.dump_stream.specs.declared.feeding.Fed.TheVariants.{More, Done}
-use Rattle.dump_stream.specs.declared.feeding.State.{State}
-use Rattle.dump_stream.specs.declared.feeding.State.TheVariants as states
-use Rattle.dump_stream.specs.declared.feeding.Reader.{Reader}
+use Rattle.dump_stream.specs.declared.answers.StreamFault.{StreamFault}
+use Rattle.dump_stream.specs.declared.answers.StreamFault.TheVariants.{Cut, Bad, Memory}
+use Rattle.dump_stream.specs.declared.reader.Fed.{Fed}
+use Rattle.dump_stream.specs.declared.reader.Fed.TheVariants.{More, Done}
+use Rattle.dump_stream.specs.declared.reader.State.{State}
+use Rattle.dump_stream.specs.declared.reader.State.TheVariants as states
+use Rattle.dump_stream.specs.declared.reader.Reader.{Reader}
 use Rattle.dump_stream.specs.declared.machine.Machine.{Machine}
 use Rattle.dump_stream.specs.Sound.{IsSoundMachine}
 use Rattle.dump_stream.specs.Reads.{Answers, IsAt}

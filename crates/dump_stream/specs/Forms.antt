@@ -3,7 +3,7 @@ use Rattle.std.specs.Prelude.{◌≡◌, ◌⊎◌, ℕ, ◌+◌, ◌<◌, ◌�
 use Rattle.std.specs.Int.{w32, w64, from_be_bytes}
 use Rattle.bk_text.specs.Alphabets.{IsName}
 use Rattle.vnode_model.specs.Headers.{IsMessage}
-use Rattle.vnode_model.specs.Limits.{StandsBefore}
+use Rattle.vnode_model.specs.Limits.{ComesAfter}
 use Rattle.dump_stream.specs.declared.form.Form.{Form}
 use Rattle.dump_stream.specs.declared.form.Form.TheVariants.{Exact, Opening, Closing, Times, Week, Name, Text, VolumeKind, Data, Kind, Vnode}
 use Rattle.dump_stream.specs.declared.form.Verdict.{Verdict}
@@ -27,10 +27,6 @@ IsFixed front count p = (rest : List ℕ) × (p ≡ front ++ rest) × (length re
 abbrev pub IsKind : Bool → ℕ → Type 0
 IsKind true kind = kind ≡ 2
 IsKind false kind = (kind ≡ 1) ⊎ (kind ≡ 3)
-
--- A vnode's number is 1 or more and comes after the last one in the order of vnodes, where 0 stands for none.
-abbrev pub ComesAfter : ℕ → ℕ → Type 0
-ComesAfter last n = (1 ≤ n) × ((last ≡ 0) ⊎ StandsBefore last n)
 
 -- numbers are big-endian: the number of four bytes that begins at this place
 abbrev pub number_from : ℕ → List ℕ → ℕ

@@ -10,3 +10,4 @@ pub mod Written
 pub mod Allowed
 pub mod Parts
 pub mod Left
+pub mod Inputs

@@ -3,8 +3,8 @@ use Rattle.std.specs.Prelude.{◌≡◌, ◌↔◌, ◌⊎◌, ℕ, ◌+◌, ◌
 use Rattle.dump_stream.specs.declared.machine.Machine.{Machine}
 use Rattle.dump_stream.specs.declared.machine.Ran.{Ran}
 use Rattle.dump_stream.specs.declared.machine.Ran.TheVariants.{More, Ended, Stopped}
-use Rattle.dump_stream.specs.declared.reader.StreamFault.{StreamFault}
-use Rattle.dump_stream.specs.declared.reader.StreamFault.TheVariants.{Cut, Bad, Memory}
+use Rattle.dump_stream.specs.declared.answers.StreamFault.{StreamFault}
+use Rattle.dump_stream.specs.declared.answers.StreamFault.TheVariants.{Cut, Bad, Memory}
 use Rattle.vnode_model.specs.declared.increments.Increment.{Increment}
 use Rattle.dump_stream.specs.Stream.{Spells}
 use Rattle.dump_stream.specs.Steps.{Ends, GoesOn, HasEnded, EndsWith}

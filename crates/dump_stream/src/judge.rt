@@ -2,16 +2,12 @@
 
 ghost use Rattle.std.specs.Prelude.{◌≡◌, ◌↔◌, ◌<◌, ◌≤◌, ℕ, List, ◌++◌, IsTrue, length, slice_index, slice_index_or, All, if◌then◌else◌, Bool};
 ghost use Rattle.dump_stream.specs.declared.form.Verdict.TheVariants.{More};
-ghost use Rattle.vnode_model.specs.Headers.{IsMessage};
-ghost use Rattle.dump_stream.specs.Forms.{IsBytes, IsFixedBytes, size_len, size_in, IsKind, IsWhole, Judges, ComesAfter, number_from};
+ghost use Rattle.vnode_model.specs.Limits.{ComesAfter};
+ghost use Rattle.dump_stream.specs.Forms.{IsBytes, IsFixedBytes, size_len, size_in, IsKind, IsWhole, Judges, number_from};
 
-use crate::form::{Form, Verdict};
+use crate::form::{CLOSING, Form, OPENING, Verdict};
 use bk_text::Name;
-use vnode_model::stands_before;
-
-const OPENING: [u8; 8] = [0xb3, 0xa1, 0x13, 0x22, 0, 0, 0, 1];
-
-const CLOSING: [u8; 4] = [0x3a, 0x21, 0x4b, 0x6e];
+use vnode_model::{comes_after, is_message};
 
 /// The byte at this place, or another past the end.
 pub fn byte_or(bytes: &[u8], at: usize, other: u8) -> u8
@@ -78,12 +74,6 @@ fn judge_name(payload: &[u8]) -> Verdict
     }
 }
 
-fn is_text(bytes: &[u8]) -> bool
-    ensures { IsTrue result ↔ IsMessage bytes.now }
-{
-    bytes.len() <= 1024 && bytes.iter().all(|byte| *byte != 0)
-}
-
 fn judge_text(payload: &[u8]) -> Verdict
     ensures { Judges (IsWhole Form.Text) payload.now result }
 {
@@ -91,12 +81,12 @@ fn judge_text(payload: &[u8]) -> Verdict
         None => Verdict::More,
         Some((last, front)) => {
             if *last == 0 {
-                if is_text(front) {
+                if is_message(front) {
                     Verdict::Whole
                 } else {
                     Verdict::Never
                 }
-            } else if is_text(payload) {
+            } else if is_message(payload) {
                 Verdict::More
             } else {
                 Verdict::Never
@@ -121,6 +111,8 @@ fn judge_volume_kind(payload: &[u8]) -> Verdict
     }
 }
 
+/// The length that begins these bytes. A byte that isn't there yet counts as 0, so that a length is refused at the first
+/// byte that makes it too great; so the number isn't read whole.
 fn size_at(wide: bool, p: &[u8]) -> u64
     ensures { result ≡ size_in wide p.now }
 {
@@ -191,12 +183,6 @@ fn judge_kind(directory: bool, payload: &[u8]) -> Verdict
         }
         _ => Verdict::Never,
     }
-}
-
-fn comes_after(last: u32, number: u32) -> bool
-    ensures { IsTrue result ↔ ComesAfter last number }
-{
-    number >= 1 && (last == 0 || stands_before(last, number))
 }
 
 fn judge_vnode(last: u32, payload: &[u8]) -> Verdict

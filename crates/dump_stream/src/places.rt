@@ -1,14 +1,13 @@
 //! How far a stream was given, and giving more of it.
 
-ghost use Rattle.std.specs.Prelude.{◌≡◌, ℕ, List, ◌+◌, ◌<◌, ◌≤◌, ◌^◌, [], ◌++◌, length, min, take, drop, MatchOption, true, false};
+ghost use Rattle.std.specs.Prelude.{◌≡◌, ◌↔◌, IsTrue, ℕ, List, ◌+◌, ◌<◌, ◌≤◌, ◌^◌, [], ◌++◌, length, min, take, drop, MatchOption, true, false};
 ghost use Rattle.vnode_model.specs.Limits.{AreVolume};
 ghost use Rattle.vnode_model.specs.Increments.{entry_from};
 ghost use Rattle.dump_stream.specs.Parts.{head_of, data_of};
 ghost use Rattle.dump_stream.specs.Left.{step_data, here, left, Gives, Turns, IsOver};
 
 use crate::part::Part;
-use crate::sections::{put_kept, put_whole};
-use crate::writing::CLOSING;
+use crate::sections::{put_end, put_kept, put_whole};
 use vnode_model::{Vnode, is_whole_from};
 
 /// How far a stream was given. A stream goes by steps: step 0 has the headers, the next ones a vnode each, the last one
@@ -120,8 +119,7 @@ fn begin_end(vnodes: &[Vnode], from: u32, place: &mut Place)
     ensures left { left vnodes.now from place.new ≡ left vnodes.now from place.old }
     ensures step { place.new.step ≡ place.old.step + 1 }
 {
-    place.part.clear();
-    place.part.put(&CLOSING);
+    put_end(&mut place.part);
     place.step += 1;
     place.taken = 0;
     place.given = 0;
@@ -160,6 +158,16 @@ fn turn(vnodes: &[Vnode], from: u32, place: &mut Place, room: &mut [u8]) -> Opti
     } else {
         None
     }
+}
+
+/// Whether nothing is left.
+pub fn is_over(vnodes: &[Vnode], place: &Place) -> bool
+    ensures { (since : ℕ) → IsTrue result ↔ (left vnodes.now since place.now ≡ []) }
+{
+    if place.step <= vnodes.len() {
+        return false;
+    }
+    place.part.as_slice().len() <= place.taken
 }
 
 /// Gives the next bytes that are left: as many as there is room for, less only where no more are left.

@@ -1,61 +1,116 @@
-//! Reading a stream of the AFS volume dump format, version 1, by this project's reader rules.
+//! Reading a stream that comes in pieces.
 
-ghost use Rattle.std.specs.Prelude.{◌≡◌, ℕ, Result};
-ghost use Rattle.dump_stream.specs.Reads.{Answers, Agree};
-ghost use Rattle.vnode_model.specs.declared.increments.Increment.{Increment};
-ghost use Rattle.dump_stream.specs.declared.reader.StreamFault.{StreamFault};
-ghost use Rattle.dump_stream.specs.declared.reader.StreamFault.TheVariants.{Memory};
+ghost use Rattle.std.specs.Prelude.{◌≡◌, ℕ, ◌+◌, ◌<◌, ◌^◌, List, [], ◌++◌, length, Err, IsOk};
 
+use crate::answers::StreamFault;
 use crate::machine::{Machine, Ran};
 use crate::pieces::run;
-use std::alloc::{AllocError, Global};
-use thiserror::Error;
+use std::alloc::Global;
+use std::mem::replace;
 use vnode_model::Increment;
 
-/// Why bytes are no stream.
-#[derive(Clone, Copy, Debug, PartialEq, Eq, Drop, Error)]
-pub enum StreamFault {
-    /// The bytes are a proper prefix of a stream.
-    #[error("the stream is cut short")]
-    Cut,
-    /// No prefix of the bytes is a stream. The first `at` bytes begin some stream, and the first `at + 1` begin none.
-    #[error("no stream has this byte at {at}")]
-    Bad { at: usize },
-    /// Memory was refused.
-    #[error("memory was refused")]
-    Memory,
+/// What a piece did.
+#[derive(Clone, Copy, Debug, PartialEq, Eq)]
+pub enum Fed {
+    /// The bytes so far are a proper prefix of a stream.
+    More,
+    /// A stream ended behind so many bytes of this piece.
+    Done { used: usize },
 }
 
-impl From<AllocError> for StreamFault {
-    ghost from_gives = { λ _ e. e ≡ Memory };
+#[derive(Drop)]
+enum State {
+    Going,
+    Finished { increment: Increment },
+    Stuck { at: usize },
+    Lost,
+}
 
-    fn from(_e: AllocError) -> StreamFault {
-        StreamFault::Memory
+/// A stream that comes in pieces.
+#[derive(Drop)]
+pub struct Reader {
+    alloc: Global,
+    machine: Machine,
+    count: usize,
+    state: State,
+}
+
+impl Reader {
+    ghost use Rattle.dump_stream.specs.Feeds.{FeedAnswers, HasFed, FinishAnswers, IsUnfinished, StaysUnfinished, IsGoing, IsDone, IsStuck, IsLost, Leaves};
+    ghost use Rattle.dump_stream.specs.declared.answers.StreamFault.TheVariants.{Cut, Bad, Memory};
+
+    /// A reader that was fed nothing. It takes no memory.
+    #[tactic(auto, unfolding(crate::specs::Feeds::HasFed, crate::specs::Feeds::IsUnfinished, crate::specs::Feeds::IsGoing, crate::specs::Feeds::IsDone, crate::specs::Feeds::IsStuck, crate::specs::Feeds::IsLost))]
+    pub fn new(alloc: Global) -> Self
+        ensures fed { HasFed [] result }
+        ensures unfinished { IsUnfinished result }
+        ensures going { IsGoing result }
+    {
+        Reader {
+            alloc,
+            machine: Machine::new(alloc),
+            count: 0,
+            state: State::Going,
+        }
     }
-}
 
-fn answer(alloc: Global, bytes: &[u8]) -> Result<(Increment, usize), StreamFault>
-    ensures { Answers bytes.now result }
-{
-    let mut machine = Machine::new(alloc);
-    let ran = run(&mut machine, alloc, bytes)?;
-    match ran {
-        Ran::More => Err(StreamFault::Cut),
-        Ran::Stopped { at } => Err(StreamFault::Bad { at }),
-        Ran::Ended { used } => Ok((machine.into_increment(), used)),
+    /// Takes the next piece. No stream has ended before.
+    #[tactic(auto, unfolding(crate::specs::Feeds::HasFed, crate::specs::Feeds::IsUnfinished, crate::specs::Feeds::IsGoing, crate::specs::Feeds::IsDone, crate::specs::Feeds::IsStuck, crate::specs::Feeds::IsLost))]
+    pub fn feed(&mut self, piece: &[u8]) -> Result<Fed, StreamFault>
+        requires { IsUnfinished self.old }
+        // Only Done ends it.
+        ensures unfinished { StaysUnfinished result self.new }
+        ensures leaves { Leaves result self.new }
+        // The answer is that to all bytes fed so far.
+        ensures answer { (bytes : List ℕ) → HasFed bytes self.old → length bytes + length piece.now < 2 ^ 64
+            → FeedAnswers bytes piece.now result × HasFed (bytes ++ piece.now) self.new }
+        ensures bad_again { (at : ℕ) → IsStuck at self.old → result ≡ Err (Bad at) }
+        ensures lost_again { IsLost self.old → result ≡ Err Memory }
+    {
+        match &self.state {
+            State::Finished { .. } => unreachable!(),
+            State::Lost => Err(StreamFault::Memory),
+            State::Stuck { at } => Err(StreamFault::Bad { at: *at }),
+            State::Going => {
+                let Ok(ran) = run(&mut self.machine, self.alloc, piece) else {
+                    self.state = State::Lost;
+                    return Err(StreamFault::Memory);
+                };
+                let before = self.count;
+                self.count = before.saturating_add(piece.len());
+                match ran {
+                    Ran::More => Ok(Fed::More),
+                    Ran::Ended { used } => {
+                        let machine = replace(&mut self.machine, Machine::new(self.alloc));
+                        let increment = machine.into_increment();
+                        self.state = State::Finished { increment };
+                        Ok(Fed::Done { used })
+                    }
+                    Ran::Stopped { at } => {
+                        let at = before.saturating_add(at);
+                        self.state = State::Stuck { at };
+                        Err(StreamFault::Bad { at })
+                    }
+                }
+            }
+        }
     }
-}
 
-/// Reads the stream at the front of these bytes, and says how many bytes it has. What follows it is the caller's.
-///
-/// The format is the AFS volume dump format, version 1. The rules of this reader are this project's: the fields of a
-/// section may come in any order, each at most once; an absent number is 0, an absent message or data is empty, an
-/// absent access list is zeros; both names must be there; a section of a vnode with any field has its type; `h` may
-/// stand in place of `f`; the vnodes have the order, the parity and the limits of a volume; any other tag is refused.
-pub fn read(alloc: Global, bytes: &[u8]) -> Result<(Increment, usize), StreamFault>
-    ensures answer { Answers bytes.now result }
-    // No other answer fits, unless memory ran out.
-    ensures only { (other : Result (Increment × ℕ) StreamFault) → Answers bytes.now other → Agree result other }
-{
-    answer(alloc, bytes)
+    /// What the stream says that was fed. It takes no memory.
+    #[tactic(auto, unfolding(crate::specs::Feeds::HasFed, crate::specs::Feeds::IsUnfinished, crate::specs::Feeds::IsGoing, crate::specs::Feeds::IsDone, crate::specs::Feeds::IsStuck, crate::specs::Feeds::IsLost))]
+    pub fn finish(self) -> Result<Increment, StreamFault>
+        ensures answer { (bytes : List ℕ) → HasFed bytes self → FinishAnswers bytes result }
+        ensures done { IsDone self → IsOk result }
+        ensures cut { IsGoing self → result ≡ Err Cut }
+        ensures bad { (at : ℕ) → IsStuck at self → result ≡ Err (Bad at) }
+        ensures lost { IsLost self → result ≡ Err Memory }
+    {
+        let Reader { state, .. } = self;
+        match state {
+            State::Going => Err(StreamFault::Cut),
+            State::Lost => Err(StreamFault::Memory),
+            State::Stuck { at } => Err(StreamFault::Bad { at }),
+            State::Finished { increment } => Ok(increment),
+        }
+    }
 }

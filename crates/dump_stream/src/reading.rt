@@ -15,7 +15,7 @@ use crate::sofar::{DumpHead, Field, Sofar};
 use crate::tables::{dump_form, header_form, vnode_form};
 use bk_text::{Bytes, List};
 use std::alloc::{AllocError, Global};
-use vnode_model::{Entry, IncrementFields};
+use vnode_model::{ALL_DATA, Entry, IncrementFields, MOST_VNODES};
 
 /// The form behind a tag, where the tag may come.
 pub fn form_of(sofar: &Sofar, tag: u8) -> Option<Form>
@@ -54,7 +54,7 @@ pub fn form_of(sofar: &Sofar, tag: u8) -> Option<Form>
         } => {
             let fields = fields.as_slice();
             if tag == 3 {
-                (typed(fields) && made.entries.as_slice().len() + 1 < 65_536).then_some(
+                (typed(fields) && made.entries.as_slice().len() + 1 < MOST_VNODES).then_some(
                     Form::Vnode { last: *number },
                 )
             } else if tag == 4 {
@@ -147,7 +147,7 @@ fn after_volume(
 {
     if tag == 3 {
         let made = begin(alloc, dump, fields.as_slice())?;
-        Ok(vnode_begun(alloc, made, 268_435_456, payload.as_slice()))
+        Ok(vnode_begun(alloc, made, ALL_DATA, payload.as_slice()))
     } else if tag == 4 {
         let made = begin(alloc, dump, fields.as_slice())?;
         Ok(Sofar::Ended { made })

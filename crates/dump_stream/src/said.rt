@@ -2,13 +2,14 @@
 
 ghost use Rattle.std.specs.Prelude.{◌≡◌, ◌<◌, ℕ, List, ◌++◌, length, Ok, All};
 ghost use Rattle.vnode_model.specs.declared.increments.IncrementFields.{IncrementFields};
+ghost use Rattle.vnode_model.specs.Increments.{selected};
 ghost use Rattle.dump_stream.specs.Stream.{Spells};
 ghost use Rattle.dump_stream.specs.Reads.{Answers};
 ghost use Rattle.dump_stream.specs.Written.{written};
 ghost use Rattle.dump_stream.specs.Forms.{IsBytes};
 ghost use Rattle.dump_stream.specs.Allowed.{IsShort, IsNumber, AllowedIds, AllowedCounts, AllowedTimes, AllowedUses, AllowedHeader, AllowedNumbers, AllowedVnode, AllowedEntry, Allowed};
 
-use vnode_model::{Entry, HeaderFields, Increment, Vnode, VolHeader};
+use vnode_model::{Entry, HeaderFields, Increment, Vnode, VolHeader, Volume};
 
 /// What is written of an increment that its type allows is a stream, and the stream says that increment.
 pub fn written_is_a_stream()
@@ -150,6 +151,25 @@ fn entries_are_allowed(entries: &[Entry])
     for entry in entries {
         entry_is_allowed(entry);
     }
+}
+
+fn vnodes_are_allowed(vnodes: &[Vnode])
+    ensures { All AllowedVnode vnodes.now }
+{
+    for vnode in vnodes {
+        vnode_is_allowed(vnode);
+    }
+}
+
+/// Every increment of a volume is one that its type allows, so that no caller needs to make it by `select` to know so. It
+/// is a law that takes the volume by reference.
+pub fn volume_is_allowed(volume: &Volume, from: u32, to: u32)
+    ensures { Allowed (selected volume.now from to) }
+{
+    number_is_allowed(from);
+    number_is_allowed(to);
+    header_is_allowed(volume.header());
+    vnodes_are_allowed(volume.vnodes());
 }
 
 /// Every increment is one that its type allows. It is a law that takes the increment by reference: there is nothing to

@@ -1,19 +1,18 @@
 //! Putting the sections of a stream, up to a vnode's data.
 
-ghost use Rattle.std.specs.Prelude.{◌≡◌, ◌+◌, ◌≤◌, ◌<◌, ◌^◌, ◌++◌, length};
+ghost use Rattle.std.specs.Prelude.{◌≡◌, ◌+◌, ◌≤◌, ◌<◌, ◌^◌, ◌∷◌, ◌++◌, length};
 ghost use Rattle.std.specs.List.{flat_map};
 ghost use Rattle.bk_text.specs.Alphabets.{IsName};
 ghost use Rattle.vnode_model.specs.Headers.{IsVolHeader};
+ghost use Rattle.dump_stream.specs.Forms.{closing};
 ghost use Rattle.dump_stream.specs.Fields.{spelled};
 ghost use Rattle.dump_stream.specs.Written.{header_fields, kind_byte, group_fields, access_fields, updates_fields};
 ghost use Rattle.dump_stream.specs.Parts.{most, dump_fields_of, first_fields, middle_fields, last_fields, headers, early_fields, late_fields, kept_head, whole_head};
 
+use crate::form::{CLOSING, OPENING};
 use crate::part::Part;
 use bk_text::Name;
 use vnode_model::{HeaderFields, Vnode, VnodeKind, VolHeader};
-
-/// The first byte of a stream and the two numbers behind it.
-const OPENING: [u8; 9] = [1, 0xb3, 0xa1, 0x13, 0x22, 0, 0, 0, 1];
 
 fn put_dump(part: &mut Part, id: u32, name: &Name, from: u32, to: u32)
     requires { length part.old + 49 ≤ most }
@@ -99,10 +98,20 @@ pub fn put_headers(part: &mut Part, id: u32, name: &Name, from: u32, to: u32, he
     ensures { part.new ≡ headers id name.now from to header.now }
 {
     part.clear();
+    part.put(&[1]);
     part.put(&OPENING);
     put_dump(part, id, name, from, to);
     part.put(&[2]);
     put_header(part, header);
+}
+
+/// The end of a stream.
+pub fn put_end(part: &mut Part)
+    ensures { part.new ≡ 4 ∷ closing }
+{
+    part.clear();
+    part.put(&[4]);
+    part.put(&CLOSING);
 }
 
 /// The section of a vnode by number alone.

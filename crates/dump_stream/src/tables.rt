@@ -4,6 +4,7 @@ ghost use Rattle.std.specs.Prelude.{◌≡◌};
 ghost use Rattle.dump_stream.specs.Stream.{dump_table, header_table, vnode_table};
 
 use crate::form::Form;
+use vnode_model::MOST_DATA;
 
 /// The form behind a tag of the dump header.
 pub fn dump_form(tag: u8) -> Option<Form>
@@ -67,11 +68,11 @@ pub fn vnode_form(number: u32, room: usize, tag: u8) -> Option<Form>
         b'A' => (number % 2 == 1).then_some(Form::Exact(192)),
         b'f' => Some(Form::Data {
             wide: false,
-            limit: room.min(16_777_216) as u32,
+            limit: room.min(MOST_DATA) as u32,
         }),
         b'h' => Some(Form::Data {
             wide: true,
-            limit: room.min(16_777_216) as u32,
+            limit: room.min(MOST_DATA) as u32,
         }),
         _ => None,
     }

@@ -1,11 +1,14 @@
 //! A volume's stream in pieces.
 
-ghost use Rattle.std.specs.Prelude.{◌≡◌, ◌++◌, length, min, take, drop};
+ghost use Rattle.std.specs.Prelude.{◌≡◌, ◌↔◌, IsTrue, [], ◌++◌, length, min, take, drop};
 ghost use Rattle.vnode_model.specs.Increments.{selected};
+ghost use Rattle.dump_stream.specs.Stream.{Spells};
 ghost use Rattle.dump_stream.specs.Written.{written};
+ghost use Rattle.dump_stream.specs.Allowed.{Allowed};
 
 use crate::part::Part;
-use crate::places::{Place, give};
+use crate::places::{Place, give, is_over};
+use crate::said::volume_is_allowed;
 use crate::sections::put_headers;
 use std::marker::Model;
 use vnode_model::Volume;
@@ -30,11 +33,14 @@ impl Model for Writer {
 }
 
 impl Writer {
-    /// The stream of the volume's increment from a time on, in seconds since 1970; from 0 every vnode is whole. `to` is
-    /// the time of the volume's state.
+    /// The stream of the volume's increment from a time on, in seconds since 1970; `is_whole_from` says which vnodes are
+    /// whole. `to` is the time of the volume's state. All that is left is a stream, and it says that increment.
     pub fn new(volume: Volume, from: u32, to: u32) -> Self
-        ensures { result ≡ written (selected volume from to) }
+        ensures left { result ≡ written (selected volume from to) }
+        ensures stream { Spells result (selected volume from to) }
+        ensures allowed { Allowed (selected volume from to) }
     {
+        volume_is_allowed(&volume, from, to);
         let mut part = Part::new();
         let header = volume.header();
         let fields = header.fields();
@@ -49,6 +55,13 @@ impl Writer {
                 given: 0,
             },
         }
+    }
+
+    /// Whether every byte was given, so that no piece is to come.
+    pub fn is_over(&self) -> bool
+        ensures { IsTrue result ↔ (self.now ≡ []) }
+    {
+        is_over(self.volume.vnodes(), &self.place)
     }
 
     /// Fills `into` with the next bytes, and says how many these are: fewer than `into` has room for only where no more

@@ -8,12 +8,9 @@ ghost use Rattle.dump_stream.specs.Written.{section_of, written};
 ghost use Rattle.dump_stream.specs.Parts.{kept_head, whole_head, HoldsFront};
 
 use crate::part::Part;
-use crate::sections::{put_headers, put_kept, put_whole};
+use crate::sections::{put_end, put_headers, put_kept, put_whole};
 use bk_text::Out;
 use vnode_model::{Entry, Increment, Memory, Vnode};
-
-/// The last byte of a stream that tells what follows, and the number behind it.
-pub const CLOSING: [u8; 5] = [4, 0x3a, 0x21, 0x4b, 0x6e];
 
 fn write_whole(part: &mut Part, vnode: &Vnode, out: &mut Out) -> Result<(), Memory>
     requires { length vnode.now.body < 2 ^ 32 }
@@ -86,6 +83,7 @@ pub fn write(increment: &Increment, out: &mut Out) -> Result<(), Memory>
     );
     out.piece(part.as_slice())?;
     write_entries(&mut part, fields.entries.as_slice(), out)?;
-    out.piece(&CLOSING)?;
+    put_end(&mut part);
+    out.piece(part.as_slice())?;
     Ok(())
 }

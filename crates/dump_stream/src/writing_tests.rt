@@ -121,6 +121,18 @@ fn no_room_is_not_the_end(rt: HostRuntime) -> Result<(), Fail> {
     Ok(())
 }
 
+#[test]
+fn the_last_piece_is_known(rt: HostRuntime) -> Result<(), Fail> {
+    let volume = volume_of(rt.alloc(), &BOTH)?;
+    let mut writer = Writer::new(volume, 0, 1694498816);
+    for (len, is_over) in [(469, false), (4, false), (1, true)] {
+        let mut room = vec![in rt.alloc(); 0; len]?;
+        assert_eq!(rt; writer.next(&mut room), len);
+        assert_eq!(rt; writer.is_over(), is_over, "{len}");
+    }
+    Ok(())
+}
+
 /// At this place of the row, so many bytes gone, these bytes and so many letters put in; and the size of what is
 /// written.
 type Case = (usize, usize, &'static [u8], usize, usize);

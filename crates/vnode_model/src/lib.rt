@@ -15,7 +15,9 @@ mod volumes;
 
 pub use applying::{ApplyFault, apply};
 pub use fitting::fault_in;
-pub use following::{applied_is_a_volume, chains_restore, increments_restore, whole_increments_restore};
+pub use following::{
+    applied_is_a_volume, chains_restore, increments_restore, whole_increments_restore,
+};
 pub use headers::{HeaderFields, VolHeader, is_message};
 pub use increments::{Entry, Increment, IncrementFields};
 pub use limits::{ALL_DATA, MOST_DATA, MOST_MESSAGE, MOST_VNODES};

@@ -6,18 +6,18 @@ use Rattle.dump_stream.proofs.judge.judge_text.Goals as goal
 pub returns-in-None : goal.returns-in-None
 returns-in-None c = text_none c.args.payload.now c.in-None.ensures.cases
 
-pub returns-else-is_text : goal.returns-else-is_text
-returns-else-is_text c =
+pub returns-else-is_message : goal.returns-else-is_message
+returns-else-is_message c =
     text_bad c.args.payload.now c.in-Some.front.now
     (c.in-Some.ensures.cases.0 ∙ ap (λ (x : ℕ). c.in-Some.front.now ++ x ∷ []) c.if-last-eq0.true)
-    (iff_false c.is_text.ensures c.if-is_text.false)
+    (iff_false c.is_message.ensures c.if-is_message.false)
 
-pub returns-then-is_text-2 : goal.returns-then-is_text-2
-returns-then-is_text-2 c =
+pub returns-then-is_message-2 : goal.returns-then-is_message-2
+returns-then-is_message-2 c =
     text_goes_on c.args.payload.now (bytes_from c.args.payload.now (λ i. omega (arith, c.type_inv.payload i)))
-    (c.is_text-else-last-eq0.ensures.0 c.if-is_text-2.true)
+    (c.is_message-else-last-eq0.ensures.0 c.if-is_message-2.true)
 
-pub returns-else-is_text-2 : goal.returns-else-is_text-2
-returns-else-is_text-2 c =
+pub returns-else-is_message-2 : goal.returns-else-is_message-2
+returns-else-is_message-2 c =
     text_bad_front c.args.payload.now c.in-Some.front.now c.in-Some.last.now c.in-Some.ensures.cases.0 c.if-last-eq0.false
-    (iff_false c.is_text-else-last-eq0.ensures c.if-is_text-2.false)
+    (iff_false c.is_message-else-last-eq0.ensures c.if-is_message-2.false)

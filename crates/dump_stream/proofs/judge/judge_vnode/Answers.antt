@@ -1,6 +1,7 @@
 use Rattle.std.proofs.Common.{◌≡◌, arith, subst, sym}
 use Rattle.std.proofs.lemmas.Bool.{iff_false}
-use Rattle.dump_stream.specs.Forms.{ComesAfter}
+use Rattle.vnode_model.specs.Limits.{ComesAfter}
+use Rattle.dump_stream.specs.Forms.{}
 use Rattle.dump_stream.proofs.FormLaws.{greatest, vnode_begun, vnode_goes_on, vnode_ends, bytes_from}
 use Rattle.dump_stream.proofs.judge.judge_vnode.Goals as goal
 

@@ -46,4 +46,5 @@ returns-clause-ok c =
     let e1 : c.piece.new.self ≡ old ++ headers_of i = c.in_ok-piece.ensures.ok ∙ ap (λ (x : List ℕ). old ++ x) (c.as_slice.ensures ∙ c.put_headers.ensures ∙ ap headers_of is) in
     let es_are : c.as_slice-2.result.now ≡ i.entries = c.as_slice-2.ensures ∙ ap (λ (x : IncrementFields). x.entries) is in
     let e2 : c.write_entries.new.out ≡ c.piece.new.self ++ sections_of i.entries = c.in_ok-write_entries.ensures.ok ∙ ap (λ (x : List Entry). c.piece.new.self ++ sections_of x) es_are in
-    row2 old (headers_of i ++ sections_of i.entries) (4 ∷ closing) (row2 old (headers_of i) (sections_of i.entries) e1 e2) c.in_ok-piece-2.ensures.ok
+    let e3 : c.piece-2.new.self ≡ c.write_entries.new.out ++ 4 ∷ closing = c.in_ok-piece-2.ensures.ok ∙ ap (λ (x : List ℕ). c.write_entries.new.out ++ x) (c.as_slice-3.ensures ∙ c.put_end.ensures) in
+    row2 old (headers_of i ++ sections_of i.entries) (4 ∷ closing) (row2 old (headers_of i) (sections_of i.entries) e1 e2) e3

@@ -4,7 +4,7 @@ use Rattle.dump_stream.specs.declared.machine.Ran.TheVariants as ran
 use Rattle.dump_stream.specs.Stream.{Spells}
 use Rattle.dump_stream.specs.Reads.{IsAt, Runs}
 use Rattle.dump_stream.proofs.ReadLaws.{at_start, whole_more, stopped_bad, one_end_says}
-use Rattle.dump_stream.proofs.reader.answer.Goals as goal
+use Rattle.dump_stream.proofs.answers.answer.Goals as goal
 
 pub returns-in-More : goal.returns-in-More
 returns-in-More c =

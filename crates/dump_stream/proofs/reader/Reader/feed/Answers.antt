@@ -2,14 +2,14 @@ use Rattle.std.proofs.Common.{◌≡◌, ◌+◌, ◌++◌, length, Ok, subst, a
 use Rattle.dump_stream.specs.declared.machine.Machine.{Machine}
 use Rattle.dump_stream.specs.declared.machine.Ran.{Ran}
 use Rattle.dump_stream.specs.declared.machine.Ran.TheVariants as ran
-use Rattle.dump_stream.specs.declared.feeding.State.TheVariants as states
+use Rattle.dump_stream.specs.declared.reader.State.TheVariants as states
 use Rattle.vnode_model.specs.declared.increments.Increment.{Increment}
 use Rattle.dump_stream.specs.Feeds.{HasFed}
 use Rattle.dump_stream.specs.Steps.{EndsWith}
 use Rattle.dump_stream.specs.Reads.{Answers, IsBad, IsAt, Runs}
 use Rattle.dump_stream.proofs.ReadLaws.{whole_more, one_end_says}
 use Rattle.dump_stream.proofs.FeedLaws.{fed_done, fed_bad, bad_more, at_state, in_state}
-use Rattle.dump_stream.proofs.feeding.Reader.feed.Goals as goal
+use Rattle.dump_stream.proofs.reader.Reader.feed.Goals as goal
 
 pub returns-in-Stuck-clause-answer : goal.returns-in-Stuck-clause-answer
 unfolding HasFed
