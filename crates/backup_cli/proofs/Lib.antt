@@ -1,4 +1,3 @@
 mod TellLaws
-mod IntakeLaws
 mod InputLaws
 pub mod ImageLaws

@@ -1,5 +1,4 @@
 pub mod Statuses
-pub mod Examines
 pub mod Replies
 pub mod Tells
 pub mod Inputs

@@ -7,8 +7,8 @@ use Rattle.vnode_model.specs.declared.vnodes.VnodeKind.TheVariants.{File, Direct
 use Rattle.vnode_model.specs.declared.increments.Entry.{Entry}
 use Rattle.vnode_model.specs.declared.increments.Entry.TheVariants.{Whole, Kept}
 use Rattle.vnode_model.specs.declared.increments.Increment.{Increment}
-use Rattle.backup_cli.specs.declared.examined.Examined.{Examined}
-use Rattle.backup_cli.specs.declared.examined.Examined.TheVariants.{Stream, Cut, Bad}
+use Rattle.dump_stream.specs.declared.input.Input.{Input}
+use Rattle.dump_stream.specs.declared.input.Input.TheVariants.{Stream, Cut, Bad, Followed}
 
 -- a word behind a space, and a number behind one
 abbrev pub then_word : List ℕ → List ℕ
@@ -43,10 +43,11 @@ cut_line n = codes "refused 86 CutStream" ++ then_number n ++ line_feed
 abbrev pub bad_line : ℕ → List ℕ
 bad_line at = codes "refused 85 BadImage stream" ++ then_number at ++ line_feed
 
-abbrev pub lines_of : Examined → List ℕ
+abbrev pub lines_of : Input → List ℕ
 lines_of (Stream i) = stream_lines i
 lines_of (Cut n) = cut_line n
 lines_of (Bad at) = bad_line at
+lines_of (Followed at) = bad_line at
 
 abbrev pub usage_line : List ℕ
 usage_line = codes "usage: afsbackup run | examine | rehearse N" ++ line_feed

@@ -2,11 +2,11 @@
 use Rattle.std.specs.Prelude.{◌≡◌, ◌⊎◌, ℕ, ◌+◌, ◌<◌, ◌≤◌, List, [], ◌∷◌, ◌++◌, length, map, codes, String}
 use Rattle.std.specs.String.{string_bytes}
 use Rattle.std.specs.declared.alloc.Global.{Global}
-use Rattle.backup_cli.specs.declared.examined.Examined.{Examined}
-use Rattle.backup_cli.specs.declared.examined.Examined.TheVariants.{Stream, Cut, Bad}
+use Rattle.dump_stream.specs.declared.input.Input.{Input}
+use Rattle.dump_stream.specs.declared.input.Input.TheVariants.{Stream, Cut, Bad, Followed}
 use Rattle.backup_cli.specs.declared.status.Status.{Status}
 use Rattle.backup_cli.specs.declared.status.Status.TheVariants as statuses
-use Rattle.backup_cli.specs.Examines.{IsExamined}
+use Rattle.dump_stream.specs.Inputs.{IsInput}
 use Rattle.backup_cli.specs.Inputs.{TookUpTo, most_input}
 use Rattle.backup_cli.specs.Replies.{lines_of, usage_line}
 use Rattle.backup_cli.specs.Tells.{ToldFront}
@@ -16,15 +16,16 @@ abbrev pub IsExamine : List (String Global) → Type 0
 IsExamine words = map string_bytes words ≡ codes "examine" ∷ []
 
 -- a stream is told whole, and any other input is refused by its one line
-abbrev pub told_status : Examined → Status
+abbrev pub told_status : Input → Status
 told_status (Stream i) = statuses.Done
 told_status (Cut length) = statuses.SomeRefused
 told_status (Bad at) = statuses.SomeRefused
+told_status (Followed at) = statuses.SomeRefused
 
 -- The input was read to its end, it is this, and its lines were told. `Images` says of lines that images were told them so.
 pub record ToldInput (Images : List ℕ → Type 0) (input rest before after : List ℕ) (status : Status) : Type 0 where
-  pub examined : Examined
-  pub is : IsExamined input examined
+  pub examined : Input
+  pub is : IsInput input examined
   pub few : length input ≤ most_input
   pub all_read : rest ≡ []
   pub told : after ≡ before ++ lines_of examined
@@ -33,8 +34,8 @@ pub record ToldInput (Images : List ℕ → Type 0) (input rest before after : L
 
 -- the input was read to its end, it is this, and a front of its lines was told
 pub record ToldInPart (Images : List ℕ → Type 0) (input rest before after : List ℕ) : Type 0 where
-  pub examined : Examined
-  pub is : IsExamined input examined
+  pub examined : Input
+  pub is : IsInput input examined
   pub few : length input ≤ most_input
   pub all_read : rest ≡ []
   pub told : ToldFront (lines_of examined) before after

@@ -3,13 +3,28 @@
 ghost use Rattle.std.specs.Prelude.{◌≡◌, ◌≢◌, ℕ, ◌+◌, ◌^◌, ◌<◌, ◌≤◌, List, [], length, IfOk, Err};
 ghost use Rattle.crash_moments.specs.Moments.{Rose};
 ghost use Rattle.backup_cli.specs.Inputs.{ReadsInput};
-ghost use Rattle.backup_cli.specs.Intakes.{Holds, TakesNext, TakesAll};
-ghost use Rattle.backup_cli.specs.declared.intake.ReadStop.TheVariants.{Failed, TooLong};
+ghost use Rattle.dump_stream.specs.Inputs.{HasTaken};
+ghost use Rattle.backup_cli.specs.Intakes.{TakesNext, TakesAll};
+ghost use Rattle.backup_cli.specs.declared.input.ReadStop.TheVariants.{Failed, TooLong};
 
-use crate::examined::Examined;
-use crate::intake::{Intake, ReadStop};
+use dump_stream::{Input, InputReader};
 use media_core::Source;
 use std::alloc::{AllocError, Global};
+use thiserror::Error;
+
+/// Why an input wasn't read to its end.
+#[derive(Clone, Copy, Debug, PartialEq, Eq, Drop, Error)]
+pub enum ReadStop {
+    /// A read failed.
+    #[error("a read failed")]
+    Failed,
+    /// More bytes came than an input may have.
+    #[error("the input is too long")]
+    TooLong,
+    /// Memory was refused.
+    #[error("memory was refused")]
+    Memory,
+}
 
 /// The most bytes that an input may have.
 const MOST: usize = 536_870_912;
@@ -21,12 +36,12 @@ const PIECE: usize = 65_536;
 fn take_next<S: Source>(
     source: &mut S,
     into: &mut [u8],
-    intake: &mut Intake,
+    input: &mut InputReader,
 ) -> Result<bool, ReadStop>
     requires some { 0 < length into.old }
-    requires held { (bytes : List ℕ) × Holds bytes intake.old }
-    ensures taken { (bytes : List ℕ) → Holds bytes intake.old → length bytes + length into.old < 2 ^ 64
-        → TakesNext S.tells (S.left source.old) (S.left source.new) (length into.old) bytes intake.new result }
+    requires held { (bytes : List ℕ) × HasTaken bytes input.old }
+    ensures taken { (bytes : List ℕ) → HasTaken bytes input.old → length bytes + length into.old < 2 ^ 64
+        → TakesNext S.tells (S.left source.old) (S.left source.new) (length into.old) bytes input.new result }
     ensures cause { result ≡ Err Failed → Rose (S.faults source.old) (S.faults source.new) }
     ensures later { S.faults source.old ≤ S.faults source.new }
     ensures few { result ≢ Err TooLong }
@@ -37,8 +52,8 @@ fn take_next<S: Source>(
             if count == 0 {
                 return Ok(false);
             }
-            match intake.take_piece(&into[..count]) {
-                Err(stop) => Err(stop),
+            match input.feed(&into[..count]) {
+                Err(_) => Err(ReadStop::Memory),
                 Ok(()) => Ok(true),
             }
         }
@@ -49,17 +64,17 @@ fn take_next<S: Source>(
 fn take_all<S: Source>(
     source: &mut S,
     buffer: &mut [u8],
-    intake: &mut Intake,
+    input: &mut InputReader,
 ) -> Result<(), ReadStop>
     requires room { (0 < length buffer.old) × (length buffer.old < 2 ^ 32) }
-    requires held { Holds [] intake.old }
-    ensures taken { TakesAll S.tells (S.left source.old) (S.left source.new) intake.new result }
+    requires held { HasTaken [] input.old }
+    ensures taken { TakesAll S.tells (S.left source.old) (S.left source.new) input.new result }
     ensures cause { result ≡ Err Failed → Rose (S.faults source.old) (S.faults source.new) }
     ensures later { S.faults source.old ≤ S.faults source.new }
 {
-    while intake.taken() <= MOST {
-        let room = buffer.len().min(MOST + 1 - intake.taken());
-        match take_next(source, &mut buffer[..room], intake) {
+    while input.taken() <= MOST {
+        let room = buffer.len().min(MOST + 1 - input.taken());
+        match take_next(source, &mut buffer[..room], input) {
             Err(stop) => return Err(stop),
             Ok(more) => {
                 if !more {
@@ -80,7 +95,7 @@ fn room_for(alloc: Global, count: usize) -> Result<Vec<u8>, AllocError>
 }
 
 /// Reads an input to its end.
-pub fn read_input<S: Source>(alloc: Global, source: &mut S) -> Result<Examined, ReadStop>
+pub fn read_input<S: Source>(alloc: Global, source: &mut S) -> Result<Input, ReadStop>
     ensures read { S.tells → ReadsInput (S.left source.old) (S.left source.new) result }
     ensures cause { result ≡ Err Failed → Rose (S.faults source.old) (S.faults source.new) }
     ensures later { S.faults source.old ≤ S.faults source.new }
@@ -88,10 +103,10 @@ pub fn read_input<S: Source>(alloc: Global, source: &mut S) -> Result<Examined, 
     match room_for(alloc, PIECE) {
         Err(_) => Err(ReadStop::Memory),
         Ok(mut buffer) => {
-            let mut intake = Intake::new(alloc);
-            match take_all(source, &mut buffer, &mut intake) {
+            let mut input = InputReader::new(alloc);
+            match take_all(source, &mut buffer, &mut input) {
                 Err(stop) => Err(stop),
-                Ok(()) => Ok(intake.into_examined()),
+                Ok(()) => Ok(input.finish()),
             }
         }
     }

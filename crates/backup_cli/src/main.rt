@@ -1,10 +1,7 @@
 //! The backup service of an AFS cell, as a program.
 #![tactic(auto)]
 
-mod examined;
 mod input;
-mod intake;
-mod judged;
 mod lines;
 mod status;
 mod stdin;

@@ -7,9 +7,9 @@ ghost use Rattle.backup_cli.specs.Tells.{ToldLines, TellsOn, OnlyTells};
 ghost use Rattle.backup_cli.specs.Replies.{entry_line, stream_lines, lines_of};
 ghost use Rattle.backup_cli.specs.declared.telling.TellStop.TheVariants.{Refused};
 
-use crate::examined::Examined;
 use crate::lines::{line_of_bad, line_of_cut, line_of_entry, line_of_volume};
 use bk_text::Bytes;
+use dump_stream::Input;
 use media_core::{Failed, Media};
 use std::alloc::{AllocError, Global};
 use thiserror::Error;
@@ -96,19 +96,16 @@ fn tell_stream<M: Media>(
 }
 
 /// Tells what an input is.
-pub fn tell_examined<M: Media>(
-    alloc: Global,
-    media: &mut M,
-    examined: &Examined,
-) -> Result<(), TellStop>
-    ensures told { M.tells → ToldLines (lines_of examined.now) (M.seen media.old).told (M.seen media.new).told result }
-    ensures images { M.tells → Leads M.time media.old media.new (TellsOn (lines_of examined.now) (M.seen media.old).told) }
+pub fn tell_input<M: Media>(alloc: Global, media: &mut M, input: &Input) -> Result<(), TellStop>
+    ensures told { M.tells → ToldLines (lines_of input.now) (M.seen media.old).told (M.seen media.new).told result }
+    ensures images { M.tells → Leads M.time media.old media.new (TellsOn (lines_of input.now) (M.seen media.old).told) }
     ensures only { OnlyTells M.tells M.seen M.time M.count M.present M.faults M.tell_faults media.old media.new }
     ensures cause { result ≡ Err Refused → Rose (M.tell_faults media.old) (M.tell_faults media.new) }
 {
-    match examined {
-        Examined::Stream(increment) => tell_stream(alloc, media, increment),
-        Examined::Cut { length } => tell_line(media, line_of_cut(alloc, *length)),
-        Examined::Bad { at } => tell_line(media, line_of_bad(alloc, *at)),
+    match input {
+        Input::Stream(increment) => tell_stream(alloc, media, increment),
+        Input::Cut { length } => tell_line(media, line_of_cut(alloc, *length)),
+        Input::Bad { at } => tell_line(media, line_of_bad(alloc, *at)),
+        Input::Followed { at } => tell_line(media, line_of_bad(alloc, *at)),
     }
 }

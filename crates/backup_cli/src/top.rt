@@ -8,11 +8,10 @@ ghost use Rattle.backup_cli.specs.Replies.{usage_line};
 ghost use Rattle.backup_cli.specs.Runs.{IsExamine, Examines, TellsUsage, told_status};
 ghost use Rattle.backup_cli.specs.declared.status.Status.TheVariants.{Usage, ReadFault, OutputFault};
 
-use crate::examined::Examined;
-use crate::input::read_input;
-use crate::intake::ReadStop;
+use crate::input::{ReadStop, read_input};
 use crate::status::Status;
-use crate::telling::{TellStop, tell_all, tell_examined};
+use crate::telling::{TellStop, tell_all, tell_input};
+use dump_stream::Input;
 use media_core::{Media, Source};
 use std::alloc::Global;
 
@@ -36,12 +35,12 @@ fn is_examine(words: &Vec<String>) -> bool
 }
 
 /// The status of an input that was told.
-fn status_of(examined: &Examined) -> Status
-    ensures { result ≡ told_status examined.now }
+fn status_of(input: &Input) -> Status
+    ensures { result ≡ told_status input.now }
 {
-    match examined {
-        Examined::Stream(_) => Status::Done,
-        Examined::Cut { .. } | Examined::Bad { .. } => Status::SomeRefused,
+    match input {
+        Input::Stream(_) => Status::Done,
+        Input::Cut { .. } | Input::Bad { .. } | Input::Followed { .. } => Status::SomeRefused,
     }
 }
 
@@ -58,8 +57,8 @@ fn examine<M: Media, S: Source>(alloc: Global, media: &mut M, source: &mut S) ->
         Err(ReadStop::Failed) => Status::ReadFault,
         Err(ReadStop::TooLong) => Status::ScriptTooLong,
         Err(ReadStop::Memory) => Status::Memory,
-        Ok(examined) => match tell_examined(alloc, media, &examined) {
-            Ok(()) => status_of(&examined),
+        Ok(input) => match tell_input(alloc, media, &input) {
+            Ok(()) => status_of(&input),
             Err(TellStop::Refused) => Status::OutputFault,
             Err(TellStop::Memory) => Status::Memory,
         },
