@@ -1,5 +1,5 @@
 -- Numbers and texts: how each is known by its bytes, and where its bytes stop.
-use Rattle.std.proofs.Common.{zero, suc, ◌≡◌, ℕ, ◌+◌, ◌-◌, ◌*◌, ◌/◌, ◌%◌, ◌<◌, ◌≤◌, List, [], ◌∷◌, ◌++◌, length, drop, get_or, replicate, refl, sym, ap, subst, ◌∙◌, arith, length-append, Option, Some, None, lit<, lit≤}
+use Rattle.std.proofs.Common.{zero, suc, ◌≡◌, ℕ, ◌+◌, ◌-◌, ◌*◌, ◌/◌, ◌%◌, ◌<◌, ◌≤◌, List, [], ◌∷◌, ◌++◌, length, take, drop, get_or, replicate, refl, sym, ap, subst, ◌∙◌, arith, length-append, Option, Some, None, lit<, lit≤}
 use Rattle.std.specs.Prelude.{All}
 use Rattle.std.specs.Int.{w16, w32, from_be_bytes, to_be_bytes}
 use Rattle.std.proofs.lemmas.Nat.{be_bytes_2, be_bytes_4, from_be_bytes-to_be_bytes_2, from_be_bytes-to_be_bytes_4}
@@ -415,3 +415,11 @@ not_zero bytes not r e = not (omega (arith, ap length e)) (ap (λ (y : List ℕ)
 
 pub has_any : (Form : List ℕ → Type 0) → Has (any_of Form)
 has_any Form = record { value = None; is = tt }
+
+-- the first four bytes
+pub four_front : (bytes : List ℕ) → 4 ≤ length bytes → take 4 bytes ≡ get_or bytes 0 0 ∷ get_or bytes 1 0 ∷ get_or bytes 2 0 ∷ get_or bytes 3 0 ∷ []
+four_front [] some = absurd (omega (arith, some))
+four_front (a ∷ []) some = absurd (omega (arith, some))
+four_front (a ∷ b ∷ []) some = absurd (omega (arith, some))
+four_front (a ∷ b ∷ c ∷ []) some = absurd (omega (arith, some))
+four_front (a ∷ b ∷ c ∷ d ∷ r) some = refl

@@ -10,7 +10,7 @@ ghost use Rattle.byte_formats.specs.Formats.{Took, Stops, stated, one_in, two_in
 use crate::fault::ReadFault;
 use bk_text::{
     Alphabet, Bytes, Host, LevelPath, Name, Part, SetName, TapeName, fault_in_stated,
-    fault_in_stated_path,
+    fault_in_stated_path, read_u32,
 };
 use std::alloc::Global;
 
@@ -51,7 +51,8 @@ pub fn read_one<'a>(low: u8, high: u8, bytes: &'a [u8]) -> Result<(u8, &'a [u8])
     Ok((number, behind(bytes, 1)))
 }
 
-/// A number of two bytes within bounds.
+/// A number of two bytes within bounds. Its first byte is judged with the least and with the greatest that may follow, so the
+/// number is put together from its bytes one by one.
 pub fn read_two<'a>(low: u16, high: u16, bytes: &'a [u8]) -> Result<(u16, &'a [u8]), ReadFault>
     requires { low ≤ high }
     ensures { MatchResult result (λ x. Took (two_in low high) bytes.now x.0 x.1.now) (λ fault. Stops (two_in low high) bytes.now fault) }
@@ -83,7 +84,7 @@ pub fn read_four<'a>(bytes: &'a [u8]) -> Result<(u32, &'a [u8]), ReadFault>
     if bytes.len() < 4 {
         return Err(ReadFault::Bad { left: 0 });
     }
-    let number = u32::from_be_bytes([bytes[0], bytes[1], bytes[2], bytes[3]]);
+    let number = read_u32(bytes);
     Ok((number, behind(bytes, 4)))
 }
 
