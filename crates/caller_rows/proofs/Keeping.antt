@@ -1,5 +1,5 @@
 -- What each call makes of what is told and recorded.
-use Rattle.std.proofs.Common.{◌≡◌, inl, inr, ℕ, ◌+◌, ◌≤◌, List, ◌++◌, length, take, sym, ap, subst, arith, length-append}
+use Rattle.std.proofs.Common.{◌≡◌, inl, inr, ℕ, ◌+◌, ◌≤◌, List, length, take, sym, ap, subst, arith, length-append}
 use Rattle.std.proofs.lemmas.List.{length-take}
 use Rattle.crash_moments.specs.Moments.{Moments, Leads}
 use Rattle.crash_moments.specs.Telling.{IsFront}
@@ -14,8 +14,11 @@ use Rattle.crash_log.proofs.Telling.{settled_long}
 use Rattle.caller_rows.specs.Acked.{Acked, KeepsAcked}
 
 module _ {D : Type 0} (time : Moments D Image) where
+  pub same_keeps : (old new : D) → Leads time old new (λ a b. b ≡ a) → Leads time old new KeepsAcked
+  same_keeps old new leads = weakened time old new (λ a b. b ≡ a) KeepsAcked leads (λ a b was same. λ acked. subst Acked (sym same) acked)
+
   pub still : (s : D) → Leads time s s KeepsAcked
-  still s = weakened time s s (λ a b. b ≡ a) KeepsAcked (stays time s) (λ a b was same. λ acked. subst Acked (sym same) acked)
+  still s = same_keeps s s (stays time s)
 
   pub next : (old mid new : D) → Leads time old mid KeepsAcked → Leads time mid new KeepsAcked → Leads time old new KeepsAcked
   next old mid new first second = followed time KeepsAcked (λ a b c step more. λ acked. more (step acked)) old mid new first second

@@ -2,11 +2,11 @@
 //! It shows what the contracts of a media and of a log give to whoever stands on them.
 #![tactic(auto)]
 
-ghost use Rattle.std.specs.Prelude.{◌≡◌, ◌+◌, ◌≤◌, length, OnOk};
-ghost use Rattle.crash_moments.specs.Moments.{HasCauseAt};
+ghost use Rattle.std.specs.Prelude.{◌≡◌, ◌+◌, ◌≤◌, length, IfOk, OnOk};
+ghost use Rattle.crash_moments.specs.Moments.{HasCause, HasCauseAt};
 ghost use Rattle.media_core.specs.Media.{Image};
 ghost use Rattle.crash_log.specs.CrashLog.{settled_of};
-ghost use Rattle.caller_rows.specs.Acked.{Acked, IsGoing, Keeps};
+ghost use Rattle.caller_rows.specs.Acked.{Acked, IsStart, IsGoing, Keeps};
 
 use crash_log::{CrashLog, PutFault};
 use media_core::{Failed, Media};
@@ -21,6 +21,18 @@ pub enum Stop {
     Files,
     #[error("a call on the output failed")]
     Output,
+}
+
+/// Opens the journal's log, for at most 100 bytes.
+fn begin<M: Media>(media: &mut M) -> Result<CrashLog, Failed>
+    requires { M.tells → IsStart M.Media media.old }
+    ensures going { IfOk result (λ log. IsGoing M.Media log media.new) }
+    ensures crash { Keeps M.Media media.old media.new }
+    ensures files { HasCause (M.faults media.old) (M.faults media.new) result }
+    ensures output { M.tell_faults media.new ≡ M.tell_faults media.old }
+{
+    let log = CrashLog::open(media, 0, 100)?;
+    Ok(log)
 }
 
 /// Records one byte.
@@ -87,3 +99,23 @@ pub fn serve<M: Media>(log: &mut CrashLog, media: &mut M, bytes: &[u8]) -> Resul
     }
     Ok(())
 }
+
+/// Serves bytes from the start on.
+pub fn run<M: Media>(media: &mut M, bytes: &[u8]) -> Result<(), Stop>
+    requires { M.tells → IsStart M.Media media.old }
+    ensures crash { Keeps M.Media media.old media.new }
+    ensures acked { M.tells → OnOk result ((c : Image) → M.time.may_leave media.new c → Acked c) }
+    ensures files { HasCauseAt Stop.Files (M.faults media.old) (M.faults media.new) result }
+    ensures output { HasCauseAt Stop.Output (M.tell_faults media.old) (M.tell_faults media.new) result }
+{
+    match begin(media) {
+        Ok(mut log) => {
+            serve(&mut log, media, bytes)?;
+            Ok(())
+        }
+        Err(Failed) => Err(Stop::Files),
+    }
+}
+
+#[cfg(test)]
+mod tests;
