@@ -9,3 +9,5 @@ pub mod LevelKeeps
 pub mod FoldKeeps
 pub mod FoldLaws
 pub mod CheckpointLaws
+pub mod PatternForms
+pub mod SetSteps

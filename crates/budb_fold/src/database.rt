@@ -20,6 +20,17 @@ pub struct HostPort {
     pub port: u16,
 }
 
+impl Clone for HostPort {
+    ghost is_clone = { λ a b. b ≡ a };
+
+    fn clone(&self) -> Result<HostPort, AllocError> {
+        Ok(HostPort {
+            host: self.host.clone()?,
+            port: self.port,
+        })
+    }
+}
+
 /// What the changes of a log make: the sets, levels and tape hosts in the order of adding, and the listed dumps in the
 /// order of recording.
 #[derive(Debug, Drop)]
@@ -34,6 +45,20 @@ pub struct Database {
     pub greatest: u32,
     /// The listed dumps.
     pub listed: List<DumpRecord>,
+}
+
+impl Clone for Database {
+    ghost is_clone = { λ a b. b ≡ a };
+
+    fn clone(&self) -> Result<Database, AllocError> {
+        Ok(Database {
+            sets: self.sets.clone()?,
+            levels: self.levels.clone()?,
+            hosts: self.hosts.clone()?,
+            greatest: self.greatest,
+            listed: self.listed.clone()?,
+        })
+    }
 }
 
 /// What a call on the sets answers to whoever asks for memory alone: a refusal counts as done.

@@ -4,6 +4,7 @@
 
 mod chain_laws;
 mod chains;
+mod checkpoints;
 mod database;
 mod fault;
 mod fitting;
@@ -11,12 +12,14 @@ mod fold_laws;
 mod folding;
 mod latest_dumps;
 mod lookups;
+mod preparing;
 
 pub use chain_laws::{
     chain_has_an_outcome, chain_has_its_dumps, chain_has_one_outcome, chain_looks_at_its_dumps,
     chain_stays_with_more, chain_stays_without_others, chain_unfolds, record_is_found_by_its_id,
 };
 pub use chains::chain_of;
+pub use checkpoints::checkpoint;
 pub use database::{Database, HostPort};
 pub use fault::ChainFault;
 pub use fold_laws::{
