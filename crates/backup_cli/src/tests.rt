@@ -216,6 +216,8 @@ impl Media for SlowOutput {
 
     ghost seen_may_be_left = { λ s told. absurd told };
 
+    ghost told_left = { λ s c told. absurd told };
+
     fn count(&self) -> u32 {
         1
     }
