@@ -1,5 +1,6 @@
-pub mod Statuses
+pub mod Refusals
 pub mod Replies
+pub mod Statuses
 pub mod Tells
 pub mod Inputs
 pub mod Intakes

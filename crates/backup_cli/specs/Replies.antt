@@ -7,6 +7,9 @@ use Rattle.vnode_model.specs.declared.vnodes.VnodeKind.TheVariants.{File, Direct
 use Rattle.vnode_model.specs.declared.increments.Entry.{Entry}
 use Rattle.vnode_model.specs.declared.increments.Entry.TheVariants.{Whole, Kept}
 use Rattle.vnode_model.specs.declared.increments.Increment.{Increment}
+use Rattle.backup_cli.specs.declared.refusals.Refusal.{Refusal}
+use Rattle.backup_cli.specs.declared.refusals.Refusal.TheVariants.{BadImage, CutStream}
+use Rattle.backup_cli.specs.Refusals.{refusal_number, refusal_name}
 use Rattle.dump_stream.specs.declared.input.Input.{Input}
 use Rattle.dump_stream.specs.declared.input.Input.TheVariants.{Stream, Cut, Bad, Followed}
 
@@ -37,11 +40,15 @@ volume_line i = codes "volume" ++ then_word i.dump_name ++ then_number i.dump_id
 abbrev pub stream_lines : Increment → List ℕ
 stream_lines i = volume_line i ++ flat_map entry_line i.entries
 
+-- a refusal, by its number and its name
+abbrev pub refused : Refusal → List ℕ
+refused refusal = codes "refused" ++ then_number (refusal_number refusal) ++ then_word (refusal_name refusal)
+
 abbrev pub cut_line : ℕ → List ℕ
-cut_line n = codes "refused 86 CutStream" ++ then_number n ++ line_feed
+cut_line n = refused CutStream ++ then_number n ++ line_feed
 
 abbrev pub bad_line : ℕ → List ℕ
-bad_line at = codes "refused 85 BadImage stream" ++ then_number at ++ line_feed
+bad_line at = refused BadImage ++ then_word (codes "stream") ++ then_number at ++ line_feed
 
 abbrev pub lines_of : Input → List ℕ
 lines_of (Stream i) = stream_lines i

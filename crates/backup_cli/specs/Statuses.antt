@@ -1,5 +1,6 @@
 -- The exit status of each way in which a run ends.
-use Rattle.std.specs.Prelude.{ℕ}
+use Rattle.std.specs.Prelude.{ℕ, List, ◌++◌, Option, Some, None, codes}
+use Rattle.backup_cli.specs.Replies.{line_feed}
 use Rattle.backup_cli.specs.declared.status.Status.{Status}
 use Rattle.backup_cli.specs.declared.status.Status.TheVariants.{Done, SomeRefused, Usage, ReadFault, Memory, OutputFault, ScriptTooLong}
 
@@ -11,3 +12,13 @@ status_number ReadFault = 3
 status_number Memory = 6
 status_number OutputFault = 9
 status_number ScriptTooLong = 10
+
+-- the line on standard error of a run that told nothing of how it ended; none where what was told says it
+abbrev pub line_of_status : Status → Option (List ℕ)
+line_of_status Done = None
+line_of_status SomeRefused = None
+line_of_status Usage = None
+line_of_status ReadFault = Some (codes "the input could not be read" ++ line_feed)
+line_of_status Memory = Some (codes "memory was refused" ++ line_feed)
+line_of_status OutputFault = Some (codes "the output took no more" ++ line_feed)
+line_of_status ScriptTooLong = Some (codes "the input is longer than 536870912 bytes" ++ line_feed)

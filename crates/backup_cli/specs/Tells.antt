@@ -26,11 +26,12 @@ pub record OnlyGrows (old new : Image) : Type 0 where
   pub files : (k : ℕ) → new.file k ≡ old.file k
   pub told : Extends old.told new.told
 
--- The files stay as they are, also in each image that a crash might have left since, and no count of faults falls.
+-- The files stay as they are, also in each image that a crash might have left since, their count of faults is as before, and
+-- that of the output doesn't fall.
 pub record OnlyTells {D : Type 0} (tells : Type 0) (seen : D → Image) (time : Moments D Image) (count : D → ℕ) (present : D → ℕ → Bool) (faults tell_faults : D → ℕ) (old new : D) : Type 0 where
   pub files : tells → (seen new).file ≡ (seen old).file
   pub images : tells → Leads time old new OnlyGrows
   pub same_count : count new ≡ count old
   pub same_present : present new ≡ present old
-  pub faults_stay : faults old ≤ faults new
+  pub faults_stay : faults new ≡ faults old
   pub tell_faults_stay : tell_faults old ≤ tell_faults new

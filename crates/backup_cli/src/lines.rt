@@ -2,8 +2,9 @@
 
 ghost use Rattle.std.specs.Prelude.{◌≡◌, ◌++◌, OnOk, OnErr, IfOk, codes};
 ghost use Rattle.vnode_model.specs.declared.vnodes.VnodeKind.{VnodeKind};
-ghost use Rattle.backup_cli.specs.Replies.{then_word, then_number, kind_word, entry_line, volume_line, cut_line, bad_line};
+ghost use Rattle.backup_cli.specs.Replies.{then_word, then_number, kind_word, refused, entry_line, volume_line, cut_line, bad_line};
 
+use crate::refusals::Refusal;
 use bk_text::{Bytes, Out};
 use itoa::Buffer;
 use std::alloc::{AllocError, Global};
@@ -86,12 +87,21 @@ pub fn line_of_volume(alloc: Global, increment: &Increment) -> Result<Bytes, All
     Ok(line.into_bytes())
 }
 
+fn put_refused(line: &mut Out, refusal: Refusal) -> Result<(), AllocError>
+    ensures { OnOk result (line.new ≡ line.old ++ refused refusal) }
+{
+    line.piece(b"refused")?;
+    put_number(line, refusal.number() as u64)?;
+    put_word(line, refusal.name())?;
+    Ok(())
+}
+
 /// The line of a proper prefix of a stream.
 pub fn line_of_cut(alloc: Global, length: usize) -> Result<Bytes, AllocError>
     ensures { IfOk result (λ line. line ≡ cut_line length) }
 {
     let mut line = Out::new(alloc);
-    line.piece(b"refused 86 CutStream")?;
+    put_refused(&mut line, Refusal::CutStream)?;
     put_number(&mut line, length as u64)?;
     line.byte(b'\n')?;
     Ok(line.into_bytes())
@@ -102,7 +112,8 @@ pub fn line_of_bad(alloc: Global, at: usize) -> Result<Bytes, AllocError>
     ensures { IfOk result (λ line. line ≡ bad_line at) }
 {
     let mut line = Out::new(alloc);
-    line.piece(b"refused 85 BadImage stream")?;
+    put_refused(&mut line, Refusal::BadImage)?;
+    put_word(&mut line, b"stream")?;
     put_number(&mut line, at as u64)?;
     line.byte(b'\n')?;
     Ok(line.into_bytes())

@@ -1,6 +1,6 @@
 //! How a run ended.
 
-ghost use Rattle.std.specs.Prelude.{◌≡◌};
+ghost use Rattle.std.specs.Prelude.{◌≡◌, None, Some, MatchOption};
 
 /// How a run ended.
 #[derive(Clone, Copy, Debug, PartialEq, Eq)]
@@ -22,7 +22,7 @@ pub enum Status {
 }
 
 impl Status {
-    ghost use Rattle.backup_cli.specs.Statuses.{status_number};
+    ghost use Rattle.backup_cli.specs.Statuses.{status_number, line_of_status};
 
     /// The program's exit status.
     pub fn number(&self) -> u8
@@ -36,6 +36,19 @@ impl Status {
             Status::Memory => 6,
             Status::OutputFault => 9,
             Status::ScriptTooLong => 10,
+        }
+    }
+
+    /// The line on standard error of a run that told nothing of how it ended. It takes no memory.
+    pub fn line(&self) -> Option<&'static [u8]>
+        ensures { MatchOption result (line_of_status self.now ≡ None) (λ text. line_of_status self.now ≡ Some text.now) }
+    {
+        match self {
+            Status::Done | Status::SomeRefused | Status::Usage => None,
+            Status::ReadFault => Some(b"the input could not be read\n"),
+            Status::Memory => Some(b"memory was refused\n"),
+            Status::OutputFault => Some(b"the output took no more\n"),
+            Status::ScriptTooLong => Some(b"the input is longer than 536870912 bytes\n"),
         }
     }
 }

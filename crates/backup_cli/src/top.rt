@@ -5,7 +5,7 @@ ghost use Rattle.std.specs.String.{string_bytes};
 ghost use Rattle.crash_moments.specs.Moments.{Leads, Rose};
 ghost use Rattle.backup_cli.specs.Tells.{TellsOn, OnlyTells};
 ghost use Rattle.backup_cli.specs.Replies.{usage_line};
-ghost use Rattle.backup_cli.specs.Runs.{IsExamine, Examines, TellsUsage, told_status};
+ghost use Rattle.backup_cli.specs.Runs.{IsExamine, passage, Examines, TellsUsage, told_status};
 ghost use Rattle.backup_cli.specs.declared.status.Status.TheVariants.{Usage, ReadFault, OutputFault};
 
 use crate::input::{ReadStop, read_input};
@@ -46,7 +46,7 @@ fn status_of(input: &Input) -> Status
 
 /// Reads an input and tells what it is.
 fn examine<M: Media, S: Source>(alloc: Global, media: &mut M, source: &mut S) -> Status
-    ensures told { S.tells → M.tells → Examines (λ lines. Leads M.time media.old media.new (TellsOn lines (M.seen media.old).told)) (S.left source.old) (S.left source.new) (M.seen media.old).told (M.seen media.new).told result }
+    ensures told { S.tells → M.tells → Examines (passage S.left M.seen M.time source.old source.new media.old media.new) result }
     ensures only { OnlyTells M.tells M.seen M.time M.count M.present M.faults M.tell_faults media.old media.new }
     ensures read_fault { result ≡ ReadFault → Rose (S.faults source.old) (S.faults source.new) }
     ensures output_fault { result ≡ OutputFault → Rose (M.tell_faults media.old) (M.tell_faults media.new) }
@@ -96,7 +96,7 @@ pub fn run<M: Media, S: Source>(
     ensures other_words { (IsExamine words.now.items → ⊥) → ((result.0 ≡ Usage) ⊎ (result.0 ≡ OutputFault)) × (M.tells → TellsUsage (M.seen media).told (M.seen result.1).told result.0) × (source.new ≡ source.old) }
     ensures other_images { (IsExamine words.now.items → ⊥) → M.tells → Leads M.time media result.1 (TellsOn usage_line (M.seen media).told) }
     // An input is told by its lines.
-    ensures examine { IsExamine words.now.items → S.tells → M.tells → Examines (λ lines. Leads M.time media result.1 (TellsOn lines (M.seen media).told)) (S.left source.old) (S.left source.new) (M.seen media).told (M.seen result.1).told result.0 }
+    ensures examine { IsExamine words.now.items → S.tells → M.tells → Examines (passage S.left M.seen M.time source.old source.new media result.1) result.0 }
     // The files stay, and no count of faults falls.
     ensures only { OnlyTells M.tells M.seen M.time M.count M.present M.faults M.tell_faults media result.1 }
     ensures source_faults { S.faults source.old ≤ S.faults source.new }
