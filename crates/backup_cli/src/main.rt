@@ -1,16 +1,7 @@
 //! The backup service of an AFS cell, as a program.
 #![tactic(auto)]
 
-mod input;
-mod lines;
-mod program;
-mod refusals;
-mod status;
-mod stdin;
-mod telling;
-pub mod top;
-
-use crate::program::program;
+use backup_top::program;
 use std::process::ExitCode;
 
 /// Runs on standard input, and ends with the number of the run's status.
@@ -18,8 +9,3 @@ fn main(rt: HostRuntime) -> ExitCode {
     let status = program(&rt, rt.stdin(), &mut rt.stdout(), &mut rt.stderr());
     ExitCode::from(status.number())
 }
-
-#[cfg(test)]
-mod program_tests;
-#[cfg(test)]
-mod tests;

@@ -1,0 +1,20 @@
+//! The program as a library: its top call, and the program over whatever it reads and prints to.
+#![tactic(auto)]
+
+mod edge;
+mod input;
+mod lines;
+mod refusals;
+mod status;
+mod stdin;
+mod telling;
+mod top;
+
+pub use edge::program;
+pub use status::Status;
+pub use top::run;
+
+#[cfg(test)]
+mod edge_tests;
+#[cfg(test)]
+mod tests;
