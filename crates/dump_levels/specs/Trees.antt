@@ -1,10 +1,10 @@
 -- What the calls make of the levels, which stand in the order in which they were added.
-use Rattle.std.specs.Prelude.{◌≡◌, ℕ, List, [], ◌∷◌, ◌++◌, Bool, true, not, map, if◌then◌else◌, Option, Some, None, Result, Ok, Err}
+use Rattle.std.specs.Prelude.{ℕ, List, [], ◌∷◌, ◌++◌, Bool, true, not, map, if◌then◌else◌, Option, Some, None, Result, Ok, Err}
 use Rattle.std.specs.List.{list_any, filter}
 use Rattle.bk_text.specs.declared.expiry.Expiry.{Expiry}
 use Rattle.dump_levels.specs.declared.levels.Level.{Level}
 use Rattle.dump_levels.specs.declared.levels.LevelFault.{LevelFault}
-use Rattle.dump_levels.specs.declared.levels.LevelFault.TheVariants.{LevelExists, NoParentLevel, NoSuchLevel, Memory}
+use Rattle.dump_levels.specs.declared.levels.LevelFault.TheVariants.{LevelExists, NoParentLevel, NoSuchLevel}
 use Rattle.bk_text.specs.Blanks.{is_same_text}
 use Rattle.dump_levels.specs.Elements.{is_within, path_above}
 
@@ -39,13 +39,3 @@ after_set levels path expiry = if has_level levels path then Ok (map (expiring p
 abbrev pub after_remove : List Level → List ℕ → Result (List Level) LevelFault
 after_remove levels path =
     if has_level levels path then Ok (filter (λ level. not (is_within path level.path)) levels) else Err NoSuchLevel
-
--- these levels are left, or this fault is told and the levels are as before
-abbrev pub Changes : Result (List Level) LevelFault → List Level → Result (Unit {0}) LevelFault → List Level → Type 0
-Changes outcome old (Ok done) new = outcome ≡ Ok new
-Changes outcome old (Err fault) new = (outcome ≡ Err fault) × (new ≡ old)
-
--- the same, unless memory runs out; there the levels are as before too
-abbrev pub ChangesInMemory : Result (List Level) LevelFault → List Level → Result (Unit {0}) LevelFault → List Level → Type 0
-ChangesInMemory outcome old (Err Memory) new = new ≡ old
-ChangesInMemory outcome old result new = Changes outcome old result new

@@ -1,9 +1,10 @@
 //! The levels of dumps, in the order in which they were added.
 
 ghost use Rattle.std.specs.Prelude.{◌≡◌, [], ◌∷◌, ◌++◌, map, IfOk, OnOk, OnErr};
-ghost use Rattle.dump_levels.specs.Elements.{paths_above};
+ghost use Rattle.bk_text.specs.Changes.{Changes, ChangesUnless};
+ghost use Rattle.dump_levels.specs.Elements.{path_above, paths_above};
 ghost use Rattle.dump_levels.specs.Spans.{expiry_in, expires_in};
-ghost use Rattle.dump_levels.specs.Trees.{is_level, has_level, has_upper, after_add, after_set, after_remove, expiring, Changes, ChangesInMemory};
+ghost use Rattle.dump_levels.specs.Trees.{is_level, has_level, has_upper, after_add, after_set, after_remove, expiring};
 ghost use Rattle.dump_levels.specs.declared.levels.LevelFault.TheVariants.{Memory};
 
 use crate::above::{above, all_above, is_at_or_below};
@@ -165,7 +166,7 @@ impl Levels {
     /// Adds a level behind those that are there. `LevelExists` where there is one of this path, then `NoParentLevel`
     /// where the path has more than one element and there is no level of the path above.
     pub fn add(&mut self, path: LevelPath, expiry: Expiry) -> Result<(), LevelFault>
-        ensures { ChangesInMemory (after_add self.old path expiry) self.old result self.new }
+        ensures { ChangesUnless LevelFault.Memory (after_add self.old path expiry) self.old result self.new }
     {
         if any_of_path(self.levels.as_slice(), &path) {
             return Err(LevelFault::LevelExists);
@@ -221,6 +222,13 @@ impl Levels {
         ensures { result ≡ has_level self.now path.now }
     {
         any_of_path(self.levels.as_slice(), path)
+    }
+
+    /// Whether the level above a path is there, where the path has more than one element.
+    pub fn has_above(&self, path: &LevelPath) -> Result<bool, AllocError>
+        ensures { IfOk result (λ is. is ≡ has_upper self.now (path_above path.now)) }
+    {
+        Ok(any_of_upper(self.levels.as_slice(), &above(path)?))
     }
 
     /// The levels in the order in which they were added. It takes no memory.

@@ -10,7 +10,8 @@ use Rattle.volume_sets.specs.declared.sets.VolumeSet.{VolumeSet}
 use Rattle.std.specs.Prelude.{Result, Ok, Err, ◌-◌, ◌&&◌, nat_lt, nat_le}
 use Rattle.volume_sets.specs.declared.sets.SetsFault.{SetsFault}
 use Rattle.volume_sets.specs.declared.sets.SetsFault.TheVariants.{NoSuchSet, NoSuchEntry, Memory}
-use Rattle.volume_sets.specs.Sets.{set_of, is_named, place_of, has_set, entries_at, entries_of, NamesOnce, with_entries_at, after_remove, after_add_entry, after_remove_entry, Changes, ChangesInMemory}
+use Rattle.volume_sets.specs.Sets.{set_of, is_named, place_of, has_set, entries_at, entries_of, NamesOnce, with_entries_at, after_remove, after_add_entry, after_remove_entry}
+use Rattle.bk_text.specs.Changes.{ChangesUnless}
 
 abbrev pub Rows : Type 0
 Rows = List (List ℕ × List SetEntry)
@@ -126,15 +127,9 @@ value_at (e ∷ es) (suc i) w at = value_at es i w at
 
 -- what a call tells and leaves
 
-pub tells_memory : (outcome : Result (List VolumeSet) SetsFault) (old new : List VolumeSet) (r : Result (Unit {0}) SetsFault) → IsErrAnd r (λ e. e ≡ Memory) → new ≡ old → ChangesInMemory outcome old r new
+pub tells_memory : (outcome : Result (List VolumeSet) SetsFault) (old new : List VolumeSet) (r : Result (Unit {0}) SetsFault) → IsErrAnd r (λ e. e ≡ Memory) → new ≡ old → ChangesUnless Memory outcome old r new
 tells_memory outcome old new (Ok done) is same = elim is [ ]
-tells_memory outcome old new (Err e) is same = subst (λ (f : SetsFault). ChangesInMemory outcome old (Err f) new) (sym is) same
-
-pub tells_fault : (outcome : Result (List VolumeSet) SetsFault) (old new : List VolumeSet) (r : Result (Unit {0}) SetsFault) (f : SetsFault) → r ≡ Err f → outcome ≡ Err f → new ≡ old → Changes outcome old r new
-tells_fault outcome old new r f is out same = subst (λ (x : Result (Unit {0}) SetsFault). Changes outcome old x new) (sym is) (out, same)
-
-pub tells_done : (outcome : Result (List VolumeSet) SetsFault) (old new : List VolumeSet) (r : Result (Unit {0}) SetsFault) → r ≡ Ok tt → outcome ≡ Ok new → Changes outcome old r new
-tells_done outcome old new r is out = subst (λ (x : Result (Unit {0}) SetsFault). Changes outcome old x new) (sym is) out
+tells_memory outcome old new (Err e) is same = (λ not. absurd (not is), same)
 
 -- the entries of the set of a name
 pub of_none : (name : List ℕ) (es : Rows) → lookup (pointwise nat_eq name) es ≡ None → entries_of name (map set_of es) ≡ None

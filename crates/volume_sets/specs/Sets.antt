@@ -1,11 +1,11 @@
 -- What the calls make of the volume sets, which stand in the order in which they were added.
-use Rattle.std.specs.Prelude.{◌≡◌, ℕ, zero, suc, ◌-◌, List, [], ◌∷◌, ◌++◌, length, Bool, ◌&&◌, nat_lt, nat_le, map, if◌then◌else◌, Option, Some, None, Result, Ok, Err}
+use Rattle.std.specs.Prelude.{ℕ, zero, suc, ◌-◌, List, [], ◌∷◌, ◌++◌, length, Bool, ◌&&◌, nat_lt, nat_le, map, if◌then◌else◌, Option, Some, None, Result, Ok, Err}
 use Rattle.std.specs.List.{position_or_len, remove, IsDistinct}
 use Rattle.bk_text.specs.Blanks.{is_same_text}
 use Rattle.volume_sets.specs.declared.sets.SetEntry.{SetEntry}
 use Rattle.volume_sets.specs.declared.sets.VolumeSet.{VolumeSet}
 use Rattle.volume_sets.specs.declared.sets.SetsFault.{SetsFault}
-use Rattle.volume_sets.specs.declared.sets.SetsFault.TheVariants.{SetExists, NoSuchSet, NoSuchEntry, Memory}
+use Rattle.volume_sets.specs.declared.sets.SetsFault.TheVariants.{SetExists, NoSuchSet, NoSuchEntry}
 
 -- a set, from what stands at its name
 abbrev pub set_of : List ℕ × List SetEntry → VolumeSet
@@ -61,13 +61,3 @@ after_remove_entry name number sets =
     if has_set name sets then
     (if nat_lt 0 number && nat_le number (length (entries_at (place_of name sets) sets)) then Ok (with_entries_at (place_of name sets) (remove (entries_at (place_of name sets) sets) (number - 1)) sets) else Err NoSuchEntry)
     else Err NoSuchSet
-
--- these sets are left, or this fault is told and the sets are as before
-abbrev pub Changes : Result (List VolumeSet) SetsFault → List VolumeSet → Result (Unit {0}) SetsFault → List VolumeSet → Type 0
-Changes outcome old (Ok done) new = outcome ≡ Ok new
-Changes outcome old (Err fault) new = (outcome ≡ Err fault) × (new ≡ old)
-
--- the same, unless memory runs out; there the sets are as before too
-abbrev pub ChangesInMemory : Result (List VolumeSet) SetsFault → List VolumeSet → Result (Unit {0}) SetsFault → List VolumeSet → Type 0
-ChangesInMemory outcome old (Err Memory) new = new ≡ old
-ChangesInMemory outcome old result new = Changes outcome old result new

@@ -1,8 +1,10 @@
 //! The volume sets, in the order in which they were added.
 
 ghost use Rattle.std.specs.Prelude.{◌≡◌, ◌<◌, ◌≤◌, ◌++◌, [], ◌∷◌, length, map, false, ◌&&◌, nat_lt, nat_le, slice_index_or, MatchOption, None, Some, OnOk, OnErr};
+ghost use Rattle.std.specs.List.{remove};
+ghost use Rattle.bk_text.specs.Changes.{Changes, ChangesUnless};
 ghost use Rattle.volume_sets.specs.Expansions.{Expands};
-ghost use Rattle.volume_sets.specs.Sets.{set_of, has_set, entries_at, entries_of, NamesOnce, after_add, after_remove, after_add_entry, after_remove_entry, Changes, ChangesInMemory};
+ghost use Rattle.volume_sets.specs.Sets.{set_of, has_set, place_of, entries_at, entries_of, NamesOnce, after_add, after_remove, after_add_entry, after_remove_entry};
 ghost use Rattle.volume_sets.specs.declared.sets.SetsFault.TheVariants.{Memory};
 
 use crate::expanding::places_in;
@@ -91,6 +93,19 @@ fn put_last(sets: &mut ByName, name: SetName, entries: List<SetEntry>) -> Result
     Ok(())
 }
 
+/// Takes a set out, where there is one of this name, and tells whether there was; those behind it close up.
+#[tactic(auto, using(crate::proofs::MapLaws::has_set_is, crate::proofs::MapLaws::remove_is))]
+fn take_set(sets: &mut ByName, name: &SetName) -> bool
+    ensures was { result ≡ has_set name.now (map set_of sets.old.entries) }
+    ensures taken { map set_of sets.new.entries ≡ remove (map set_of sets.old.entries) (place_of name.now (map set_of sets.old.entries)) }
+    ensures same { result ≡ false → map set_of sets.new.entries ≡ map set_of sets.old.entries }
+{
+    match sets.shift_remove(name) {
+        None => false,
+        Some(_) => true,
+    }
+}
+
 /// Whether one of so many has this number; they count from 1.
 fn is_among(number: u32, count: usize) -> bool
     ensures { result ≡ (nat_lt 0 number && nat_le number count) }
@@ -136,7 +151,7 @@ impl Sets {
 
     /// Adds a set without entries behind those that are there. `SetExists` where there is one of this name.
     pub fn add(&mut self, name: SetName) -> Result<(), SetsFault>
-        ensures { ChangesInMemory (after_add name self.old) self.old result self.new }
+        ensures { ChangesUnless SetsFault.Memory (after_add name self.old) self.old result self.new }
     {
         if has_name(&self.sets, &name) {
             return Err(SetsFault::SetExists);
@@ -150,15 +165,15 @@ impl Sets {
     pub fn remove(&mut self, name: &SetName) -> Result<(), SetsFault>
         ensures { Changes (after_remove name.now self.old) self.old result self.new }
     {
-        match self.sets.shift_remove(name) {
-            None => Err(SetsFault::NoSuchSet),
-            Some(_) => Ok(()),
+        if !take_set(&mut self.sets, name) {
+            return Err(SetsFault::NoSuchSet);
         }
+        Ok(())
     }
 
     /// Adds an entry behind those that a set has. `NoSuchSet` where there is none of this name.
     pub fn add_entry(&mut self, name: &SetName, entry: SetEntry) -> Result<(), SetsFault>
-        ensures { ChangesInMemory (after_add_entry name.now entry self.old) self.old result self.new }
+        ensures { ChangesUnless SetsFault.Memory (after_add_entry name.now entry self.old) self.old result self.new }
     {
         let Some(entries) = self.sets.get_mut(name) else {
             return Err(SetsFault::NoSuchSet);

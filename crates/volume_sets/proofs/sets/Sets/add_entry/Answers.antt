@@ -11,7 +11,7 @@ use Rattle.volume_sets.proofs.sets.Sets.add_entry.Goals as goal
 pub returns-in_default : goal.returns-in_default
 returns-in_default c =
     let es = c.self.inside.sets.entries in (
-      subst (λ (l : List VolumeSet). after_add_entry c.args.name.now c.args.entry l ≡ Err NoSuchSet) c.self.view_is (add_entry_none c.args.name.now c.args.entry es (sym c.in_default.ensures.value)),
+      λ not. subst (λ (l : List VolumeSet). after_add_entry c.args.name.now c.args.entry l ≡ Err NoSuchSet) c.self.view_is (add_entry_none c.args.name.now c.args.entry es (sym c.in_default.ensures.value)),
       ap (λ m. map set_of m.entries) c.get_mut.follows.holds-at-none ∙ c.self.view_is,
     )
 
