@@ -7,6 +7,7 @@ mod chains;
 mod checkpoints;
 mod database;
 mod fault;
+mod fits;
 mod fitting;
 mod fold_laws;
 mod folding;
