@@ -65,7 +65,7 @@ fn put_ids(text: &mut Bytes, alloc: Global, database: &Database) -> Result<(), A
 }
 
 /// A database in a short text.
-fn told(alloc: Global, database: &Database) -> Result<Bytes, AllocError> {
+pub fn told(alloc: Global, database: &Database) -> Result<Bytes, AllocError> {
     let mut text = Bytes::new(alloc);
     put_sets(&mut text, &database.sets)?;
     put_levels_and_hosts(&mut text, alloc, database)?;

@@ -34,3 +34,5 @@ pub use lookups::{from_of, greatest_at, parent_of, record_of, volume_of};
 mod fold_tests;
 #[cfg(test)]
 mod lookup_tests;
+#[cfg(test)]
+mod prepared_tests;

@@ -9,8 +9,11 @@ pub use budb_changes::{
     VolRecord, VolRecordFields, decode, encode, no_change_begins_another, one_encoding,
 };
 pub use budb_fold::{
-    ChainFault, Database, HostPort, VolumeDump, chain_of, fold, fold_of_more, from_of, greatest_at,
-    latest, parent_of, record_of, volume_of,
+    ChainFault, Database, HostPort, VolumeDump, chain_has_an_outcome, chain_has_its_dumps,
+    chain_has_one_outcome, chain_looks_at_its_dumps, chain_of, chain_stays_with_more,
+    chain_stays_without_others, chain_unfolds, checkpoint, checkpoint_makes_the_same_database,
+    database_of_a_log_is_orderly, entry_fits_by_its_pattern, fold, fold_of_more, from_of,
+    greatest_at, latest, parent_of, record_is_found_by_its_id, record_of, volume_of,
 };
 pub use fault::{AppendFault, ReplayFault};
 pub use log::{append, replay};
