@@ -1,31 +1,24 @@
 -- The first bytes of a log without bytes.
-use Rattle.std.proofs.Common.{◌≡◌, ℕ, List, [], ◌∷◌, ◌++◌, length, drop, replicate, slice_set, slice_index, refl, sym, ◌∙◌, ap, subst, arith}
-use Rattle.std.proofs.lemmas.List.{get_or-take, get_or-drop, get_or-append_right, get_or-replicate, length-replicate, replicate-append-replicate}
-use Rattle.crash_log.specs.Log.{span, place_of, place_at}
+use Rattle.std.proofs.Common.{◌≡◌, ℕ, List, ◌∷◌, ◌++◌, length, drop, replicate, slice_index, refl, sym, ◌∙◌, ap, arith, length-append}
+use Rattle.std.proofs.lemmas.List.{get_or-take, get_or-drop, get_or-append_right, get_or-replicate, length-replicate, take-append-le, take_all}
+use Rattle.crash_log.specs.Log.{span, place_of}
 use Rattle.crash_log.specs.Format.{first_place, IsFront}
 
-abbrev slot : List ℕ
-slot = 1 ∷ 0 ∷ 0 ∷ 0 ∷ 0 ∷ 0 ∷ 0 ∷ 0 ∷ 0 ∷ 0 ∷ 0 ∷ 0 ∷ 0 ∷ 0 ∷ 32 ∷ 0 ∷ 0 ∷ 0 ∷ 0 ∷ 0 ∷ 0 ∷ 0 ∷ 0 ∷ 0 ∷ []
-
-cells : (rest : List ℕ) → slice_set (slice_set (replicate 24 0 ++ rest) 0 1) 14 32 ≡ slot ++ rest
-cells rest = refl
-
-place_here : (rest : List ℕ) → place_at 0 (slot ++ rest) ≡ first_place
-unfolding place_of
-place_here rest = refl
-
-front_has : (n : ℕ) → n ≡ 8167 → IsFront (slot ++ replicate n 0)
-front_has n is = record {
-  size = let rest : List ℕ = replicate n 0 in let long : length rest ≡ n = length-replicate n 0 in omega (arith, long, is);
-  gate = refl;
-  place = place_here (replicate n 0);
-  other = λ is_one.
-      let zero_is : slice_index (span 4096 1 (slot ++ replicate n 0)) 0 ≡ 0 =
-      get_or-take 1 (drop 4096 (slot ++ replicate n 0)) 0 0 (omega arith) ∙ get_or-drop 4096 (slot ++ replicate n 0) 0 0
-      ∙ get_or-append_right slot (replicate n 0) 24 4096 0 refl (omega arith) ∙ get_or-replicate n 4072 0 0 (omega (arith, is)) in
-      let no : 0 ≡ 1 = sym zero_is ∙ is_one in
-      absurd (omega (arith, no));
-}
-
-pub front_is : (bytes : List ℕ) → bytes ≡ slice_set (slice_set (replicate 8191 0) 0 1) 14 32 → IsFront bytes
-front_is bytes is = subst IsFront (sym (is ∙ ap (λ (l : List ℕ). slice_set (slice_set l 0 1) 14 32) (sym (replicate-append-replicate 24 8167 0)) ∙ cells (replicate 8167 0))) (front_has 8167 refl)
+-- an open gate, the place of an empty log, and zeros
+pub front_is : (fields rest : List ℕ) → length fields ≡ 23 → place_of fields ≡ first_place → rest ≡ replicate 8167 0 → IsFront (1 ∷ (fields ++ rest))
+front_is fields rest long place is =
+    let bytes : List ℕ = 1 ∷ (fields ++ rest) in
+    let zeros : length rest ≡ 8167 = ap length is ∙ length-replicate {A = ℕ} 8167 0 in
+    let here : span 1 23 bytes ≡ fields = take-append-le 23 fields rest (omega (arith, long)) ∙ take_all 23 fields (omega (arith, long)) in
+    record {
+      size = omega (arith, zeros, long, length-append fields rest);
+      gate = refl;
+      place = ap place_of here ∙ place;
+      other = λ is_one.
+          let zero_is : slice_index (span 4096 1 bytes) 0 ≡ 0 =
+          get_or-take 1 (drop 4096 bytes) 0 0 (omega arith) ∙ get_or-drop 4096 bytes 0 0
+          ∙ get_or-append_right (1 ∷ fields) rest 24 4096 0 (omega (arith, long)) (omega arith)
+          ∙ ap (λ (l : List ℕ). slice_index l 4072) is ∙ get_or-replicate 8167 4072 0 0 (omega arith) in
+          let no : 0 ≡ 1 = sym zero_is ∙ is_one in
+          absurd (omega (arith, no));
+    }

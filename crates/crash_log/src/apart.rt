@@ -6,7 +6,7 @@ ghost use Rattle.crash_log.specs.Log.{span, HasLog, Any};
 ghost use Rattle.crash_log.specs.State.{settled_bytes};
 ghost use Rattle.crash_log.specs.Fit.{IsReady, as_read};
 
-use crate::state::LogState;
+use crate::state::{LogState, SLOTS};
 use media_core::{Failed, Media};
 
 /// Writes bytes from `at` on, behind the slots and outside of the current range. The next sync settles them.
@@ -17,7 +17,7 @@ pub fn write_apart<M: Media>(
     bytes: &[u8],
 ) -> Result<(), Failed>
     requires here { IsTrue (M.present media.old log.now.file) }
-    requires low { 8192 ≤ at }
+    requires low { SLOTS ≤ at }
     requires apart { (at + length bytes.now ≤ log.now.start) ⊎ (log.now.start + log.now.size ≤ at) }
     requires small { at + length bytes.now < 2 ^ 62 }
     requires ready { M.tells → IsReady (as_read M.seen) M.seen log.now media.old }

@@ -7,24 +7,28 @@ ghost use Rattle.crash_log.specs.Fit.{IsStill, as_read};
 ghost use Rattle.crash_log.specs.Format.{IsFront, HasNoGood, IsShut, IsPlaced, IsFormatted, Has};
 
 use crate::settle::settle;
-use crate::turn::fields;
+use crate::state::{CLOSED, OPEN, SLOT, SLOTS};
+use crate::turn::{fields, settle_fields};
 use media_core::{Failed, Media};
+
+/// How long the slots are without their last byte.
+const FRONT: usize = SLOTS as usize - 1;
 
 /// Bytes 0 to 8,190 of a log without bytes: the first slot has gate 1, turn 0, start 8,192 and size 0, the second one is
 /// closed.
-fn front() -> [u8; 8191]
+fn front() -> [u8; FRONT]
     ensures { IsFront result }
 {
-    let mut bytes = [0; 8191];
-    bytes[0] = 1;
-    bytes[14] = 32;
+    let mut bytes = [CLOSED; FRONT];
+    bytes[0] = OPEN;
+    bytes[1..24].copy_from_slice(&fields(0, SLOTS, 0));
     bytes
 }
 
 /// Writes all but the last byte of the slots. The file stays blank, since it is shorter than they are.
 fn write_front<M: Media>(media: &mut M, f: u32) -> Result<(), Failed>
     requires here { IsTrue (M.present media.old f) }
-    requires short { M.tells → length ((M.seen media.old).file f) < 8192 }
+    requires short { M.tells → length ((M.seen media.old).file f) < SLOTS }
     ensures front { M.tells → OnOk result (Has (as_read M.seen) M.seen IsFront f media.new) }
     ensures still { M.tells → OnOk result (IsStill M.time M.seen f media.new) }
     ensures frame { M.tells → OnOk result (AtFile f Any (M.seen media.old) (M.seen media.new)) }
@@ -51,14 +55,14 @@ fn write_end<M: Media>(media: &mut M, f: u32) -> Result<(), Failed>
     ensures cause { HasCause (M.faults media.old) (M.faults media.new) result }
     ensures tell_faults { M.tell_faults media.new ≡ M.tell_faults media.old }
 {
-    settle(media, f, 8191, &[0])?;
+    settle(media, f, FRONT as u64, &[CLOSED])?;
     Ok(())
 }
 
 /// Formats a blank file.
 pub fn format_blank<M: Media>(media: &mut M, f: u32) -> Result<(), Failed>
     requires here { IsTrue (M.present media.old f) }
-    requires short { M.tells → length ((M.seen media.old).file f) < 8192 }
+    requires short { M.tells → length ((M.seen media.old).file f) < SLOTS }
     ensures formatted { M.tells → OnOk result (Has (as_read M.seen) M.seen IsFormatted f media.new) }
     ensures still { M.tells → OnOk result (IsStill M.time M.seen f media.new) }
     ensures frame { M.tells → OnOk result (AtFile f Any (M.seen media.old) (M.seen media.new)) }
@@ -76,7 +80,7 @@ pub fn format_blank<M: Media>(media: &mut M, f: u32) -> Result<(), Failed>
 /// Closes the gate of the slot at a base, where it is open. A gate that isn't 1 isn't written again.
 fn close_gate<M: Media>(media: &mut M, f: u32, base: u64, is_open: bool) -> Result<(), Failed>
     requires here { IsTrue (M.present media.old f) }
-    requires base { (base ≡ 0) ⊎ (base ≡ 4096) }
+    requires base { (base ≡ 0) ⊎ (base ≡ SLOT) }
     requires bad { M.tells → Has (as_read M.seen) M.seen HasNoGood f media.old }
     requires gate { M.tells → (IsTrue is_open ↔ (gate_at base ((M.seen media.old).file f) ≡ 1)) }
     ensures bad { M.tells → OnOk result (Has (as_read M.seen) M.seen HasNoGood f media.new) }
@@ -91,7 +95,7 @@ fn close_gate<M: Media>(media: &mut M, f: u32, base: u64, is_open: bool) -> Resu
     ensures tell_faults { M.tell_faults media.new ≡ M.tell_faults media.old }
 {
     if is_open {
-        settle(media, f, base, &[0])?;
+        settle(media, f, base, &[CLOSED])?;
         return Ok(());
     }
     Ok(())
@@ -102,7 +106,7 @@ fn close_gates<M: Media>(media: &mut M, f: u32, first: bool, second: bool) -> Re
     requires here { IsTrue (M.present media.old f) }
     requires bad { M.tells → Has (as_read M.seen) M.seen HasNoGood f media.old }
     requires first { M.tells → (IsTrue first ↔ (gate_at 0 ((M.seen media.old).file f) ≡ 1)) }
-    requires second { M.tells → (IsTrue second ↔ (gate_at 4096 ((M.seen media.old).file f) ≡ 1)) }
+    requires second { M.tells → (IsTrue second ↔ (gate_at SLOT ((M.seen media.old).file f) ≡ 1)) }
     ensures shut { M.tells → OnOk result (Has (as_read M.seen) M.seen IsShut f media.new) }
     ensures survives { M.tells → Has M.time M.seen HasNoGood f media.old → OnOk result (Has M.time M.seen IsShut f media.new) }
     ensures frame { M.tells → OnOk result (AtFile f Any (M.seen media.old) (M.seen media.new)) }
@@ -113,7 +117,7 @@ fn close_gates<M: Media>(media: &mut M, f: u32, first: bool, second: bool) -> Re
     ensures tell_faults { M.tell_faults media.new ≡ M.tell_faults media.old }
 {
     close_gate(media, f, 0, first)?;
-    close_gate(media, f, 4096, second)?;
+    close_gate(media, f, SLOT, second)?;
     Ok(())
 }
 
@@ -130,8 +134,8 @@ fn write_place<M: Media>(media: &mut M, f: u32) -> Result<(), Failed>
     ensures cause { HasCause (M.faults media.old) (M.faults media.new) result }
     ensures tell_faults { M.tell_faults media.new ≡ M.tell_faults media.old }
 {
-    let fields = fields(0, 8192, 0);
-    settle(media, f, 1, &fields)?;
+    let fields = fields(0, SLOTS, 0);
+    settle_fields(media, f, 0, &fields)?;
     Ok(())
 }
 
@@ -148,7 +152,7 @@ fn open_first<M: Media>(media: &mut M, f: u32) -> Result<(), Failed>
     ensures cause { HasCause (M.faults media.old) (M.faults media.new) result }
     ensures tell_faults { M.tell_faults media.new ≡ M.tell_faults media.old }
 {
-    settle(media, f, 0, &[1])?;
+    settle(media, f, 0, &[OPEN])?;
     Ok(())
 }
 
@@ -162,7 +166,7 @@ pub fn format_damaged<M: Media>(
     requires here { IsTrue (M.present media.old f) }
     requires bad { M.tells → Has (as_read M.seen) M.seen HasNoGood f media.old }
     requires first { M.tells → (IsTrue first ↔ (gate_at 0 ((M.seen media.old).file f) ≡ 1)) }
-    requires second { M.tells → (IsTrue second ↔ (gate_at 4096 ((M.seen media.old).file f) ≡ 1)) }
+    requires second { M.tells → (IsTrue second ↔ (gate_at SLOT ((M.seen media.old).file f) ≡ 1)) }
     ensures formatted { M.tells → OnOk result (Has (as_read M.seen) M.seen IsFormatted f media.new) }
     ensures still { M.tells → OnOk result (IsStill M.time M.seen f media.new) }
     ensures frame { M.tells → OnOk result (AtFile f Any (M.seen media.old) (M.seen media.new)) }

@@ -9,7 +9,7 @@ ghost use Rattle.crash_log.specs.Fit.{IsStill};
 use crate::apart::write_apart;
 use crate::mend::mend;
 use crate::open::read_state;
-use crate::state::{LogState, Needs};
+use crate::state::{LogState, Needs, SLOTS};
 use crate::turn::turn_over;
 use media_core::{Failed, Media};
 use thiserror::Error;
@@ -77,7 +77,7 @@ impl CrashLog {
         ensures empty { IsTrue result → length_of self.now ≡ 0 }
     {
         match self.state.needs {
-            Needs::Damaged(_, _) => true,
+            Needs::Damaged { .. } => true,
             Needs::Nothing | Needs::Blank | Needs::Stale => false,
         }
     }
@@ -177,10 +177,8 @@ impl CrashLog {
         ensures tell_faults { M.tell_faults media.new ≡ M.tell_faults media.old }
     {
         let all = self.state.size + self.state.more;
-        match self.cut(media, all) {
-            Ok(()) => Ok(()),
-            Err(error) => Err(error),
-        }
+        self.cut(media, all)?;
+        Ok(())
     }
 
     /// Keeps the first `n` bytes of the log, settled.
@@ -269,13 +267,13 @@ impl CrashLog {
     /// behind that.
     fn free_start(&self, size: u64) -> u64
         requires { size ≤ limit_of self.now }
-        ensures low { 8192 ≤ result }
+        ensures low { SLOTS ≤ result }
         ensures high { result ≤ 2 ^ 40 }
         ensures apart { (result + size ≤ self.now.state.start) ⊎ (self.now.state.start + self.now.state.size ≤ result) }
         ensures within { result ≤ self.now.state.start + self.now.state.size }
     {
-        if 8192 + size <= self.state.start {
-            8192
+        if SLOTS + size <= self.state.start {
+            SLOTS
         } else {
             self.state.start + self.state.size
         }

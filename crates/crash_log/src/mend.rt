@@ -8,7 +8,7 @@ ghost use Rattle.crash_log.specs.Fit.{Fits, IsBlank, IsBad, IsStale, IsReady, Is
 
 use crate::format::{format_blank, format_damaged};
 use crate::settle::settle;
-use crate::state::{LogState, Needs};
+use crate::state::{CLOSED, LogState, Needs};
 use media_core::{Failed, Media};
 
 /// Closes the other gate, which is 1 though its slot isn't good. Else the file, as it grows, could make that slot good.
@@ -25,7 +25,7 @@ fn close_stale<M: Media>(log: &LogState, media: &mut M) -> Result<(), Failed>
     ensures cause { HasCause (M.faults media.old) (M.faults media.new) result }
     ensures tell_faults { M.tell_faults media.new ≡ M.tell_faults media.old }
 {
-    settle(media, log.file, log.other(), &[0])?;
+    settle(media, log.file, log.other(), &[CLOSED])?;
     Ok(())
 }
 
@@ -49,8 +49,11 @@ pub fn mend<M: Media>(log: &LogState, media: &mut M) -> Result<(), Failed>
             format_blank(media, log.file)?;
             Ok(())
         }
-        Needs::Damaged(first, second) => {
-            format_damaged(media, log.file, first, second)?;
+        Needs::Damaged {
+            first_open,
+            second_open,
+        } => {
+            format_damaged(media, log.file, first_open, second_open)?;
             Ok(())
         }
         Needs::Stale => {

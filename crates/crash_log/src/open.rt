@@ -1,5 +1,5 @@
 // A log is opened.
-ghost use Rattle.std.specs.Prelude.{◌≡◌, ◌+◌, ◌^◌, ◌<◌, ◌≤◌, ◌↔◌, List, ℕ, length, drop, OnOk, IfOk, IsTrue, slice_index};
+ghost use Rattle.std.specs.Prelude.{◌≡◌, ◌+◌, ◌^◌, ◌<◌, ◌≤◌, ◌↔◌, List, ℕ, length, drop, OnOk, IfOk, IsTrue, false, slice_index};
 ghost use Rattle.std.specs.Int.{w64, from_be_bytes};
 ghost use Rattle.crash_moments.specs.Moments.{Leads, HasCause};
 ghost use Rattle.media_core.specs.Media.{Image, Same};
@@ -8,7 +8,7 @@ ghost use Rattle.crash_log.specs.State.{IsBounded, empty_state};
 ghost use Rattle.crash_log.specs.Fit.{as_read};
 ghost use Rattle.crash_log.specs.Opened.{IsSlot, IsOpened, opened_state, stale_where};
 
-use crate::state::{LogState, MOST_SIZE, MOST_START, Needs, SLOT, SLOTS, following};
+use crate::state::{LogState, MOST_SIZE, MOST_START, Needs, OPEN, SLOT, SLOTS, following};
 use media_core::{Failed, Media};
 
 /// What a slot says: whether its gate is 1, and its fields.
@@ -37,7 +37,7 @@ fn parse(bytes: &[u8]) -> Slot
     ensures place { place_of (drop 1 bytes.now) ≡ record { turn = result.turn; start = result.start; size = result.size } }
 {
     Slot {
-        open: bytes[0] == 1,
+        open: bytes[0] == OPEN,
         turn: bytes[1],
         start: number(&bytes[8..16]),
         size: number(&bytes[16..24]),
@@ -60,20 +60,20 @@ impl Slot {
             && self.size <= long - self.start
     }
 
-    /// The state of a log whose current slot is this one.
-    fn state(&self, f: u32, limit: u64, second: bool, other_open: bool, needs: Needs) -> LogState
-        ensures { result ≡ at_slot self.now second other_open needs f limit }
+    /// The state of a log whose current slot is this one, where it is the first and the other one is closed.
+    fn state(&self, f: u32, limit: u64) -> LogState
+        ensures { result ≡ at_slot self.now false false Needs.Nothing f limit }
     {
         LogState {
             file: f,
             limit,
-            needs,
-            second,
+            needs: Needs::Nothing,
+            second: false,
             turn: self.turn,
             start: self.start,
             size: self.size,
             more: 0,
-            other_open,
+            other_open: false,
         }
     }
 }
@@ -118,17 +118,35 @@ fn choose(first: &Slot, second: &Slot, f: u32, limit: u64, long: u64) -> LogStat
     let second_good = second.is_good(long);
     if first_good && second_good {
         if second.turn == following(first.turn) {
-            return second.state(f, limit, true, true, Needs::Nothing);
+            return LogState {
+                second: true,
+                other_open: true,
+                ..second.state(f, limit)
+            };
         }
-        return first.state(f, limit, false, true, Needs::Nothing);
+        return LogState {
+            other_open: true,
+            ..first.state(f, limit)
+        };
     }
     if first_good {
-        return first.state(f, limit, false, false, stale(second.open));
+        return LogState {
+            needs: stale(second.open),
+            ..first.state(f, limit)
+        };
     }
     if second_good {
-        return second.state(f, limit, true, false, stale(first.open));
+        return LogState {
+            second: true,
+            needs: stale(first.open),
+            ..second.state(f, limit)
+        };
     }
-    empty(f, limit, Needs::Damaged(first.open, second.open))
+    let needs = Needs::Damaged {
+        first_open: first.open,
+        second_open: second.open,
+    };
+    empty(f, limit, needs)
 }
 
 /// A slot of a file.
@@ -151,9 +169,9 @@ fn read_slot<M: Media>(media: &mut M, f: u32, base: u64) -> Result<Slot, Failed>
 /// Both slots of a file.
 fn read_slots<M: Media>(media: &mut M, f: u32) -> Result<(Slot, Slot), Failed>
     requires here { IsTrue (M.present media.old f) }
-    requires within { M.tells → 8192 ≤ length ((M.seen media.old).file f) }
+    requires within { M.tells → SLOTS ≤ length ((M.seen media.old).file f) }
     ensures first { M.tells → IfOk result (λ both. IsSlot 0 ((M.seen media.old).file f) both.0) }
-    ensures second { M.tells → IfOk result (λ both. IsSlot 4096 ((M.seen media.old).file f) both.1) }
+    ensures second { M.tells → IfOk result (λ both. IsSlot SLOT ((M.seen media.old).file f) both.1) }
     ensures seen { M.tells → M.seen media.new ≡ M.seen media.old }
     ensures crash { M.tells → Leads M.time media.old media.new Same }
     ensures count { M.count media.new ≡ M.count media.old }
@@ -176,7 +194,7 @@ fn state_of_slots<M: Media>(
     requires here { IsTrue (M.present media.old f) }
     requires limit { limit ≤ 2 ^ 36 }
     requires long { M.tells → long ≡ length ((M.seen media.old).file f) }
-    requires slots { 8192 ≤ long }
+    requires slots { SLOTS ≤ long }
     ensures opened { M.tells → IfOk result (λ s. IsOpened (as_read M.seen) M.seen f media.new s) }
     ensures bounded { IfOk result IsBounded }
     ensures fresh { IfOk result (λ s. s.more ≡ 0) }

@@ -5,8 +5,14 @@ ghost use Rattle.crash_log.specs.Log.{successor};
 /// Where the log's bytes may begin: behind the two slots.
 pub const SLOTS: u64 = 8192;
 
-/// How long a slot is.
+/// How long a slot is: the first one begins at 0, the second one here.
 pub const SLOT: u64 = 4096;
+
+/// The first byte of a slot that is open. With any other it is closed.
+pub const OPEN: u8 = 1;
+
+/// The byte that closes a slot.
+pub const CLOSED: u8 = 0;
 
 /// The greatest start of a good slot.
 pub const MOST_START: u64 = 1 << 40;
@@ -20,7 +26,7 @@ pub const MOST_SIZE: u64 = 1 << 38;
 pub enum Needs {
     Nothing,
     Blank,
-    Damaged(bool, bool),
+    Damaged { first_open: bool, second_open: bool },
     Stale,
 }
 

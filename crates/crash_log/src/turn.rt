@@ -1,14 +1,14 @@
 // The other slot becomes the current one: it is closed, gets its fields, and is opened, each with a sync.
 ghost use Rattle.std.specs.Prelude.{◌≡◌, ◌+◌, ◌^◌, ◌<◌, ◌≤◌, List, ℕ, length, OnOk, IsTrue};
 ghost use Rattle.crash_moments.specs.Moments.{Leads, HasCause};
-ghost use Rattle.media_core.specs.Media.{Image, AtFile};
+ghost use Rattle.media_core.specs.Media.{Image, AtFile, Holds, Torn};
 ghost use Rattle.crash_log.specs.Log.{place_of, span, IsFine, HasLog, HasOneOf, Any, successor};
 ghost use Rattle.crash_log.specs.State.{settled_bytes, place_for, moved_to};
 ghost use Rattle.crash_log.specs.Fit.{IsReady, IsStill, SameBehind, as_read};
 ghost use Rattle.crash_log.specs.Turn.{IsClosed, IsNext, IsNamed};
 
 use crate::settle::settle;
-use crate::state::{LogState, following};
+use crate::state::{CLOSED, LogState, OPEN, SLOT, following};
 use media_core::{Failed, Media};
 
 /// The bytes of a slot behind its gate.
@@ -22,6 +22,28 @@ pub fn fields(turn: u8, start: u64, size: u64) -> [u8; 23]
         turn, 0, 0, 0, 0, 0, 0, s[0], s[1], s[2], s[3], s[4], s[5], s[6], s[7], n[0], n[1], n[2],
         n[3], n[4], n[5], n[6], n[7],
     ]
+}
+
+/// Writes the fields of the slot at a base, behind its gate, and waits until they are on the disk: no gate is opened in the
+/// sync of its fields.
+pub fn settle_fields<M: Media>(
+    media: &mut M,
+    f: u32,
+    base: u64,
+    fields: &[u8; 23],
+) -> Result<(), Failed>
+    requires here { IsTrue (M.present media.old f) }
+    requires base { base ≤ SLOT }
+    requires within { M.tells → base + 1 ≤ length ((M.seen media.old).file f) }
+    ensures written { M.tells → OnOk result (AtFile f (Holds (base + 1) fields.now) (M.seen media.old) (M.seen media.new)) }
+    ensures durable { M.tells → OnOk result (IsStill M.time M.seen f media.new) }
+    ensures crash { M.tells → Leads M.time media.old media.new (AtFile f (Torn (base + 1) 23)) }
+    ensures count { M.count media.new ≡ M.count media.old }
+    ensures present { M.present media.new ≡ M.present media.old }
+    ensures cause { HasCause (M.faults media.old) (M.faults media.new) result }
+    ensures tell_faults { M.tell_faults media.new ≡ M.tell_faults media.old }
+{
+    settle(media, f, base + 1, fields)
 }
 
 /// Closes the other slot, where it is open. A gate that isn't 1 isn't written again.
@@ -39,7 +61,7 @@ fn close_other<M: Media>(log: &LogState, media: &mut M) -> Result<(), Failed>
     ensures tell_faults { M.tell_faults media.new ≡ M.tell_faults media.old }
 {
     if log.other_open {
-        settle(media, log.file, log.other(), &[0])?;
+        settle(media, log.file, log.other(), &[CLOSED])?;
         return Ok(());
     }
     Ok(())
@@ -61,7 +83,7 @@ fn name_place<M: Media>(log: &LogState, media: &mut M, start: u64, size: u64) ->
     ensures tell_faults { M.tell_faults media.new ≡ M.tell_faults media.old }
 {
     let fields = fields(following(log.turn), start, size);
-    settle(media, log.file, log.other() + 1, &fields)?;
+    settle_fields(media, log.file, log.other(), &fields)?;
     Ok(())
 }
 
@@ -80,7 +102,7 @@ fn open_other<M: Media>(log: &LogState, media: &mut M, start: u64, size: u64) ->
     ensures cause { HasCause (M.faults media.old) (M.faults media.new) result }
     ensures tell_faults { M.tell_faults media.new ≡ M.tell_faults media.old }
 {
-    settle(media, log.file, log.other(), &[1])?;
+    settle(media, log.file, log.other(), &[OPEN])?;
     Ok(())
 }
 

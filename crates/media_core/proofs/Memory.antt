@@ -1,14 +1,15 @@
 -- What one event more makes of files in memory.
-use Rattle.std.proofs.Common.{◌≡◌, ◌≢◌, inl, inr, ℕ, zero, suc, ◌<◌, ◌≤◌, min, ◌==◌, if◌then◌else◌, Bool, true, false, not, List, [], ◌∷◌, ◌++◌, length, take, get_or, slice_set, Vec, replicate, refl, sym, ◌∙◌, ap, subst, arith}
+use Rattle.std.proofs.Common.{◌≡◌, ◌≢◌, inl, inr, ℕ, zero, suc, ◌<◌, ◌≤◌, min, ◌==◌, if◌then◌else◌, Bool, true, false, not, List, [], ◌∷◌, ◌++◌, length, take, slice_set, Vec, Err, replicate, refl, sym, ◌∙◌, ap, subst, arith}
 use Rattle.std.specs.declared.alloc.Global.{Global}
 use Rattle.std.proofs.lemmas.Bool.{cases_eq}
 use Rattle.std.proofs.lemmas.Bool.Decides.{nat_tests}
-use Rattle.crash_moments.specs.Moments.{Stepped, Leads, history}
+use Rattle.crash_moments.specs.Moments.{Stepped, Leads, HasCause, history}
 use Rattle.media_core.specs.declared.event.Event.{Event}
 use Rattle.media_core.specs.declared.event.Event.TheVariants.{Opened, Write, Sync, Tell}
 use Rattle.media_core.specs.declared.mem.MemMedia.{MemMedia}
 use Rattle.media_core.specs.Media.{Image, Torn, AtFile, Tells, written}
 use Rattle.media_core.specs.Events.{Contents, blank, happens, after, FileLeft, ToldLeft, IsLeft, Gains, TellsMore, seen_after, file_bytes, LeftAfter}
+use Rattle.media_core.specs.Plan.{one_more}
 use Rattle.media_core.specs.Presence.{is_here}
 use Rattle.media_core.specs.Files.{events_of, seen_of}
 use Rattle.media_core.proofs.DiskModel.{WriteLeaves, SyncLeaves, TellLeaves, write_left, sync_left, tell_left, opened_left, fresh_only, none_told, always_read}
@@ -20,6 +21,10 @@ Files = List (Vec ℕ Global)
 pub after-push : (es : List Event) (e : Event) (s : Contents) → after (es ++ e ∷ []) s ≡ happens e (after es s)
 after-push [] e s = refl
 after-push (x ∷ es) e s = after-push es e (happens x s)
+
+-- a failed call that is counted once
+pub failed_once : {T E : Type 0} (e : E) (before mid now : ℕ) → before ≤ mid → mid ≤ now → now ≡ one_more before → HasCause {T = T} before now (Err e)
+failed_once e before mid now first second once = record { later = omega arith; failed = omega (arith, once); stays = tt }
 
 -- the files show the write
 pub write_shows : (files files' : Files) (past past' : List Event) (f at : ℕ) (bytes : List ℕ)

@@ -22,6 +22,12 @@ is_stopped p = is_from p.stop p.calls
 abbrev pub turn_of : Plan → Turn
 turn_of p = if is_stopped p then Stops else (if is_named p then Fails else Goes)
 
+-- a call that goes its way
+abbrev pub goes : Turn → Bool
+goes Goes = true
+goes Fails = false
+goes Stops = false
+
 -- the next call is one that was planned to fail
 abbrev pub is_planned : Plan → Bool
 is_planned p = if is_stopped p then true else is_named p

@@ -18,10 +18,8 @@ pub fn overwrite_in(
     ensures ok { OnOk result ((k : ℕ) → file_bytes files.new.items k ≡ (if k == f then written at bytes.now (file_bytes files.old.items k) else file_bytes files.old.items k)) }
     ensures err { OnErr result ((k : ℕ) → file_bytes files.new.items k ≡ file_bytes files.old.items k) }
 {
-    match overwrite(&mut files[f], at, bytes) {
-        Ok(()) => Ok(()),
-        Err(error) => Err(error),
-    }
+    overwrite(&mut files[f], at, bytes)?;
+    Ok(())
 }
 
 /// Copies a part of one file.

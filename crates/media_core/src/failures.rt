@@ -1,7 +1,7 @@
 // Which calls of an object in memory failed.
 ghost use Rattle.std.specs.Prelude.{◌≡◌, ◌+◌, ◌-◌, ◌^◌, ◌≤◌, ◌≢◌, min, false, IsTrue, OnOk, OnErr};
 ghost use Rattle.crash_moments.specs.Moments.{Rose};
-ghost use Rattle.media_core.specs.Plan.{turn_of, counted, is_planned, is_stopped, more_where, one_more, stopped_at, GainsCall, SamePlan, IsUnplanned};
+ghost use Rattle.media_core.specs.Plan.{turn_of, goes, counted, is_planned, is_stopped, more_where, one_more, stopped_at, GainsCall, SamePlan, IsUnplanned};
 
 use crate::plan::{Plan, Turn};
 use crash_moments::raised;
@@ -77,34 +77,42 @@ impl Failures {
         turn
     }
 
-    /// A growth was refused in a call on files.
-    pub fn refuse(&mut self)
+    /// A growth was refused in a call on files, which fails by that where it went its way so far. One that was
+    /// stopped is counted as failed already.
+    pub fn refuse(&mut self, turn: Turn)
+        requires { turn ≢ Turn.Goes → IsUnplanned self.old.plan → ⊥ }
         ensures plan { self.new.plan ≡ self.old.plan }
-        ensures faults { self.new.faults ≡ one_more self.old.faults }
+        ensures faults { self.new.faults ≡ more_where (goes turn) self.old.faults }
+        ensures later { self.old.faults ≤ self.new.faults }
         ensures tell_faults { self.new.tell_faults ≡ self.old.tell_faults }
         ensures wants { self.new.wants ≡ one_more self.old.wants }
-        ensures risen { Rose self.old.faults self.new.faults }
-        ensures later { self.old.faults ≤ self.new.faults }
         ensures wanted { Rose self.old.wants self.new.wants }
         ensures wants_later { self.old.wants ≤ self.new.wants }
     {
         self.wants = raised(self.wants);
-        self.faults = raised(self.faults);
+        match turn {
+            Turn::Goes => self.faults = raised(self.faults),
+            Turn::Fails | Turn::Stops => {}
+        }
     }
 
-    /// A growth was refused in a call on the output.
-    pub fn refuse_tell(&mut self)
+    /// A growth was refused in a call on the output, which fails by that where it went its way so far. One that was
+    /// stopped is counted as failed already.
+    pub fn refuse_tell(&mut self, turn: Turn)
+        requires { turn ≢ Turn.Goes → IsUnplanned self.old.plan → ⊥ }
         ensures plan { self.new.plan ≡ self.old.plan }
         ensures faults { self.new.faults ≡ self.old.faults }
-        ensures tell_faults { self.new.tell_faults ≡ one_more self.old.tell_faults }
-        ensures wants { self.new.wants ≡ one_more self.old.wants }
-        ensures risen { Rose self.old.tell_faults self.new.tell_faults }
+        ensures tell_faults { self.new.tell_faults ≡ more_where (goes turn) self.old.tell_faults }
         ensures later { self.old.tell_faults ≤ self.new.tell_faults }
+        ensures wants { self.new.wants ≡ one_more self.old.wants }
         ensures wanted { Rose self.old.wants self.new.wants }
         ensures wants_later { self.old.wants ≤ self.new.wants }
     {
         self.wants = raised(self.wants);
-        self.tell_faults = raised(self.tell_faults);
+        match turn {
+            Turn::Goes => self.tell_faults = raised(self.tell_faults),
+            Turn::Fails | Turn::Stops => {}
+        }
     }
 
     /// Names a call that fails and changes nothing. On an error all stays.
@@ -115,10 +123,8 @@ impl Failures {
         ensures tell_faults { self.new.tell_faults ≡ self.old.tell_faults }
         ensures wants { self.new.wants ≡ self.old.wants }
     {
-        match self.plan.fail_at(call) {
-            Ok(()) => Ok(()),
-            Err(error) => Err(error),
-        }
+        self.plan.fail_at(call)?;
+        Ok(())
     }
 
     /// Names a call that is stopped with all later ones.

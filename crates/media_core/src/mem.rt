@@ -8,7 +8,7 @@ ghost use Rattle.media_core.specs.Still.{IsStill};
 ghost use Rattle.media_core.specs.Reads.{last_told};
 ghost use Rattle.media_core.specs.Events.{file_bytes, blank, after, ToldLeft, seen_after, IsLeft, LeftAfter, PickedAfter, Gains, TellsMore};
 ghost use Rattle.media_core.specs.Emptied.{NoJournal};
-ghost use Rattle.media_core.specs.Plan.{GainsCall, SamePlan, IsUnplanned, stopped_at};
+ghost use Rattle.media_core.specs.Plan.{GainsCall, SamePlan, IsUnplanned, one_more, stopped_at};
 
 use crate::bytes::{copy_files, copy_part, empty_files};
 use crate::event::{Event, empty_first, empty_in_all, keep_sync, keep_tell, keep_write};
@@ -94,6 +94,7 @@ impl Media for MemMedia {
         ensures cause { HasCause (faults_of self.old) (faults_of self.new) result }
         ensures tell_faults { tell_faults_of self.new ≡ tell_faults_of self.old }
         ensures asked { events_of self.new ≡ events_of self.old }
+        ensures once { OnErr result (faults_of self.new ≡ one_more (faults_of self.old)) }
         ensures counted { FailsAsPlanned self.old self.new result }
     {
         if self.failures.begin() != Turn::Goes {
@@ -113,6 +114,7 @@ impl Media for MemMedia {
         ensures cause { HasCause (faults_of self.old) (faults_of self.new) result }
         ensures tell_faults { tell_faults_of self.new ≡ tell_faults_of self.old }
         ensures asked { events_of self.new ≡ events_of self.old }
+        ensures once { OnErr result (faults_of self.new ≡ one_more (faults_of self.old)) }
         ensures counted { FailsAsPlanned self.old self.new result }
     {
         if self.failures.begin() != Turn::Goes {
@@ -133,6 +135,7 @@ impl Media for MemMedia {
         ensures cause { HasCause (faults_of self.old) (faults_of self.new) result }
         ensures tell_faults { tell_faults_of self.new ≡ tell_faults_of self.old }
         ensures asked { IsAsked (Gains (events_of self.old) (events_of self.new) f at from.now) self.old self.new result }
+        ensures once { OnErr result (faults_of self.new ≡ one_more (faults_of self.old)) }
         ensures counted { IsCounted self.old self.new result }
     {
         let turn = self.failures.begin();
@@ -147,7 +150,7 @@ impl Media for MemMedia {
                 Ok(())
             }
             Err(_) => {
-                self.failures.refuse();
+                self.failures.refuse(turn);
                 Err(Failed)
             }
         }
@@ -164,6 +167,7 @@ impl Media for MemMedia {
         ensures tell_faults { tell_faults_of self.new ≡ tell_faults_of self.old }
         ensures asked { OnOk result (events_of self.new ≡ events_of self.old ++ Event.Sync f ∷ []) }
         ensures kept { OnErr result (events_of self.new ≡ events_of self.old) }
+        ensures once { OnErr result (faults_of self.new ≡ one_more (faults_of self.old)) }
         ensures counted { IsCounted self.old self.new result }
     {
         if self.failures.begin() != Turn::Goes {
@@ -172,7 +176,7 @@ impl Media for MemMedia {
         match keep_sync(&mut self.past, f) {
             Ok(()) => Ok(()),
             Err(_) => {
-                self.failures.refuse();
+                self.failures.refuse(Turn::Goes);
                 Err(Failed)
             }
         }
@@ -191,6 +195,7 @@ impl Media for MemMedia {
         ensures faults { faults_of self.new ≡ faults_of self.old }
         ensures all { IfOk result (λ n. n ≡ length piece.now) }
         ensures asked { IsAsked (TellsMore (events_of self.old) (events_of self.new) piece.now) self.old self.new result }
+        ensures once { OnErr result (tell_faults_of self.new ≡ one_more (tell_faults_of self.old)) }
         ensures counted { IsCounted self.old self.new result }
     {
         let turn = self.failures.begin_tell();
@@ -205,7 +210,7 @@ impl Media for MemMedia {
                 Ok(piece.len())
             }
             Err(_) => {
-                self.failures.refuse_tell();
+                self.failures.refuse_tell(turn);
                 Err(Failed)
             }
         }
@@ -242,10 +247,8 @@ impl MemMedia {
         ensures err { OnErr result (SamePlan (plan_of self.old) (plan_of self.new)) }
         ensures rest { SameButPlan self.old self.new }
     {
-        match self.failures.fail_at(call) {
-            Ok(()) => Ok(()),
-            Err(error) => Err(error),
-        }
+        self.failures.fail_at(call)?;
+        Ok(())
     }
 
     /// Makes that call and all later ones fail. A `write` or `tell` that is so stopped is in progress: a crash may leave any of

@@ -31,10 +31,8 @@ fn replay_write(
     let f = f as usize;
     make_room(alloc, files, f)?;
     let place = (at as usize).min(files[f].len());
-    match overwrite_in(files, f, place, bytes) {
-        Ok(()) => Ok(()),
-        Err(error) => Err(error),
-    }
+    overwrite_in(files, f, place, bytes)?;
+    Ok(())
 }
 
 /// Puts a copy of a file in the place of another.

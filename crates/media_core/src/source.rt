@@ -113,9 +113,7 @@ impl SourceMem {
         ensures left { left_of self.new ≡ left_of self.old }
         ensures faults { source_faults self.new ≡ source_faults self.old }
     {
-        match self.plan.fail_at(read) {
-            Ok(()) => Ok(()),
-            Err(error) => Err(error),
-        }
+        self.plan.fail_at(read)?;
+        Ok(())
     }
 }

@@ -1,7 +1,7 @@
-use Rattle.std.proofs.Common.{◌≡◌, length, sym, ◌∙◌, ap}
+use Rattle.std.proofs.Common.{rules, ◌≡◌, length, sym, ◌∙◌, ap}
 use Rattle.media_core.specs.Events.{seen_after}
 use Rattle.media_core.proofs.DiskModel.{always_read, told_is_front}
-use Rattle.media_core.proofs.Memory.{sync_leads, sync_keeps, sync_shows, sync_absent}
+use Rattle.media_core.proofs.Memory.{failed_once, sync_leads, sync_keeps, sync_shows, sync_absent}
 use Rattle.media_core.proofs.mem.MemMediaMedia.sync.Goals as goal
 
 pub invariant_of-self-in-Ok-clause-files_kept : goal.invariant_of-self-in-Ok-clause-files_kept
@@ -33,3 +33,6 @@ invariant_of-self-in-Ok-clause-told_last c = (always_read c.keep_sync.new.past.i
 
 pub invariant_of-self-in-Ok-clause-fronts : goal.invariant_of-self-in-Ok-clause-fronts
 invariant_of-self-in-Ok-clause-fronts c = told_is_front c.keep_sync.new.past.items
+
+pub returns-in-Err-clause-cause : goal.returns-in-Err-clause-cause
+returns-in-Err-clause-cause c = failed_once _ c.args.self.now.failures.faults c.begin.new.self.faults c.refuse.new.self.faults c.begin.ensures.later c.refuse.ensures.later (search rules)

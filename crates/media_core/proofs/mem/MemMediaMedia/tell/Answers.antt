@@ -1,7 +1,7 @@
-use Rattle.std.proofs.Common.{◌≡◌, ◌++◌, length, take, sym, ◌∙◌, ap, arith}
+use Rattle.std.proofs.Common.{◌++◌, length, take, sym, ◌∙◌, ap, arith, rules}
 use Rattle.std.proofs.lemmas.List.{take_all}
 use Rattle.media_core.proofs.DiskModel.{always_read, told_is_front}
-use Rattle.media_core.proofs.Memory.{tell_shows, tell_leads, tell_leads_as, tell_absent}
+use Rattle.media_core.proofs.Memory.{failed_once, tell_shows, tell_leads, tell_leads_as, tell_absent}
 use Rattle.media_core.proofs.mem.MemMediaMedia.tell.Goals as goal
 
 pub invariant_of-self-in-Ok-clause-files_kept : goal.invariant_of-self-in-Ok-clause-files_kept
@@ -34,3 +34,6 @@ returns-then-eq-2-clause-crash c = tell_leads c.args.self.now _ c.args.piece.now
 pub returns-else-eq-2-clause-crash : goal.returns-else-eq-2-clause-crash
 returns-else-eq-2-clause-crash c =
     tell_leads_as c.args.self.now _ c.args.piece.now (take (length c.args.piece.now) c.args.piece.now) (take_all (length c.args.piece.now) c.args.piece.now (omega arith)) c.in-Ok.ensures.past
+
+pub returns-in-Err-clause-cause : goal.returns-in-Err-clause-cause
+returns-in-Err-clause-cause c = failed_once _ c.args.self.now.failures.tell_faults c.begin_tell-turn.new.self.tell_faults c.refuse_tell.new.self.tell_faults c.begin_tell-turn.ensures.later c.refuse_tell.ensures.later (search rules)

@@ -1,8 +1,8 @@
-use Rattle.std.proofs.Common.{◌<◌, ◌≤◌, length, sym, ◌∙◌, ap, arith}
+use Rattle.std.proofs.Common.{◌<◌, ◌≤◌, length, sym, ◌∙◌, ap, arith, rules}
 use Rattle.media_core.specs.Events.{file_bytes}
 use Rattle.media_core.specs.Presence.{here_below}
 use Rattle.media_core.proofs.DiskModel.{always_read, told_is_front}
-use Rattle.media_core.proofs.Memory.{write_shows, write_told, write_leads, write_absent}
+use Rattle.media_core.proofs.Memory.{failed_once, write_shows, write_told, write_leads, write_absent}
 use Rattle.media_core.proofs.mem.MemMediaMedia.write.Goals as goal
 
 pub keep_write-requires-clause-here : goal.keep_write-requires-clause-here
@@ -38,3 +38,6 @@ invariant_of-self-in-Ok-clause-told_last c = (always_read c.keep_write.new.past.
 
 pub invariant_of-self-in-Ok-clause-fronts : goal.invariant_of-self-in-Ok-clause-fronts
 invariant_of-self-in-Ok-clause-fronts c = told_is_front c.keep_write.new.past.items
+
+pub returns-in-Err-clause-cause : goal.returns-in-Err-clause-cause
+returns-in-Err-clause-cause c = failed_once _ c.args.self.now.failures.faults c.begin-turn.new.self.faults c.refuse.new.self.faults c.begin-turn.ensures.later c.refuse.ensures.later (search rules)
