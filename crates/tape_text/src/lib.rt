@@ -1,0 +1,10 @@
+//! What stands on the tapes of dumps, in `specs/`: what a record of a tape says, tape texts, the parts that stand on a tape,
+//! dumps that are whole over several tapes, and the record of one. The functions here are laws about these definitions.
+#![tactic(auto)]
+
+mod laws;
+
+pub use laws::{
+    a_fit_item_is_read, a_front_of_a_text_is_one, no_part_begins_another, one_item, one_reading,
+    reads_by_its_record, records_joined,
+};
