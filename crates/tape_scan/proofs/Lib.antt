@@ -1,0 +1,6 @@
+pub mod ListLaws
+pub mod ScanLaws
+pub mod FrontLaws
+pub mod PlaceLaws
+pub mod OpenLaws
+pub mod ClosedLaws

@@ -1,0 +1,48 @@
+-- What a scan of one tape finds: the longest front that is a tape text, and the parts that stand in it.
+use Rattle.std.specs.Prelude.{◌≡◌, ℕ, ◌+◌, ◌<◌, ◌≤◌, Bool, nat_lt, nat_le, List, length, take, filter, Contains}
+use Rattle.tape_text.specs.Items.{Item}
+use Rattle.tape_text.specs.Texts.{Tape, tape_items, IsTape, IsText}
+use Rattle.tape_text.specs.Parts.{FoundPart, parts_of}
+
+-- The front of a tape is as long as a tape text can be: so many items are one, and no more are.
+pub record IsFront (items : List Item) (count : ℕ) : Type 0 where
+  pub within : count ≤ length items
+  pub text : IsText (take count items)
+  pub stops : count < length items → IsText (take (count + 1) items) → ⊥
+
+-- A scan of a tape: its front, as the beginning of some whole tape.
+pub record Scan (items : List Item) : Type 0 where
+  pub count : ℕ
+  pub front : IsFront items count
+
+-- a part all of which stands in so many records, and one whose head does
+abbrev pub is_closed : ℕ → FoundPart → Bool
+is_closed count p = nat_le p.end count
+
+abbrev pub is_begun : ℕ → FoundPart → Bool
+is_begun count p = nat_lt p.first count
+
+-- The parts of which the head stands in the front; of their records those behind the front are not told. And those that stand
+-- in it with their last filemark.
+abbrev pub begun : {items : List Item} → Scan items → List FoundPart
+begun s = filter (is_begun s.count) (parts_of s.front.text.whole)
+
+abbrev pub closed : {items : List Item} → Scan items → List FoundPart
+closed s = filter (is_closed s.count) (parts_of s.front.text.whole)
+
+-- ---- the same without a scan
+
+-- A closed part of a tape: a front of the tape is a whole tape that has it. A scan finds just these.
+pub record IsClosedIn (items : List Item) (p : FoundPart) : Type 0 where
+  pub tape : Tape
+  pub is : IsTape tape
+  pub there : Contains (parts_of tape) p
+  pub front : take p.end items ≡ tape_items tape
+
+-- A begun part of a tape: its head stands in a front that is a tape text.
+pub record IsBegunIn (items : List Item) (p : FoundPart) : Type 0 where
+  pub count : ℕ
+  pub within : count ≤ length items
+  pub text : IsText (take count items)
+  pub there : Contains (parts_of text.whole) p
+  pub begun : p.first < count
