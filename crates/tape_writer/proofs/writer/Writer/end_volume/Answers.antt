@@ -1,0 +1,8 @@
+use Rattle.tape_frames.specs.declared.frame.Frame.TheVariants as frames
+use Rattle.tape_writer.proofs.writer.Writer.end_volume.Goals as goal
+
+pub returns-clause-done : goal.returns-clause-done
+returns-clause-done g c = λ k at. c.put_end.ensures.done k (frames.VolEnd c.args.end.now) at c.encode.ensures.block
+
+pub returns-clause-leaves : goal.returns-clause-leaves
+returns-clause-leaves g c = λ k at. c.put_end.ensures.leaves k (frames.VolEnd c.args.end.now) at c.encode.ensures.block

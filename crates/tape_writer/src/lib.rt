@@ -1,0 +1,10 @@
+//! Filling tapes: the frames of a dump are put on the loaded tape of a plant, each only where what must follow it stays
+//! within the capacity too. `specs/` says which records a dump puts on each of its tapes.
+#![tactic(auto)]
+
+mod fault;
+mod puts;
+mod writer;
+
+pub use fault::WriteFault;
+pub use writer::Writer;
