@@ -1,6 +1,7 @@
 -- What is put on the loaded tape of a plant.
-use Rattle.std.specs.Prelude.{◌≡◌, ℕ, ◌+◌, Option, Some, None, List, [], ◌∷◌, ◌++◌, IsSome}
+use Rattle.std.specs.Prelude.{◌≡◌, ℕ, ◌+◌, ◌==◌, if◌then◌else◌, Option, Some, None, List, [], ◌∷◌, ◌++◌, length, map, IsSome}
 use Rattle.plant_core.specs.declared.plant.Plant.{Ghosts as Plant}
+use Rattle.plant_core.specs.Crashes.{State}
 use Rattle.plant_core.specs.Effects.{Effect, puts, settles}
 use Rattle.plant_core.specs.Records.{NoBad}
 use Rattle.plant_effects.specs.Runs.{loaded_of, OnLoaded}
@@ -35,3 +36,17 @@ puts_on k (i ∷ is) = put_on k i ++ puts_on k is
 abbrev pub begun : Option LabelFields → DumpHeadFields → List Item
 begun None head = Says (frames.DumpHead head) ∷ []
 begun (Some label) head = Says (frames.Label label) ∷ Filemark ∷ Says (frames.DumpHead head) ∷ []
+
+-- how many records of a tape are settled when items are put behind so many of them: a filemark settles all up to itself
+abbrev pub settled_by : ℕ → ℕ → List Item → ℕ
+settled_by count settled [] = settled
+settled_by count settled (Says f ∷ is) = settled_by (count + 1) settled is
+settled_by count settled (Filemark ∷ is) = settled_by (count + 1) (count + 1) is
+settled_by count settled (Nothing ∷ is) = settled_by (count + 1) settled is
+
+-- a state with items put on the tape of a slot, and nothing else changed
+abbrev pub with_items : ℕ → List Item → State → State
+with_items k items s = record s {
+  tape = λ j. if j == k then s.tape j ++ map record_for items else s.tape j;
+  settled = λ j. if j == k then settled_by (length (s.tape j)) (s.settled j) items else s.settled j;
+}

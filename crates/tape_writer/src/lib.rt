@@ -3,8 +3,13 @@
 #![tactic(auto)]
 
 mod fault;
+mod laws;
 mod puts;
 mod writer;
 
 pub use fault::WriteFault;
+pub use laws::{puts_joined, smallest_part, what_is_put_is_read, what_is_put_stands};
 pub use writer::Writer;
+
+#[cfg(test)]
+mod tests;

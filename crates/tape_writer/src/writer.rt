@@ -52,8 +52,9 @@ impl Writer {
         }
     }
 
-    /// Whether so many blocks and filemarks more stay within the capacity.
-    fn has_room(&self, blocks: u64, marks: u64) -> bool
+    /// Whether so many blocks and filemarks more stay within the capacity: 6 and 3 on a tape that is taken, and 5 and 2 where a part
+    /// is appended.
+    pub fn has_room(&self, blocks: u64, marks: u64) -> bool
         requires blocks { blocks ≤ 6 }
         requires marks { marks ≤ 3 }
         ensures { IsTrue result ↔ HasRoom blocks marks self.now }

@@ -1,0 +1,33 @@
+//! Laws on what is put, each the contract of a function without a body.
+
+ghost use Rattle.std.specs.Prelude.{◌≡◌, ◌↔◌, ◌+◌, ◌*◌, ◌≤◌, ℕ, List as AnyList, [], ◌∷◌, ◌++◌, All};
+ghost use Rattle.plant_core.specs.Crashes.{State, Alike};
+ghost use Rattle.plant_core.specs.Effects.{come};
+ghost use Rattle.tape_config.specs.declared.port.PortFields.{PortFields as AnyPort};
+ghost use Rattle.tape_frames.specs.declared.data.DataFields.{DataFields as AnyData};
+ghost use Rattle.tape_frames.specs.declared.label.LabelFields.{LabelFields as AnyLabel};
+ghost use Rattle.tape_text.specs.Items.{Item, Read, IsFitItem};
+ghost use Rattle.tape_text.specs.Texts.{Fragment, Part};
+ghost use Rattle.tape_writer.specs.Puts.{puts_on, with_items};
+ghost use Rattle.tape_writer.specs.Filling.{taken, Stays};
+
+/// Items put one behind another are put as one list.
+pub fn puts_joined()
+    ensures { (k : ℕ) (items more : AnyList Item) → puts_on k (items ++ more) ≡ puts_on k items ++ puts_on k more }
+{}
+
+/// What is put stands behind what stood on the tape, settled up to its last filemark. Nothing else changes.
+pub fn what_is_put_stands()
+    ensures { (k : ℕ) (items : AnyList Item) (s : State) → Alike (with_items k items s) (come (puts_on k items) s) }
+{}
+
+/// What is put is read behind what was read of the tape.
+pub fn what_is_put_is_read()
+    ensures { (k : ℕ) (items before : AnyList Item) (s : State) → All IsFitItem items → Read (s.tape k) before → Read ((come (puts_on k items) s).tape k) (before ++ items) }
+{}
+
+/// The smallest part, of one fragment with one piece, stays on a tape that is taken where its capacity has room for 6 blocks and
+/// 3 filemarks.
+pub fn smallest_part()
+    ensures { (port : AnyPort) (label : AnyLabel) (old : AnyList Item) (p : Part) (f : Fragment) (d : AnyData) → p.fragments ≡ f ∷ [] → f.pieces ≡ d ∷ [] → Stays port (taken label old) p ↔ (6 * 16384 + 3 * port.filemark ≤ port.capacity) }
+{}
