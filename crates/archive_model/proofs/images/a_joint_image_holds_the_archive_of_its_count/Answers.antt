@@ -1,0 +1,5 @@
+use Rattle.archive_model.proofs.StillLaws.{joint_holds}
+use Rattle.archive_model.proofs.images.a_joint_image_holds_the_archive_of_its_count.Goals as goal
+
+pub returns : goal.returns
+returns c = joint_holds

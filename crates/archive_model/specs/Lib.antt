@@ -1,0 +1,6 @@
+pub mod Holding
+pub mod Plays
+pub mod Archives
+pub mod Clones
+pub mod Turns
+pub mod Settled

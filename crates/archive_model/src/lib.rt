@@ -1,0 +1,38 @@
+//! What tapes and the Backup Database say together: which slots hold a dump, what playing it gives, the archive that a plant holds,
+//! and what each effect and each crash makes of it. It has no call of the product: definitions in `specs/`, and their laws as
+//! contracts of functions.
+#![tactic(auto)]
+
+mod holding;
+mod images;
+mod plays;
+mod steps;
+mod turns;
+
+pub use holding::{
+    a_cut_behind_keeps_what_lies, a_found_dump_is_here, a_log_with_the_same_dumps_holds,
+    a_put_keeps_what_lies, a_record_calls_for_its_fragments, a_taken_tape_holds_nothing_listed,
+    a_whole_dump_lies_on_its_tapes, blank_tapes_hold_no_dump, dumps_of_a_tape_end_in_order,
+    holds_is_said_of_listed_dumps, other_dumps_stay_listed, own_heads_are_held_once,
+    what_lies_is_played, without_its_head_nothing_is_held,
+};
+pub use images::{
+    a_joint_image_holds_the_archive_of_its_count, a_torn_tape_reads, an_image_holds_the_archive,
+    held_archives_join, what_is_settled_holds, what_is_settled_lies_in_each_image,
+};
+pub use plays::{
+    a_chain_plays_to_its_clone, a_dump_gives_its_clone_next, a_from_time_is_fair,
+    a_look_up_has_one_outcome, a_play_has_one_outcome, what_a_dump_gives_next_is_its_contents,
+    what_is_held_is_the_clone, what_was_written_is_given, what_was_written_plays_to_its_clone,
+};
+pub use steps::{
+    a_filemark_closes_its_part_alone, a_label_is_held, a_put_begins_its_head_alone,
+    a_put_keeps_own_heads, settled_parts_are_a_settled_dump, the_end_of_a_dump_is_held,
+    the_end_of_a_volume_is_held,
+};
+pub use turns::{
+    a_commit_that_touches_no_dump_keeps_all, a_cut_keeps_what_is_listed,
+    a_put_in_mid_dump_keeps_all, a_replaced_log_keeps_all, a_take_keeps_what_is_whole,
+    a_whole_dump_is_listed, settling_keeps_all, several_forgets_keep_what_is_whole,
+    the_end_of_a_dump_adds_it, the_end_of_a_part_keeps_all, told_text_keeps_all,
+};

@@ -1,0 +1,88 @@
+//! Laws of the steps of a dump, put together from those of effects. Each is the contract of a function without a body.
+
+ghost use Rattle.std.specs.Prelude.{◌≡◌, ◌⊎◌, ◌<◌, ◌≤◌, ℕ, ◌+◌, true, false, Some, Result, List, ◌∷◌, [], ◌++◌, length, slice_get, Contains};
+ghost use Rattle.vnode_model.specs.declared.volumes.VolumeFields.{VolumeFields};
+ghost use Rattle.budb_changes.specs.declared.records.DumpRecordFields.{DumpRecordFields};
+ghost use Rattle.budb_changes.specs.declared.records.VolRecordFields.{VolRecordFields};
+ghost use Rattle.budb_changes.specs.declared.change.Change.TheVariants.{Done};
+ghost use Rattle.budb_changes.specs.Bytes.{encoded};
+ghost use Rattle.budb_changes.specs.Forms.{AreChanges};
+ghost use Rattle.budb_fold.specs.Database.{has_dump, fits_record};
+ghost use Rattle.budb_fold.specs.Lookups.{volume_of};
+ghost use Rattle.plant_core.specs.Crashes.{State};
+ghost use Rattle.plant_core.specs.Effects.{commits, puts, settles};
+ghost use Rattle.tape_frames.specs.declared.dump_head.DumpHeadFields.{DumpHeadFields};
+ghost use Rattle.tape_frames.specs.declared.label.LabelFields.{LabelFields};
+ghost use Rattle.tape_frames.specs.declared.vol_end.VolEndFields.{VolEndFields};
+ghost use Rattle.tape_text.specs.Items.{Item, Says, Filemark, record_for, IsFitItem};
+ghost use Rattle.tape_text.specs.Parts.{FoundPart};
+ghost use Rattle.tape_scan.specs.Scans.{IsClosedIn};
+ghost use Rattle.tape_scan.specs.Slots.{Slot, Located, IsClosedAt, IsBegunAt, IsFound};
+ghost use Rattle.archive_model.specs.Holding.{HasNoHead};
+ghost use Rattle.archive_model.specs.Archives.{Archive, Refusal, listed_of, AreHeldOnce, IsKept};
+ghost use Rattle.archive_model.specs.Settled.{HoldsSettled, IsSettledOn, AreHeld};
+ghost use Rattle.archive_model.specs.Turns.{with_items, with_log, with_slot, with_contents, HasOwnHeads, IsFreshHead, GivesNext};
+ghost use Rattle.tape_frames.specs.declared.frame.Frame.TheVariants as frames;
+
+/// A put begins no part but the one whose head it is.
+pub fn a_put_begins_its_head_alone()
+    ensures { (listed records : List DumpRecordFields) (slots : List Slot) (contents : ℕ → List ℕ → Result VolumeFields Refusal) → IsKept listed slots contents records
+        → (k : ℕ) (s : Slot) → slice_get slots k ≡ Some s → (i : Item) → ((d : DumpRecordFields) → Contains records d → HasNoHead d.id (i ∷ [])) → IsFreshHead slots i
+        → (l : Located) → IsBegunAt (with_items k (s.items ++ i ∷ []) slots) l
+        → IsBegunAt slots l ⊎ ((l.slot ≡ k) × (l.found.first ≡ length s.items) × (i ≡ Says (frames.DumpHead l.found.part.head))) }
+{}
+
+/// A filemark closes no part but the one that it ends.
+pub fn a_filemark_closes_its_part_alone()
+    ensures { (listed records : List DumpRecordFields) (slots : List Slot) (contents : ℕ → List ℕ → Result VolumeFields Refusal) → IsKept listed slots contents records
+        → (k : ℕ) (s : Slot) → slice_get slots k ≡ Some s → (q : FoundPart) → IsClosedIn (s.items ++ Filemark ∷ []) q → q.end ≡ length s.items + 1
+        → (l : Located) → IsClosedAt (with_items k (s.items ++ Filemark ∷ []) slots) l → IsClosedAt slots l ⊎ (l.found ≡ q) }
+{}
+
+/// A put that is no head of an id keeps the heads that there are of it, and one that is adds its own.
+pub fn a_put_keeps_own_heads()
+    ensures { (slots : List Slot) (parts more : List Located) (id k : ℕ) (s : Slot) (i : Item) → slice_get slots k ≡ Some s → HasOwnHeads slots parts id
+        → ((l : Located) → Contains parts l → Contains more l)
+        → ((h : DumpHeadFields) → i ≡ Says (frames.DumpHead h) → h.id ≡ id → (l : Located) × Contains more l × (l.slot ≡ k) × (l.found.first ≡ length s.items))
+        → HasOwnHeads (with_items k (s.items ++ i ∷ []) slots) more id }
+{}
+
+/// A found dump each of whose parts is settled, and no tape of which is held twice, is settled wherever it is held.
+pub fn settled_parts_are_a_settled_dump()
+    ensures { (s : State) (slots : List Slot) (parts : List Located) (d : DumpRecordFields) → IsFound slots parts d → AreHeldOnce (d ∷ []) slots
+        → ((l : Located) → Contains parts l → l.found.end ≤ s.settled l.slot) → IsSettledOn s slots d }
+{}
+
+/// A label, its filemark and the settling.
+pub fn a_label_is_held()
+    ensures { (s : State) (a : Archive) (records : List DumpRecordFields) → HoldsSettled s a records → (k : ℕ) (t : Slot) → slice_get a.slots k ≡ Some t → (l : LabelFields) → IsFitItem (Says (frames.Label l))
+        → let labelled = with_slot a k (t.items ++ Says (frames.Label l) ∷ Filemark ∷ []) in
+        AreHeld s (puts k (record_for (Says (frames.Label l))) ∷ puts k (record_for Filemark) ∷ settles k ∷ [])
+        (record { archive = a; records = records } ∷ record { archive = with_slot a k (t.items ++ Says (frames.Label l) ∷ []); records = records }
+        ∷ record { archive = labelled; records = records } ∷ record { archive = labelled; records = records } ∷ []) }
+{}
+
+/// The step of a volume's end: its frame, its filemark and the settling.
+pub fn the_end_of_a_volume_is_held()
+    ensures { (s : State) (a : Archive) (records : List DumpRecordFields) → HoldsSettled s a records → (k : ℕ) (t : Slot) → slice_get a.slots k ≡ Some t → (e : VolEndFields) → IsFitItem (Says (frames.VolEnd e))
+        → let ended = with_slot a k (t.items ++ Says (frames.VolEnd e) ∷ Filemark ∷ []) in
+        AreHeld s (puts k (record_for (Says (frames.VolEnd e))) ∷ puts k (record_for Filemark) ∷ settles k ∷ [])
+        (record { archive = a; records = records } ∷ record { archive = with_slot a k (t.items ++ Says (frames.VolEnd e) ∷ []); records = records }
+        ∷ record { archive = ended; records = records } ∷ record { archive = ended; records = records } ∷ []) }
+{}
+
+/// The step of a dump's end, behind its last frame: the filemark, the settling and the commit of its record.
+pub fn the_end_of_a_dump_is_held()
+    ensures { (s : State) (a : Archive) (records : List DumpRecordFields) → HoldsSettled s a records → (k : ℕ) (t : Slot) → slice_get a.slots k ≡ Some t
+        → (q : FoundPart) (d : DumpRecordFields) (parts : List Located) (contents : ℕ → List ℕ → Result VolumeFields Refusal)
+        → IsClosedIn (t.items ++ Filemark ∷ []) q → q.end ≡ length t.items + 1 → IsFound (with_items k (t.items ++ Filemark ∷ []) a.slots) parts d → q.part.head.id ≡ d.id
+        → ((e : DumpRecordFields) → Contains records e → e.id < d.id) → HasOwnHeads (with_items k (t.items ++ Filemark ∷ []) a.slots) parts d.id
+        → ((l : Located) → Contains parts l → (l.slot ≡ k → ⊥) → l.found.end ≤ s.settled l.slot)
+        → fits_record d (listed_of a) ≡ true → has_dump (listed_of a) d.id ≡ false → d.parent < d.id → AreChanges (Done d ∷ [])
+        → ((id : ℕ) (name : List ℕ) → (id ≡ d.id → ⊥) → contents id name ≡ a.contents id name)
+        → ((name : List ℕ) (v : VolRecordFields) → volume_of d name ≡ Some v → GivesNext (with_items k (t.items ++ Filemark ∷ []) a.slots) contents d name v)
+        → let ended = with_contents (with_slot a k (t.items ++ Filemark ∷ [])) contents in
+        AreHeld s (puts k (record_for Filemark) ∷ settles k ∷ commits (encoded (Done d ∷ [])) ∷ [])
+        (record { archive = a; records = records } ∷ record { archive = ended; records = records ++ d ∷ [] } ∷ record { archive = ended; records = records ++ d ∷ [] }
+        ∷ record { archive = with_log ended (a.log ++ Done d ∷ []); records = records ++ d ∷ [] } ∷ []) }
+{}
