@@ -88,11 +88,3 @@ module _ (s : State) (c : Stock) (a : Archive) (records : List DumpRecordFields)
     others = λ k none. torn_nothing (s.settled k) (s.tape k) (c.tape k) (held.seen.others k (none_before a.slots made.0 k made.2 none)) (left.tapes k);
     kept = remaining_kept (listed_of a) (listed_of a) records a.slots made.0 a.contents held.seen.kept (λ d there. there) left_by (parents_below a.log);
   }
-
--- What a crash leaves of a state that holds an archive settled holds it, with the tapes that are left: its dumps are the listed ones,
--- and those that were found whole and still are.
-pub image_holds : (s : State) (c : Stock) (a : Archive) (records : List DumpRecordFields) → HoldsSettled s a records → LeftIn s c
-    → (slots : List Slot) × (map is_here slots ≡ map is_here a.slots) × AreLeft (listed_of a) a.slots slots × Holds c (record a { slots = slots }) (remaining (listed_of a) slots records)
-image_holds s c a records held left =
-    let made = torn_slots a.slots s.tape c.tape s.settled held.seen.tapes left.tapes in
-    (made.0, made.2, left_by s c a records held left made, image_by s c a records held left made)

@@ -18,7 +18,6 @@ pub mod LogLaws
 pub mod LookLaws
 pub mod ManyTapeLaws
 pub mod OnceLaws
-pub mod OneTapeLaws
 pub mod OwnLaws
 pub mod PutLaws
 pub mod QuietLaws

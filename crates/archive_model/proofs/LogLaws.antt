@@ -1,5 +1,5 @@
 -- What changes of a log make of the listed dumps, and what a log with the same dumps keeps.
-use Rattle.std.proofs.Common.{◌≡◌, ℕ, Bool, true, false, Some, None, Ok, Err, List, [], ◌∷◌, ◌++◌, refl, sym, ap, subst, ◌∙◌}
+use Rattle.std.proofs.Common.{◌≡◌, ℕ, Bool, true, false, Some, None, Ok, Err, List, [], ◌∷◌, ◌++◌, refl, sym, subst, ◌∙◌}
 use Rattle.std.specs.Prelude.{Result, max, if◌then◌else◌}
 use Rattle.std.specs.Option.{unwrap_or}
 use Rattle.volume_sets.specs.Testing.{is_pattern}
@@ -16,7 +16,7 @@ use Rattle.budb_fold.specs.declared.database.Database.{Database}
 use Rattle.budb_changes.specs.Bytes.{encoded}
 use Rattle.budb_changes.specs.Forms.{AreChanges}
 use Rattle.budb_fold.specs.declared.database.HostPort.{HostPort}
-use Rattle.budb_fold.specs.Database.{is_dump, is_initial, has_port, without, fits_record, entry_of, with_sets, with_levels, after_change, after_from, after, blank}
+use Rattle.budb_fold.specs.Database.{is_dump, is_initial, has_port, without, fits_record, entry_of, with_sets, with_levels, after_change, after_from, after}
 use Rattle.plant_core.specs.Stock.{Stock}
 use Rattle.tape_text.specs.Items.{Read}
 use Rattle.archive_model.specs.Archives.{Archive, listed_of, IsKept, Holds}
@@ -97,8 +97,3 @@ same_dumps_hold stock new a log records held form bytes tapes same = record {
 pub untouched_all : (cs : List Change) (db : Database) → AllUntouched cs → (after_from cs db).listed ≡ db.listed
 untouched_all [] db none = refl
 untouched_all (c ∷ cs) db none = untouched_all cs (after_change c db) none.1 ∙ untouched c db none.0
-
--- A commit of changes that touch no dump keeps all.
-pub untouched_holds : (stock new : Stock) (a : Archive) (cs : List Change) (records : List DumpRecordFields) → Holds stock a records → AreChanges (a.log ++ cs) → AllUntouched cs → new.log ≡ Some (encoded (a.log ++ cs)) → ((k : ℕ) → new.tape k ≡ stock.tape k) → Holds new (record a { log = a.log ++ cs }) records
-untouched_holds stock new a cs records held form none bytes tapes =
-    same_dumps_hold stock new a (a.log ++ cs) records held form bytes tapes (ap (λ (db : Database). db.listed) (fold_more a.log cs blank) ∙ untouched_all cs (after a.log) none)

@@ -8,11 +8,11 @@ use Rattle.vnode_model.specs.declared.volumes.VolumeFields.{VolumeFields}
 use Rattle.budb_changes.specs.declared.records.TapePart.{TapePart}
 use Rattle.budb_changes.specs.declared.records.DumpRecordFields.{DumpRecordFields}
 use Rattle.budb_changes.specs.declared.change.Change.{Change}
-use Rattle.budb_changes.specs.declared.change.Change.TheVariants.{Take, Done, Forget, Found}
+use Rattle.budb_changes.specs.declared.change.Change.TheVariants.{Take, Done, Found}
 use Rattle.budb_fold.specs.declared.database.Database.{Database}
 use Rattle.budb_changes.specs.Bytes.{encoded, encoded_change}
 use Rattle.budb_changes.specs.Forms.{IsChange, AreChanges}
-use Rattle.budb_fold.specs.Database.{is_dump, is_initial, without, fits_record, after, after_change, after_from, blank}
+use Rattle.budb_fold.specs.Database.{is_initial, without, fits_record, after, after_change, after_from, blank}
 use Rattle.plant_core.specs.Crashes.{State}
 use Rattle.plant_core.specs.Records.{Record}
 use Rattle.tape_text.specs.Items.{Item, Read, record_for, IsFitItem}
@@ -27,7 +27,7 @@ use Rattle.archive_model.proofs.KeepLaws.{held_before, held_uncut}
 use Rattle.tape_scan.proofs.ListLaws.{All_join, of_filter}
 use Rattle.archive_model.proofs.ManyTapeLaws.{differs}
 use Rattle.archive_model.proofs.TornLaws.{put_reads, read_take}
-use Rattle.archive_model.proofs.LogLaws.{fold_more, untouched_all, taken, forgotten, done, found}
+use Rattle.archive_model.proofs.LogLaws.{fold_more, untouched_all, taken, done, found}
 use Rattle.archive_model.proofs.ListedLaws.{parents_below}
 use Rattle.archive_model.proofs.PutLaws.{with_get}
 use Rattle.archive_model.proofs.WordLaws.{forgetting_keeps, listing_keeps, cutting_keeps}
@@ -111,9 +111,6 @@ pub take_commit : (s : State) (a : Archive) (records : List DumpRecordFields) (c
 take_commit s a records cs initial held form none =
     forgetting_commit s a records (cs ++ Take initial ∷ []) (is_initial initial) held form
     (ap (λ (db : Database). db.listed) (fold_more cs (Take initial ∷ []) (after a.log)) ∙ taken initial (after_from cs (after a.log)) ∙ ap (without (is_initial initial)) (untouched_all cs (after a.log) none))
-
-pub forget_commit : (s : State) (a : Archive) (records : List DumpRecordFields) (id : ℕ) → HoldsSettled s a records → AreChanges (Forget id ∷ []) → HoldsSettled (comes (commits (encoded (Forget id ∷ []))) s) (record a { log = a.log ++ Forget id ∷ [] }) (remaining (without (is_dump id) (listed_of a)) a.slots records)
-forget_commit s a records id held form = forgetting_commit s a records (Forget id ∷ []) (is_dump id) held form (forgotten id (after a.log))
 
 -- a dump that is found whole and lies settled is listed
 pub listing_commit : (s : State) (a : Archive) (records : List DumpRecordFields) (c : Change) (d : DumpRecordFields) → HoldsSettled s a records → AreChanges (c ∷ []) → (c ≡ Done d) ⊎ (c ≡ Found d) → fits_record d (listed_of a) ≡ true → IsUnlisted (listed_of a) a.slots d → IsSettledOn s a.slots d

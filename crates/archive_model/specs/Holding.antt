@@ -13,7 +13,7 @@ use Rattle.budb_changes.specs.declared.records.DumpRecordFields.{DumpRecordField
 use Rattle.tape_text.specs.Items.{Item, Says, Filemark, Nothing}
 use Rattle.tape_text.specs.Texts.{Tape, tape_items, IsTape}
 use Rattle.tape_text.specs.Parts.{FoundPart, parts_of}
-use Rattle.tape_text.specs.Wholes.{Lying, lying_in, tape_part, record_with}
+use Rattle.tape_text.specs.Wholes.{Lying, lying_in, tape_part}
 use Rattle.tape_scan.specs.Slots.{Slot}
 
 -- ---- slots
@@ -162,7 +162,3 @@ HasNoHead id (Says (frames.VolEnd a) ∷ items) = HasNoHead id items
 HasNoHead id (Says (frames.DumpEnd a) ∷ items) = HasNoHead id items
 HasNoHead id (Filemark ∷ items) = HasNoHead id items
 HasNoHead id (Nothing ∷ items) = HasNoHead id items
-
--- the record of a dump that is one part
-abbrev pub record_of_one : FoundPart → DumpRecordFields
-record_of_one q = record_with q.part.head (q ∷ [])
