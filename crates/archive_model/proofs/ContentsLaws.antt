@@ -11,15 +11,15 @@ use Rattle.vnode_model.specs.declared.applying.ApplyFault.TheVariants as faults
 use Rattle.vnode_model.specs.Increments.{applied}
 use Rattle.budb_changes.specs.declared.records.VolRecordFields.{VolRecordFields}
 use Rattle.budb_changes.specs.declared.records.DumpRecordFields.{DumpRecordFields}
-use Rattle.budb_fold.specs.Lookups.{VolumeDump, record_of, volume_of}
-use Rattle.budb_fold.specs.Chains.{with_volume, volume_in, dump_of, IsChain, followed_by, Unfolds}
+use Rattle.budb_fold.specs.Lookups.{record_of, volume_of}
+use Rattle.budb_fold.specs.Chains.{with_volume, volume_in, IsChain, followed_by}
 use Rattle.budb_fold.proofs.ChainLaws.{unfolds}
 use Rattle.tape_scan.specs.Slots.{Slot}
 use Rattle.archive_model.specs.Holding.{called_for}
 use Rattle.archive_model.specs.Plays.{Spot, HasStream, PlayFault, after_applied, after_given, IsMade, records_of, PlaysOver, Plays}
 use Rattle.archive_model.specs.Archives.{Refusal, Need, needs, needs_of, is_unheld, all_here, refused_by, Fault}
 use Rattle.archive_model.specs.Turns.{ContentsGrow, GivesNext}
-use Rattle.archive_model.proofs.RecordLaws.{AreIdsOnce, record_is_there, record_by_id, its_record}
+use Rattle.archive_model.proofs.RecordLaws.{AreIdsOnce, record_by_id, chain_has_record}
 use Rattle.archive_model.proofs.SlotLaws.{none_passes, passes_none}
 
 -- ---- a dump more is played
@@ -113,17 +113,10 @@ module _ (records : List DumpRecordFields) (slots : List Slot) (contents : ℕ �
       passes_none (is_unheld slots) (needs records js name) (λ n needed.
       none_passes (is_unheld slots) (needs records (js ++ d.id ∷ []) name) n held (subst (λ (l : List Need). Contains l n) (sym split) (Contains-append_left (needs records js name) (flat_map (needs_of name) (d ∷ [])) n needed)))
 
-  parent_there : (id : ℕ) (name js : List ℕ) → IsChain records id name (Ok js) → (p : DumpRecordFields) × Contains records p × (p.id ≡ id)
-  parent_there id name js chain = by_dump (dump_of records name id) refl (unfolds records id name (Ok js) (dump_of records name id) refl chain)
-    where
-      by_dump : (o : Option VolumeDump) → dump_of records name id ≡ o → Unfolds records id name (Ok js) o → (p : DumpRecordFields) × Contains records p × (p.id ≡ id)
-      by_dump None is so = absurd (cc)
-      by_dump (Some e) is so = (let has = record_is_there records id e.dump (its_record (record_of records id) name e is) in (e.dump, has.0, has.1))
-
   behind_plays : (name ids js : List ℕ) (v : VolRecordFields) → IsChain records d.parent name (Ok js) → ids ≡ js ++ d.id ∷ [] → GivesNext slots contents d name v → (v.from ≡ 0 → ⊥) → find (is_unheld slots) (needs records ids name) ≡ None → IsOutcome name ids
   unfolding IsOutcome
   behind_plays name ids js v chain same g later held =
-      let parent = parent_there d.parent name js chain in
+      let parent = chain_has_record records d.parent name js chain in
       let held_js : find (is_unheld slots) (needs records js name) ≡ None = held_front name js (subst (λ (l : List ℕ). find (is_unheld slots) (needs records l name) ≡ None) same held) in
       let old = parents parent.0 name js parent.1 parent.2 (subst (λ (n : ℕ). IsChain records n name (Ok js)) (sym parent.2) chain) held_js in
       subst (IsOutcome name) (sym same) (followed name js v g later old.0 old.1 (ap (λ (n : ℕ). contents n name) (sym parent.2) ∙ old.2))

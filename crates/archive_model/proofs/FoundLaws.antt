@@ -71,7 +71,7 @@ own_place (q ∷ qs) r linked (suc k, within, is) =
 
 -- ---- found dumps
 
-map_twice : (ls : List Located) → map (λ l. l.found.part) ls ≡ map part_in (map (λ l. l.found) ls)
+pub map_twice : (ls : List Located) → map (λ l. l.found.part) ls ≡ map part_in (map (λ l. l.found) ls)
 map_twice [] = refl
 map_twice (l ∷ ls) = ap (λ (t : List Part). l.found.part ∷ t) (map_twice ls)
 

@@ -1,3 +1,4 @@
+pub mod AgainLaws
 pub mod ChainLaws
 pub mod ContentsLaws
 pub mod CutLaws
@@ -19,6 +20,7 @@ pub mod LookLaws
 pub mod ManyTapeLaws
 pub mod OnceLaws
 pub mod OwnLaws
+pub mod PlayedLaws
 pub mod PutLaws
 pub mod QuietLaws
 pub mod RecordLaws

@@ -12,8 +12,8 @@ use Rattle.vnode_model.specs.Increments.{applied}
 use Rattle.budb_changes.specs.declared.records.VolRecordFields.{VolRecordFields}
 use Rattle.budb_changes.specs.declared.records.DumpRecordFields.{DumpRecordFields}
 use Rattle.budb_fold.specs.Lookups.{VolumeDump, record_of, volume_of}
-use Rattle.budb_fold.specs.Chains.{with_volume, volume_in, dump_of, IsChain}
-use Rattle.budb_fold.proofs.ChainLaws.{chain_dumped, same_chain}
+use Rattle.budb_fold.specs.Chains.{with_volume, volume_in, dump_of, IsChain, Unfolds}
+use Rattle.budb_fold.proofs.ChainLaws.{unfolds, chain_dumped, same_chain}
 use Rattle.tape_text.specs.Wholes.{Lying}
 use Rattle.tape_text.specs.Texts.{Fragment}
 use Rattle.tape_scan.specs.Slots.{Slot}
@@ -58,6 +58,14 @@ with_its_dump e (Some v) d is = (let same : record { dump = e; volume = v } ≡ 
 pub its_record : (o : Option DumpRecordFields) (name : List ℕ) (d : VolumeDump) → volume_in o name ≡ Some d → o ≡ Some d.dump
 its_record None name d is = absurd (cc)
 its_record (Some e) name d is = ap (λ (x : DumpRecordFields). Some x) (with_its_dump e (volume_of e name) d is)
+
+-- a dump that has a chain is among the records
+pub chain_has_record : (records : List DumpRecordFields) (id : ℕ) (name js : List ℕ) → IsChain records id name (Ok js) → (p : DumpRecordFields) × Contains records p × (p.id ≡ id)
+chain_has_record records id name js chain = by_dump (dump_of records name id) refl (unfolds records id name (Ok js) (dump_of records name id) refl chain)
+  where
+    by_dump : (o : Option VolumeDump) → dump_of records name id ≡ o → Unfolds records id name (Ok js) o → (p : DumpRecordFields) × Contains records p × (p.id ≡ id)
+    by_dump None is so = absurd (cc)
+    by_dump (Some e) is so = (let has = record_is_there records id e.dump (its_record (record_of records id) name e is) in (e.dump, has.0, has.1))
 
 module _ (few all : List DumpRecordFields) (once : AreIdsOnce all) (sub : (e : DumpRecordFields) → Contains few e → Contains all e) where
   -- a chain over fewer records is the same over all

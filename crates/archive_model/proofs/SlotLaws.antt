@@ -128,7 +128,7 @@ stands_here slots d c f k s at held only stands =
 
 -- ---- what is held of what is needed
 
-some_if : {X : Type 0} (o : Option X) → is_none o ≡ false → (x : X) × (o ≡ Some x)
+pub some_if : {X : Type 0} (o : Option X) → is_none o ≡ false → (x : X) × (o ≡ Some x)
 some_if None is = absurd (cc)
 some_if (Some x) is = (x, refl)
 

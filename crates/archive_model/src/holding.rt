@@ -14,6 +14,7 @@ ghost use Rattle.tape_text.specs.Items.{Item};
 ghost use Rattle.tape_text.specs.Texts.{Fragment, Tape, tape_items, IsTape};
 ghost use Rattle.tape_text.specs.Parts.{FoundPart, parts_of};
 ghost use Rattle.tape_text.specs.Wholes.{Lying, lying_in, tape_part, IsWhole, record_with};
+ghost use Rattle.tape_scan.specs.Scanned.{Scanned};
 ghost use Rattle.tape_scan.specs.Slots.{Slot, Located, IsFound, AreHeadsOnce};
 ghost use Rattle.archive_model.specs.Holding.{place_of, called_by, holds, LiesOn, Lies, HasInitial, HasNoHead};
 ghost use Rattle.archive_model.specs.Plays.{StandsAt};
@@ -99,4 +100,17 @@ pub fn a_log_with_the_same_dumps_holds()
     ensures { (stock new : Stock) (a : Archive) (log : List Change) (records : List DumpRecordFields)
         → Holds stock a records → AreChanges log → new.log ≡ Some (encoded log) → ((k : ℕ) → new.tape k ≡ stock.tape k) → (after log).listed ≡ listed_of a
         → Holds new (with_log a log) records }
+{}
+
+/// A scan of some slots over a database that knows nothing finds each listed dump whose tapes these slots hold, by its own
+/// record; and what it finds under a listed id is the listed dump.
+pub fn recorded_dumps_are_scanned_again()
+    ensures found { (stock : Stock) (a : Archive) (records : List DumpRecordFields) → Holds stock a records
+        → (few : List Slot) (place : ℕ → ℕ) → ((k : ℕ) (s : Slot) → slice_get few k ≡ Some s → slice_get a.slots (place k) ≡ Some s)
+        → (whole : List DumpRecordFields) (left : List Located) → Scanned few whole left
+        → (d : DumpRecordFields) → Contains (listed_of a) d → IsHeld d few → Contains whole d }
+    ensures equal { (stock : Stock) (a : Archive) (records : List DumpRecordFields) → Holds stock a records
+        → (few : List Slot) (place : ℕ → ℕ) → ((k : ℕ) (s : Slot) → slice_get few k ≡ Some s → slice_get a.slots (place k) ≡ Some s)
+        → (whole : List DumpRecordFields) (left : List Located) → Scanned few whole left
+        → (d e : DumpRecordFields) → Contains (listed_of a) d → Contains whole e → e.id ≡ d.id → e ≡ d }
 {}

@@ -14,7 +14,7 @@ pub use holding::{
     a_put_keeps_what_lies, a_record_calls_for_its_fragments, a_taken_tape_holds_nothing_listed,
     a_whole_dump_lies_on_its_tapes, blank_tapes_hold_no_dump, dumps_of_a_tape_end_in_order,
     holds_is_said_of_listed_dumps, other_dumps_stay_listed, own_heads_are_held_once,
-    what_lies_is_played, without_its_head_nothing_is_held,
+    recorded_dumps_are_scanned_again, what_lies_is_played, without_its_head_nothing_is_held,
 };
 pub use images::{
     a_joint_image_holds_the_archive_of_its_count, a_torn_tape_reads, an_image_holds_the_archive,
@@ -23,7 +23,8 @@ pub use images::{
 pub use plays::{
     a_chain_plays_to_its_clone, a_dump_gives_its_clone_next, a_from_time_is_fair,
     a_look_up_has_one_outcome, a_play_has_one_outcome, what_a_dump_gives_next_is_its_contents,
-    what_is_held_is_the_clone, what_was_written_is_given, what_was_written_plays_to_its_clone,
+    what_is_held_is_the_clone, what_is_played_is_looked_up, what_was_written_is_given,
+    what_was_written_plays_to_its_clone,
 };
 pub use steps::{
     a_filemark_closes_its_part_alone, a_label_is_held, a_put_begins_its_head_alone,

@@ -8,7 +8,7 @@ ghost use Rattle.vnode_model.specs.Increments.{Follows, selected};
 ghost use Rattle.dump_stream.specs.Stream.{Spells};
 ghost use Rattle.budb_changes.specs.declared.records.DumpRecordFields.{DumpRecordFields};
 ghost use Rattle.budb_changes.specs.declared.records.VolRecordFields.{VolRecordFields};
-ghost use Rattle.budb_fold.specs.Lookups.{volume_of, from_volume};
+ghost use Rattle.budb_fold.specs.Lookups.{VolumeDump, volume_of, from_volume, latest};
 ghost use Rattle.budb_fold.specs.Chains.{IsChain};
 ghost use Rattle.plant_core.specs.Stock.{Stock};
 ghost use Rattle.tape_text.specs.Parts.{FoundPart};
@@ -17,7 +17,7 @@ ghost use Rattle.tape_scan.specs.Slots.{Slot};
 ghost use Rattle.tape_writer.specs.Filling.{Dumping};
 ghost use Rattle.archive_model.specs.Holding.{called_for};
 ghost use Rattle.archive_model.specs.Plays.{HasStream, PlayFault, records_of, PlaysOver, Plays};
-ghost use Rattle.archive_model.specs.Archives.{Archive, Refusal, is_unheld, needs, all_here, refused_by, Holds, LooksUp};
+ghost use Rattle.archive_model.specs.Archives.{Archive, Refusal, listed_of, is_unheld, is_missing, needs, all_here, refused_by, Holds, LooksUp};
 ghost use Rattle.archive_model.specs.Turns.{ContentsGrow, GivesNext, IsClone};
 ghost use Rattle.archive_model.specs.Clones.{Cloned, HaveClones, AreWritten, IsWritten, last_of};
 
@@ -77,4 +77,14 @@ pub fn what_a_dump_gives_next_is_its_contents()
         → ((p : DumpRecordFields) (name ids : List ℕ) → Contains records p → p.id ≡ d.parent → IsChain records p.id name (Ok ids) → find (is_unheld slots) (needs records ids name) ≡ None
         → (outcome : Result VolumeFields PlayFault) × Plays (all_here slots) records ids name outcome × (contents p.id name ≡ refused_by outcome))
         → ((name : List ℕ) (v : VolRecordFields) → volume_of d name ≡ Some v → GivesNext slots contents d name v) → ContentsGrow slots contents records d }
+{}
+
+/// What playing the chain of a look-up's dump gives, from the slots that are here, is what the look-up gives, in an archive
+/// that is held.
+pub fn what_is_played_is_looked_up()
+    ensures { (stock : Stock) (a : Archive) (records : List DumpRecordFields) → Holds stock a records
+        → (name : List ℕ) (before : Option ℕ) (one : VolumeDump) (ids : List ℕ) (outcome : Result VolumeFields PlayFault)
+        → latest (listed_of a) name before ≡ Some one → IsChain (listed_of a) one.dump.id one.volume.name (Ok ids)
+        → find (is_missing a.slots) (needs (listed_of a) ids one.volume.name) ≡ None
+        → Plays a.slots (listed_of a) ids one.volume.name outcome → LooksUp a name before (refused_by outcome) }
 {}
