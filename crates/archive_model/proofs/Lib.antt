@@ -17,6 +17,7 @@ pub mod KeepLaws
 pub mod ListedLaws
 pub mod LogLaws
 pub mod LookLaws
+pub mod MadeLaws
 pub mod ManyTapeLaws
 pub mod OnceLaws
 pub mod OwnLaws
@@ -25,6 +26,7 @@ pub mod PutLaws
 pub mod QuietLaws
 pub mod RecordLaws
 pub mod SlotLaws
+pub mod SourceLaws
 pub mod StepLaws
 pub mod StillLaws
 pub mod StreamLaws

@@ -4,3 +4,4 @@ pub mod Archives
 pub mod Clones
 pub mod Turns
 pub mod Settled
+pub mod Sources

@@ -88,3 +88,8 @@ pub fn what_is_played_is_looked_up()
         → find (is_missing a.slots) (needs (listed_of a) ids one.volume.name) ≡ None
         → Plays a.slots (listed_of a) ids one.volume.name outcome → LooksUp a name before (refused_by outcome) }
 {}
+
+/// What a play makes is a volume.
+pub fn what_is_made_is_a_volume()
+    ensures { (slots : List Slot) (name : List ℕ) (ds : List DumpRecordFields) (v : VolumeFields) → PlaysOver slots name None ds (Ok v) → AreVolume v.vnodes }
+{}

@@ -1,0 +1,37 @@
+-- What an archive's dumps are to the cell that they are dumped from.
+use Rattle.std.specs.Prelude.{ℕ, ◌==◌, if◌then◌else◌, Option, Some, None, Result, Ok, Err, List, [], ◌∷◌, map}
+use Rattle.std.specs.List.{flat_map}
+use Rattle.bk_text.specs.Blanks.{is_same_text}
+use Rattle.vnode_model.specs.declared.volumes.VolumeFields.{VolumeFields}
+use Rattle.budb_changes.specs.declared.records.VolRecordFields.{VolRecordFields}
+use Rattle.budb_changes.specs.declared.records.DumpRecordFields.{DumpRecordFields}
+use Rattle.budb_fold.specs.Database.{without}
+use Rattle.cell_core.specs.Fairness.{Dumped}
+use Rattle.archive_model.specs.Archives.{Refusal}
+
+-- of one name in a record the first volume alone counts
+abbrev pub firsts : List VolRecordFields → List VolRecordFields
+firsts [] = []
+firsts (v ∷ vs) = v ∷ without (λ w. is_same_text w.name v.name) (firsts vs)
+
+-- contents that are a volume
+abbrev pub volume_told : Result VolumeFields Refusal → Option VolumeFields
+volume_told (Ok volume) = Some volume
+volume_told (Err refusal) = None
+
+-- what a dump has of a volume, as the fairness of a cell speaks of it
+abbrev pub dumped_of : (ℕ → List ℕ → Result VolumeFields Refusal) → DumpRecordFields → VolRecordFields → Dumped
+dumped_of contents d v = record { name = v.name; time = v.clone; volume = volume_told (contents d.id v.name) }
+
+-- what the dumps of an archive have of all volumes
+abbrev pub dumped_by : (ℕ → List ℕ → Result VolumeFields Refusal) → List DumpRecordFields → List Dumped
+dumped_by contents records = flat_map (λ d. map (dumped_of contents d) (firsts d.volumes)) records
+
+-- What a dump has of a clone that was taken for it: the clone; where it has what changed since the parent alone, and the parent's
+-- contents are a refusal, that refusal.
+abbrev pub over_parent : Result VolumeFields Refusal → VolumeFields → Result VolumeFields Refusal
+over_parent (Ok old) clone = Ok clone
+over_parent (Err refusal) clone = Err refusal
+
+abbrev pub clone_or_refusal : Result VolumeFields Refusal → ℕ → VolumeFields → Result VolumeFields Refusal
+clone_or_refusal parent from clone = if from == 0 then Ok clone else over_parent parent clone

@@ -1,0 +1,27 @@
+//! Laws of what dumps are to the cell that they are dumped from, each the contract of a function without a body.
+
+ghost use Rattle.std.specs.Prelude.{◌≡◌, ℕ, Option, Some, Result, List, Contains};
+ghost use Rattle.vnode_model.specs.declared.volumes.VolumeFields.{VolumeFields};
+ghost use Rattle.budb_changes.specs.declared.records.DumpRecordFields.{DumpRecordFields};
+ghost use Rattle.budb_changes.specs.declared.records.VolRecordFields.{VolRecordFields};
+ghost use Rattle.budb_fold.specs.Lookups.{from_of};
+ghost use Rattle.cell_core.specs.declared.stored.Stored.{Stored};
+ghost use Rattle.cell_core.specs.declared.stored.Taken.{Taken};
+ghost use Rattle.cell_core.specs.Cells.{IsCell};
+ghost use Rattle.cell_core.specs.Calls.{clone_at};
+ghost use Rattle.cell_core.specs.Fairness.{Fair};
+ghost use Rattle.archive_model.specs.Sources.{dumped_by, clone_or_refusal};
+ghost use Rattle.archive_model.specs.Archives.{Refusal};
+ghost use Rattle.archive_model.specs.Turns.{IsClone};
+
+/// A clone of a cell that is fair to the dumps of an archive is what its dump has of it: the from time is that of the parent,
+/// and the contents are the clone, or the parent's refusal.
+pub fn a_fair_cell_gives_clones()
+    ensures { (cell : List Stored) → IsCell cell → (contents : ℕ → List ℕ → Result VolumeFields Refusal) (records : List DumpRecordFields) (time i now : ℕ) (clone : Taken)
+        → Fair cell (dumped_by contents records) time → clone_at cell i now ≡ Some clone
+        → (d : DumpRecordFields) (v : VolRecordFields) (parent : Option DumpRecordFields) (grown : ℕ → List ℕ → Result VolumeFields Refusal)
+        → ((p : DumpRecordFields) → parent ≡ Some p → Contains records p × (p.id ≡ d.parent))
+        → let name = clone.volume.header.name in
+        v.from ≡ from_of parent name clone.born → grown d.parent name ≡ contents d.parent name → grown d.id name ≡ clone_or_refusal (grown d.parent name) v.from clone.volume
+        → IsClone grown d name v clone.volume }
+{}
