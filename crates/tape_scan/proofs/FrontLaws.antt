@@ -1,15 +1,17 @@
 -- A part that a scan finds closed ends a front that is a tape; and a part put behind a tape makes one.
 use Rattle.std.proofs.Common.{◌≡◌, ℕ, zero, suc, ◌+◌, ◌≤◌, List, [], ◌∷◌, ◌++◌, length, take, refl, sym, ap, subst, ◌∙◌, arith, append_assoc, append-nil, length-append, length-take}
-use Rattle.std.specs.Prelude.{All, Contains}
+use Rattle.std.specs.Prelude.{All, Contains, sum_by}
 use Rattle.std.specs.List.{flat_map}
 use Rattle.std.proofs.lemmas.Bool.{leb-true}
+use Rattle.std.proofs.lemmas.List.{take_all}
 use Rattle.std.proofs.lemmas.List.Concat.{flat_map-append}
+use Rattle.std.proofs.lemmas.List.Sums.{sum_by-cons}
 use Rattle.std.proofs.lemmas.List.Elements.{All-nil, All-cons, Contains-append_left}
 use Rattle.tape_frames.specs.declared.frame.Frame.TheVariants as frames
 use Rattle.tape_text.specs.Items.{Item, Says, Filemark, IsFitItem}
 use Rattle.tape_text.specs.Texts.{Part, Tape, part_items, tape_items, Linked, NextPart, IsPart, AgreeInUses, IsTape}
 use Rattle.tape_text.specs.Parts.{FoundPart, part_len, part_marks, parts_at, parts_of}
-use Rattle.tape_scan.specs.Scans.{is_closed, Scan, closed}
+use Rattle.tape_scan.specs.Scans.{is_closed, Scan, closed, with_part, next_found, IsClosedIn}
 use Rattle.tape_scan.proofs.ScanLaws.{part_length}
 use Rattle.tape_scan.proofs.ListLaws.{take_of_append, take_of_take, of_filter, All_front, Linked_front, All_join}
 
@@ -78,26 +80,30 @@ Linked_push Next [] x linked next = tt
 Linked_push Next (y ∷ []) x linked next = (next [] y refl, tt)
 Linked_push Next (y ∷ z ∷ xs) x linked next = (linked.0, Linked_push Next (z ∷ xs) x linked.1 (λ before w same. next (y ∷ before) w (ap (λ t. y ∷ t) same)))
 
-parts_push : (at marks : ℕ) (ps : List Part) (p : Part) → (m : ℕ) × Contains (parts_at at marks (ps ++ p ∷ [])) (record { part = p; first = at + length (flat_map part_items ps); end = at + length (flat_map part_items ps) + part_len p; marks = m })
+parts_push : (at marks : ℕ) (ps : List Part) (p : Part)
+    → Contains (parts_at at marks (ps ++ p ∷ [])) (record { part = p; first = at + length (flat_map part_items ps); end = at + length (flat_map part_items ps) + part_len p; marks = marks + sum_by part_marks ps + part_marks p })
 parts_push at marks [] p =
     let same : at ≡ at + 0 = omega arith in
-    (marks + part_marks p, subst (λ (n : ℕ). Contains (parts_at at marks (p ∷ [])) (record { part = p; first = n; end = n + part_len p; marks = marks + part_marks p })) same (zero, omega arith, refl))
+    let none : marks ≡ marks + sum_by part_marks [] = omega arith in
+    subst (λ (m : ℕ). Contains (parts_at at marks (p ∷ [])) (record { part = p; first = at + 0; end = at + 0 + part_len p; marks = m + part_marks p })) none
+    (subst (λ (n : ℕ). Contains (parts_at at marks (p ∷ [])) (record { part = p; first = n; end = n + part_len p; marks = marks + part_marks p })) same (zero, omega arith, refl))
 parts_push at marks (q ∷ ps) p =
     let rest = parts_push (at + part_len q) (marks + part_marks q) ps p in
     let long : length (flat_map part_items (q ∷ ps)) ≡ part_len q + length (flat_map part_items ps) = omega (arith, length-append (part_items q) (flat_map part_items ps), part_length q) in
     let same : at + part_len q + length (flat_map part_items ps) ≡ at + length (flat_map part_items (q ∷ ps)) = omega (arith, long) in
-    let there : Contains (parts_at (at + part_len q) (marks + part_marks q) (ps ++ p ∷ [])) (record { part = p; first = at + length (flat_map part_items (q ∷ ps)); end = at + length (flat_map part_items (q ∷ ps)) + part_len p; marks = rest.0 }) =
-    subst (λ (n : ℕ). Contains (parts_at (at + part_len q) (marks + part_marks q) (ps ++ p ∷ [])) (record { part = p; first = n; end = n + part_len p; marks = rest.0 })) same rest.1 in
-    (rest.0, (suc there.0, omega (arith, there.1), there.2))
+    let counted : marks + part_marks q + sum_by part_marks ps ≡ marks + sum_by part_marks (q ∷ ps) = omega (arith, sum_by-cons part_marks q ps) in
+    let there : Contains (parts_at (at + part_len q) (marks + part_marks q) (ps ++ p ∷ []))
+    (record { part = p; first = at + length (flat_map part_items (q ∷ ps)); end = at + length (flat_map part_items (q ∷ ps)) + part_len p; marks = marks + sum_by part_marks (q ∷ ps) + part_marks p }) =
+    subst (λ (m : ℕ). Contains (parts_at (at + part_len q) (marks + part_marks q) (ps ++ p ∷ [])) (record { part = p; first = at + length (flat_map part_items (q ∷ ps)); end = at + length (flat_map part_items (q ∷ ps)) + part_len p; marks = m + part_marks p })) counted
+    (subst (λ (n : ℕ). Contains (parts_at (at + part_len q) (marks + part_marks q) (ps ++ p ∷ [])) (record { part = p; first = n; end = n + part_len p; marks = marks + part_marks q + sum_by part_marks ps + part_marks p })) same rest) in
+    (suc there.0, omega (arith, there.1), there.2)
 
 -- a part behind all of a tape's makes a tape, whose last part it is
 pub one_part_more : (t : Tape) (p : Part) → IsTape t → (t.label.initial ≡ 0 → ⊥) → IsPart t.label p → All IsFitItem (part_items p) → ((before : List Part) (q : Part) → t.parts ≡ before ++ q ∷ [] → NextPart q p) → AgreeInUses (t.parts ++ p ∷ [])
-    → IsTape (record { label = t.label; parts = t.parts ++ p ∷ [] }) × (tape_items t ++ part_items p ≡ tape_items (record { label = t.label; parts = t.parts ++ p ∷ [] }))
-    × (marks : ℕ) × Contains (parts_of (record { label = t.label; parts = t.parts ++ p ∷ [] })) (record { part = p; first = length (tape_items t); end = length (tape_items t) + part_len p; marks = marks })
+    → IsTape (with_part t p) × (tape_items t ++ part_items p ≡ tape_items (with_part t p)) × Contains (parts_of (with_part t p)) (next_found t p)
 one_part_more t p is some good fit next uses =
-    let items : tape_items t ++ part_items p ≡ tape_items (record { label = t.label; parts = t.parts ++ p ∷ [] }) =
+    let items : tape_items t ++ part_items p ≡ tape_items (with_part t p) =
     ap (λ (l : List Item). Says (frames.Label t.label) ∷ Filemark ∷ l) (ap (λ (l : List Item). flat_map part_items t.parts ++ l) (sym (append-nil (part_items p))) ∙ sym (flat_map-append part_items t.parts (p ∷ []))) in
-    let pushed = parts_push 2 1 t.parts p in
     let size : 2 + length (flat_map part_items t.parts) ≡ length (tape_items t) = omega arith in (
       record {
         fit = subst (All IsFitItem) items (All_join IsFitItem (tape_items t) (part_items p) is.fit fit);
@@ -107,6 +113,14 @@ one_part_more t p is some good fit next uses =
         uses = uses;
       },
       items,
-      pushed.0,
-      subst (λ (n : ℕ). Contains (parts_of (record { label = t.label; parts = t.parts ++ p ∷ [] })) (record { part = p; first = n; end = n + part_len p; marks = pushed.0 })) size pushed.1,
+      subst (λ (n : ℕ). Contains (parts_of (with_part t p)) (record { part = p; first = n; end = n + part_len p; marks = 1 + sum_by part_marks t.parts + part_marks p })) size (parts_push 2 1 t.parts p),
     )
+
+-- and it is closed there
+pub next_closed : (t : Tape) (p : Part) → IsTape (with_part t p) → tape_items t ++ part_items p ≡ tape_items (with_part t p) → Contains (parts_of (with_part t p)) (next_found t p) → IsClosedIn (tape_items t ++ part_items p) (next_found t p)
+next_closed t p is items there = record {
+  tape = with_part t p;
+  is = is;
+  there = there;
+  front = take_all (length (tape_items t) + part_len p) (tape_items t ++ part_items p) (omega (arith, length-append (tape_items t) (part_items p), part_length p)) ∙ items;
+}

@@ -4,3 +4,5 @@ pub mod FrontLaws
 pub mod PlaceLaws
 pub mod OpenLaws
 pub mod ClosedLaws
+pub mod HeadLaws
+pub mod AnswerLaws

@@ -1,5 +1,6 @@
 -- What a scan of several tapes gives: the whole dumps by ascending id, and the parts that are left over.
-use Rattle.std.specs.Prelude.{◌≡◌, ◌⊎◌, ◌<◌, List, [], ◌∷◌, All, AllPairs, Contains}
+use Rattle.std.specs.Prelude.{◌≡◌, ◌⊎◌, ℕ, ◌<◌, List, [], ◌∷◌, All, AllPairs, Contains}
+use Rattle.tape_frames.specs.declared.dump_head.DumpHeadFields.{DumpHeadFields}
 use Rattle.budb_changes.specs.declared.records.DumpRecordFields.{DumpRecordFields}
 use Rattle.tape_scan.specs.Slots.{Slot, Located, IsBegunAt, IsFound}
 
@@ -25,6 +26,15 @@ pub record IsChosen (slots : List Slot) (parts : List Located) (d : DumpRecordFi
 -- a part is one of a chosen dump's
 abbrev pub IsTaken : List Slot → Located → Type 0
 IsTaken slots l = (parts : List Located) × (d : DumpRecordFields) × IsChosen slots parts d × (m : Located) × Contains parts m × IsSame l m
+
+-- where a part's head stands, and what it says
+pub record Place : Type 0 where
+  pub slot : ℕ
+  pub first : ℕ
+  pub head : DumpHeadFields
+
+abbrev pub place_of : Located → Place
+place_of l = record { slot = l.slot; first = l.found.first; head = l.found.part.head }
 
 -- The whole dumps, of each id one, ascending by id. Left over is every other part whose head stands in a front, in order of slots,
 -- then of records; of a part that isn't closed the place and the head alone are told.

@@ -1,8 +1,8 @@
 -- What a scan of one tape finds: the longest front that is a tape text, and the parts that stand in it.
-use Rattle.std.specs.Prelude.{◌≡◌, ℕ, ◌+◌, ◌<◌, ◌≤◌, Bool, nat_lt, nat_le, List, length, take, filter, Contains}
+use Rattle.std.specs.Prelude.{◌≡◌, ℕ, ◌+◌, ◌<◌, ◌≤◌, Bool, nat_lt, nat_le, List, [], ◌∷◌, ◌++◌, length, take, sum_by, filter, Contains}
 use Rattle.tape_text.specs.Items.{Item}
-use Rattle.tape_text.specs.Texts.{Tape, tape_items, IsTape, IsText}
-use Rattle.tape_text.specs.Parts.{FoundPart, parts_of}
+use Rattle.tape_text.specs.Texts.{Part, Tape, tape_items, IsTape, IsText}
+use Rattle.tape_text.specs.Parts.{FoundPart, part_len, part_marks, parts_of}
 
 -- The front of a tape is as long as a tape text can be: so many items are one, and no more are.
 pub record IsFront (items : List Item) (count : ℕ) : Type 0 where
@@ -29,6 +29,21 @@ begun s = filter (is_begun s.count) (parts_of s.front.text.whole)
 
 abbrev pub closed : {items : List Item} → Scan items → List FoundPart
 closed s = filter (is_closed s.count) (parts_of s.front.text.whole)
+
+-- ---- a part more
+
+-- a tape with a part behind its last one
+abbrev pub with_part : Tape → Part → Tape
+with_part t p = record { label = t.label; parts = t.parts ++ p ∷ [] }
+
+-- where that part stands: from behind the tape's items on, behind the filemark of the label and those of all parts
+abbrev pub next_found : Tape → Part → FoundPart
+next_found t p = record {
+  part = p;
+  first = length (tape_items t);
+  end = length (tape_items t) + part_len p;
+  marks = 1 + sum_by part_marks t.parts + part_marks p;
+}
 
 -- ---- the same without a scan
 

@@ -1,16 +1,23 @@
 //! Laws, each the contract of a function without a body.
 
-ghost use Rattle.std.specs.Prelude.{◌≡◌, ◌↔◌, ℕ, ◌+◌, List, [], ◌∷◌, ◌++◌, length, All, Contains};
+ghost use Rattle.std.specs.Prelude.{◌≡◌, ◌↔◌, ℕ, ◌+◌, List, [], ◌∷◌, ◌++◌, length, map, All, Contains};
 ghost use Rattle.budb_changes.specs.declared.records.DumpRecordFields.{DumpRecordFields};
 ghost use Rattle.tape_text.specs.Items.{Item, IsFitItem};
 ghost use Rattle.tape_text.specs.Texts.{Part, Tape, part_items, tape_items, NextPart, IsPart, AgreeInUses, IsTape};
-ghost use Rattle.tape_text.specs.Parts.{FoundPart, part_len, parts_of};
-ghost use Rattle.tape_scan.specs.Scans.{Scan, closed, IsClosedIn};
+ghost use Rattle.tape_text.specs.Parts.{FoundPart, parts_of};
+ghost use Rattle.tape_scan.specs.Scans.{Scan, begun, closed, with_part, next_found, IsClosedIn, IsBegunIn};
+ghost use Rattle.tape_scan.specs.Scanned.{Scanned, place_of};
 ghost use Rattle.tape_scan.specs.Slots.{Slot, Located, IsFound, AreHeadsOnce};
 
 /// A scan of a tape finds just its closed parts.
 pub fn a_scanned_part_is_closed()
     ensures { (items : List Item) (s : Scan items) (p : FoundPart) → Contains (closed s) p ↔ IsClosedIn items p }
+{}
+
+/// A scan of a tape finds a part begun wherever the tape has a begun part, with the same head; and each that it finds is one.
+pub fn a_scanned_head_is_begun()
+    ensures found { (items : List Item) (s : Scan items) (p : FoundPart) → Contains (begun s) p → IsBegunIn items p }
+    ensures all { (items : List Item) (s : Scan items) (p : FoundPart) → IsBegunIn items p → (q : FoundPart) × Contains (begun s) q × (q.first ≡ p.first) × (q.part.head ≡ p.part.head) }
 {}
 
 /// Scans of a tape have one front, and find the same closed parts.
@@ -19,12 +26,11 @@ pub fn one_scan()
     ensures closed { (items : List Item) (s r : Scan items) (p : FoundPart) → Contains (closed s) p → Contains (closed r) p }
 {}
 
-/// A part put behind all of a tape's makes a tape, whose last part it is, at the place where it was put.
+/// A part put behind all of a tape's makes a tape, whose last part it is, closed at the place where it was put.
 pub fn one_part_more_is_a_tape()
     ensures { (t : Tape) (p : Part) → IsTape t → (t.label.initial ≡ 0 → ⊥) → IsPart t.label p → All IsFitItem (part_items p)
         → ((before : List Part) (q : Part) → t.parts ≡ before ++ q ∷ [] → NextPart q p) → AgreeInUses (t.parts ++ p ∷ [])
-        → IsTape (record { label = t.label; parts = t.parts ++ p ∷ [] }) × (tape_items t ++ part_items p ≡ tape_items (record { label = t.label; parts = t.parts ++ p ∷ [] }))
-        × (marks : ℕ) × Contains (parts_of (record { label = t.label; parts = t.parts ++ p ∷ [] })) (record { part = p; first = length (tape_items t); end = length (tape_items t) + part_len p; marks = marks }) }
+        → IsTape (with_part t p) × (tape_items t ++ part_items p ≡ tape_items (with_part t p)) × IsClosedIn (tape_items t ++ part_items p) (next_found t p) }
 {}
 
 /// Behind a tape stands a front of a part that isn't all of it: every closed part of a scan is a part of the tape.
@@ -36,4 +42,10 @@ pub fn an_open_part_is_not_closed()
 /// What is found whole of an id is one record, where no head stands twice.
 pub fn a_dump_is_found_once()
     ensures { (slots : List Slot) → AreHeadsOnce slots → (ps qs : List Located) (d e : DumpRecordFields) → IsFound slots ps d → IsFound slots qs e → d.id ≡ e.id → d ≡ e }
+{}
+
+/// A scan of several tapes has one answer: the same whole dumps, and the same heads that are left over, each at its place.
+pub fn one_answer()
+    ensures whole { (slots : List Slot) (whole whole2 : List DumpRecordFields) (left left2 : List Located) → Scanned slots whole left → Scanned slots whole2 left2 → whole ≡ whole2 }
+    ensures left { (slots : List Slot) (whole whole2 : List DumpRecordFields) (left left2 : List Located) → Scanned slots whole left → Scanned slots whole2 left2 → map place_of left ≡ map place_of left2 }
 {}
