@@ -34,12 +34,12 @@ use Rattle.archive_model.proofs.ListedLaws.{parents_below}
 use Rattle.tape_scan.proofs.ClosedLaws.{closed_within}
 use Rattle.archive_model.proofs.ManyTapeLaws.{differs}
 
-with_twice : (k : ℕ) (x y : List Item) (slots : List Slot) → with_items k x (with_items k y slots) ≡ with_items k x slots
+pub with_twice : (k : ℕ) (x y : List Item) (slots : List Slot) → with_items k x (with_items k y slots) ≡ with_items k x slots
 with_twice k x y [] = refl
 with_twice zero x y (s ∷ slots) = refl
 with_twice (suc k) x y (s ∷ slots) = ap (λ (l : List Slot). s ∷ l) (with_twice k x y slots)
 
-two_puts : (a : Archive) (k : ℕ) (xs : List Item) (i j : Item) (t : Slot) → t.items ≡ xs ++ i ∷ [] → with_slot (with_slot a k (xs ++ i ∷ [])) k (t.items ++ j ∷ []) ≡ with_slot a k (xs ++ i ∷ j ∷ [])
+pub two_puts : (a : Archive) (k : ℕ) (xs : List Item) (i j : Item) (t : Slot) → t.items ≡ xs ++ i ∷ [] → with_slot (with_slot a k (xs ++ i ∷ [])) k (t.items ++ j ∷ []) ≡ with_slot a k (xs ++ i ∷ j ∷ [])
 two_puts a k xs i j t is =
     let items : t.items ++ j ∷ [] ≡ xs ++ i ∷ j ∷ [] = ap (λ (l : List Item). l ++ j ∷ []) is ∙ append_assoc xs (i ∷ []) (j ∷ []) in
     ap (λ (l : List Item). with_slot (with_slot a k (xs ++ i ∷ [])) k l) items ∙ ap (λ (l : List Slot). record { log = a.log; slots = l; contents = a.contents }) (with_twice k (xs ++ i ∷ j ∷ []) (xs ++ i ∷ []) a.slots)
@@ -49,7 +49,7 @@ mark_behind xs i other same before e is = other e (push_same xs before i (Says (
 
 module _ (s : State) (a : Archive) (records : List DumpRecordFields) (held : HoldsSettled s a records) (k : ℕ) (t : Slot) (at : slice_get a.slots k ≡ Some t) where
   -- a frame that is no head and no part's end, its filemark, and the settling
-  marked_holds : (i : Item) → IsFitItem i → ((d : DumpRecordFields) → Contains records d → HasNoHead d.id (i ∷ [])) → IsFreshHead a.slots i → (i ≡ Filemark → ⊥) → ((e : DumpEndFields) → i ≡ Says (frames.DumpEnd e) → ⊥)
+  pub marked_holds : (i : Item) → IsFitItem i → ((d : DumpRecordFields) → Contains records d → HasNoHead d.id (i ∷ [])) → IsFreshHead a.slots i → (i ≡ Filemark → ⊥) → ((e : DumpEndFields) → i ≡ Says (frames.DumpEnd e) → ⊥)
       → AreHeld s (puts k (record_for i) ∷ puts k (record_for Filemark) ∷ settles k ∷ [])
       (record { archive = a; records = records } ∷ record { archive = with_slot a k (t.items ++ i ∷ []); records = records } ∷ record { archive = with_slot a k (t.items ++ i ∷ Filemark ∷ []); records = records } ∷ record { archive = with_slot a k (t.items ++ i ∷ Filemark ∷ []); records = records } ∷ [])
   marked_holds i fit unnamed fresh no_mark no_end =

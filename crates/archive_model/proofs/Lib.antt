@@ -13,6 +13,7 @@ pub mod HeldLaws
 pub mod HereLaws
 pub mod HoldLaws
 pub mod ImageLaws
+pub mod JobLaws
 pub mod KeepLaws
 pub mod ListedLaws
 pub mod LogLaws

@@ -47,7 +47,7 @@ held_head (Some p) d tape items held =
     let h = head_of_test d.id tape (slice_get items p.first) both.1 in
     (p, h.0, h.1, h.2, h.3)
 
-some_part : (slots : List Slot) (l : Located) (c : IsClosedAt slots l) (h : DumpHeadFields) → slice_get c.here.items l.found.first ≡ Some (Says (frames.DumpHead h)) → l.found.part.head ≡ h
+pub some_part : (slots : List Slot) (l : Located) (c : IsClosedAt slots l) (h : DumpHeadFields) → slice_get c.here.items l.found.first ≡ Some (Says (frames.DumpHead h)) → l.found.part.head ≡ h
 some_part slots l c h is =
     let all : c.here.items ≡ tape_items c.closed.tape ++ drop l.found.end c.here.items = sym (take-append-drop l.found.end c.here.items) ∙ ap (λ (x : List Item). x ++ drop l.found.end c.here.items) c.closed.front in
     let own : slice_get c.here.items l.found.first ≡ Some (Says (frames.DumpHead l.found.part.head)) = ap (λ (x : List Item). slice_get x l.found.first) all ∙ head_stands c.closed.tape l.found (drop l.found.end c.here.items) c.closed.there in

@@ -49,6 +49,22 @@ with_other (suc k) items (t ∷ slots) (suc j) s other at = with_other k items s
 
 -- ---- begun parts
 
+-- what is closed stays closed under what is put behind
+pub closed_under : (slots : List Slot) (k : ℕ) (s : Slot) → slice_get slots k ≡ Some s → (more : List Item) (l : Located) → IsClosedAt slots l → IsClosedAt (with_items k (s.items ++ more) slots) l
+closed_under slots k s at more l c = elim (same_or_not l.slot k) [
+  | inl same ↦
+      (let new = with_there k (s.items ++ more) slots s at in
+      let here : Some c.here ≡ Some s = sym c.at ∙ ap (λ (n : ℕ). slice_get slots n) same ∙ at in
+      let slot : c.here ≡ s = cc in
+      let old : IsClosedIn s.items l.found = subst (λ (x : Slot). IsClosedIn x.items l.found) slot c.closed in
+      record {
+        here = new.0;
+        at = ap (λ (n : ℕ). slice_get (with_items k (s.items ++ more) slots) n) same ∙ new.1;
+        closed = closed_by_front s.items new.0.items l.found (ap (λ (x : List Item). take l.found.end x) new.2 ∙ take_of_append l.found.end s.items more (closed_within s.items l.found old)) old;
+      })
+  | inr other ↦ record { here = c.here; at = with_other k (s.items ++ more) slots l.slot c.here other c.at; closed = c.closed }
+]
+
 -- ---- closed parts
 
 last_part : (p : Part) (ps : List Part) → (before : List Item) × (e : DumpEndFields) × (flat_map part_items (p ∷ ps) ≡ before ++ Says (frames.DumpEnd e) ∷ Filemark ∷ [])
@@ -113,21 +129,8 @@ module _ (listed records : List DumpRecordFields) (slots : List Slot) (contents 
     }
   ]
 
-  -- what was closed stays closed
   closed_stays : (l : Located) → IsClosedAt slots l → IsClosedAt slots_put l
-  closed_stays l c = elim (same_or_not l.slot k) [
-    | inl same ↦
-        (let new = with_there k (s.items ++ i ∷ []) slots s at in
-        let here : Some c.here ≡ Some s = sym c.at ∙ ap (λ (n : ℕ). slice_get slots n) same ∙ at in
-        let slot : c.here ≡ s = cc in
-        let old : IsClosedIn s.items l.found = subst (λ (x : Slot). IsClosedIn x.items l.found) slot c.closed in
-        record {
-          here = new.0;
-          at = ap (λ (n : ℕ). slice_get slots_put n) same ∙ new.1;
-          closed = closed_by_front s.items new.0.items l.found (ap (λ (x : List Item). take l.found.end x) new.2 ∙ take_of_append l.found.end s.items (i ∷ []) (closed_within s.items l.found old)) old;
-        })
-    | inr other ↦ record { here = c.here; at = with_other k (s.items ++ i ∷ []) slots l.slot c.here other c.at; closed = c.closed }
-  ]
+  closed_stays l c = closed_under slots k s at (i ∷ []) l c
 
   all_closed_stay : (parts : List Located) → All (IsClosedAt slots) parts → All (IsClosedAt slots_put) parts
   all_closed_stay [] closed = All-nil (IsClosedAt slots_put)

@@ -1,7 +1,8 @@
 //! Laws of the steps of a dump, put together from those of effects. Each is the contract of a function without a body.
 
-ghost use Rattle.std.specs.Prelude.{◌≡◌, ◌⊎◌, ◌<◌, ◌≤◌, ℕ, ◌+◌, true, false, Some, Result, List, ◌∷◌, [], ◌++◌, length, slice_get, Contains};
+ghost use Rattle.std.specs.Prelude.{◌≡◌, ◌⊎◌, ◌<◌, ◌≤◌, ℕ, ◌+◌, true, false, Some, Result, List, ◌∷◌, [], ◌++◌, length, take, slice_get, All, Contains};
 ghost use Rattle.vnode_model.specs.declared.volumes.VolumeFields.{VolumeFields};
+ghost use Rattle.budb_changes.specs.declared.records.TapePart.{TapePart};
 ghost use Rattle.budb_changes.specs.declared.records.DumpRecordFields.{DumpRecordFields};
 ghost use Rattle.budb_changes.specs.declared.records.VolRecordFields.{VolRecordFields};
 ghost use Rattle.budb_changes.specs.declared.change.Change.TheVariants.{Done};
@@ -10,7 +11,7 @@ ghost use Rattle.budb_changes.specs.Forms.{AreChanges};
 ghost use Rattle.budb_fold.specs.Database.{has_dump, fits_record};
 ghost use Rattle.budb_fold.specs.Lookups.{volume_of};
 ghost use Rattle.plant_core.specs.Crashes.{State};
-ghost use Rattle.plant_core.specs.Effects.{commits, puts, settles};
+ghost use Rattle.plant_core.specs.Effects.{commits, puts, settles, cuts};
 ghost use Rattle.tape_frames.specs.declared.dump_head.DumpHeadFields.{DumpHeadFields};
 ghost use Rattle.tape_frames.specs.declared.label.LabelFields.{LabelFields};
 ghost use Rattle.tape_frames.specs.declared.vol_end.VolEndFields.{VolEndFields};
@@ -18,10 +19,10 @@ ghost use Rattle.tape_text.specs.Items.{Item, Says, Filemark, record_for, IsFitI
 ghost use Rattle.tape_text.specs.Parts.{FoundPart};
 ghost use Rattle.tape_scan.specs.Scans.{IsClosedIn};
 ghost use Rattle.tape_scan.specs.Slots.{Slot, Located, IsClosedAt, IsBegunAt, IsFound};
-ghost use Rattle.archive_model.specs.Holding.{HasNoHead};
+ghost use Rattle.archive_model.specs.Holding.{place_of, holds, HasNoHead};
 ghost use Rattle.archive_model.specs.Archives.{Archive, Refusal, listed_of, AreHeldOnce, IsKept};
 ghost use Rattle.archive_model.specs.Settled.{HoldsSettled, IsSettledOn, AreHeld};
-ghost use Rattle.archive_model.specs.Turns.{with_items, with_log, with_slot, with_contents, HasOwnHeads, IsFreshHead, GivesNext};
+ghost use Rattle.archive_model.specs.Turns.{with_items, with_log, with_slot, with_contents, HasOwnHeads, IsFreshHead, GivesNext, remaining};
 ghost use Rattle.tape_frames.specs.declared.frame.Frame.TheVariants as frames;
 
 /// A put begins no part but the one whose head it is.
@@ -85,4 +86,41 @@ pub fn the_end_of_a_dump_is_held()
         AreHeld s (puts k (record_for Filemark) ∷ settles k ∷ commits (encoded (Done d ∷ [])) ∷ [])
         (record { archive = a; records = records } ∷ record { archive = ended; records = records ++ d ∷ [] } ∷ record { archive = ended; records = records ++ d ∷ [] }
         ∷ record { archive = with_log ended (a.log ++ Done d ∷ []); records = records ++ d ∷ [] } ∷ []) }
+{}
+
+/// Where each head of an id is that of one of its own parts, which are closed, the head of another part is that of no part
+/// that is begun.
+pub fn own_heads_are_not_anew()
+    ensures { (slots : List Slot) (own : List Located) (h : DumpHeadFields) → All (IsClosedAt slots) own → HasOwnHeads slots own h.id
+        → ((l : Located) → Contains own l → l.found.part.head.part ≡ h.part → ⊥) → IsFreshHead slots (Says (frames.DumpHead h)) }
+{}
+
+/// A cut keeps the heads that there are of an id.
+pub fn a_cut_keeps_own_heads()
+    ensures { (slots : List Slot) (parts : List Located) (id k n : ℕ) (s : Slot) → slice_get slots k ≡ Some s → HasOwnHeads slots parts id → HasOwnHeads (with_items k (take n s.items) slots) parts id }
+{}
+
+/// The step of a tape that is appended to: its cut behind what is held there of listed dumps, and the head of a new dump's part.
+pub fn an_appended_tape_is_held()
+    ensures { (s : State) (a : Archive) (records : List DumpRecordFields) → HoldsSettled s a records → (k : ℕ) (t : Slot) → slice_get a.slots k ≡ Some t
+        → (h : DumpHeadFields) → IsFitItem (Says (frames.DumpHead h)) → ((d : DumpRecordFields) → Contains records d → d.id ≡ h.id → ⊥) → IsFreshHead a.slots (Says (frames.DumpHead h))
+        → (n : ℕ) → ((d : DumpRecordFields) (tape : ℕ) (p : TapePart) → Contains (listed_of a) d → place_of d tape ≡ Some p → holds d tape t.items ≡ true → p.end ≤ n)
+        → let few = remaining (listed_of a) (with_items k (take n t.items) a.slots) records in
+        AreHeld s (cuts k n ∷ puts k (record_for (Says (frames.DumpHead h))) ∷ [])
+        (record { archive = a; records = records } ∷ record { archive = with_slot a k (take n t.items); records = few }
+        ∷ record { archive = with_slot a k (take n t.items ++ Says (frames.DumpHead h) ∷ []); records = few } ∷ []) }
+{}
+
+/// The step of a tape that is taken, on which nothing listed is held any more: its cut to nothing, the label and its filemark,
+/// the settling, and the head of a new dump's part.
+pub fn a_taken_tape_is_held()
+    ensures { (s : State) (a : Archive) (records : List DumpRecordFields) → HoldsSettled s a records → (k : ℕ) (t : Slot) → slice_get a.slots k ≡ Some t
+        → (h : DumpHeadFields) → IsFitItem (Says (frames.DumpHead h)) → ((d : DumpRecordFields) → Contains records d → d.id ≡ h.id → ⊥) → IsFreshHead a.slots (Says (frames.DumpHead h))
+        → (l : LabelFields) → IsFitItem (Says (frames.Label l)) → ((d : DumpRecordFields) (tape : ℕ) → Contains (listed_of a) d → holds d tape t.items ≡ true → ⊥)
+        → let few = remaining (listed_of a) (with_items k [] a.slots) records in
+        let labelled = with_slot a k (Says (frames.Label l) ∷ Filemark ∷ []) in
+        AreHeld s (cuts k 0 ∷ puts k (record_for (Says (frames.Label l))) ∷ puts k (record_for Filemark) ∷ settles k ∷ puts k (record_for (Says (frames.DumpHead h))) ∷ [])
+        (record { archive = a; records = records } ∷ record { archive = with_slot a k []; records = few } ∷ record { archive = with_slot a k (Says (frames.Label l) ∷ []); records = few }
+        ∷ record { archive = labelled; records = few } ∷ record { archive = labelled; records = few }
+        ∷ record { archive = with_slot a k (Says (frames.Label l) ∷ Filemark ∷ Says (frames.DumpHead h) ∷ []); records = few } ∷ []) }
 {}
