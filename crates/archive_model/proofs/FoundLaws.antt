@@ -92,12 +92,12 @@ tapes_of_found slots (l ∷ parts) d found =
     let same : record_with l.found.part.head (l.found ∷ map (λ x. x.found) parts) ≡ d = (let e = found.record_is in cc) in
     sym (ap (λ (x : DumpRecordFields). x.tapes) same)
 
-is_placed : (slots : List Slot) (l : Located) → IsClosedAt slots l → ArePlaced (l.found ∷ [])
+pub is_placed : (slots : List Slot) (l : Located) → IsClosedAt slots l → ArePlaced (l.found ∷ [])
 is_placed slots l c =
     let good : IsPart c.closed.tape.label l.found.part = All-contains (IsPart c.closed.tape.label) c.closed.tape.parts l.found.part c.closed.is.each (found_part_is 2 1 c.closed.tape.parts l.found c.closed.there) in
     All-cons (λ (q : FoundPart). (label : _) × IsPart label q.part) l.found [] (c.closed.tape.label, good) (All-nil (λ (q : FoundPart). (label : _) × IsPart label q.part))
 
-all_placed : (slots : List Slot) (parts : List Located) → All (IsClosedAt slots) parts → ArePlaced (map (λ l. l.found) parts)
+pub all_placed : (slots : List Slot) (parts : List Located) → All (IsClosedAt slots) parts → ArePlaced (map (λ l. l.found) parts)
 all_placed slots [] closed = All-nil (λ (q : FoundPart). (label : _) × IsPart label q.part)
 all_placed slots (l ∷ parts) closed =
     All-cons (λ (q : FoundPart). (label : _) × IsPart label q.part) l.found (map (λ x. x.found) parts) (All-head (λ (q : FoundPart). (label : _) × IsPart label q.part) l.found [] (is_placed slots l (All-head (IsClosedAt slots) l parts closed)))

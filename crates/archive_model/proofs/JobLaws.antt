@@ -1,8 +1,8 @@
 -- What a job that writes a dump knows at its steps.
-use Rattle.std.proofs.Common.{◌≡◌, ℕ, zero, suc, ◌≤◌, true, Some, List, [], ◌∷◌, ◌++◌, take, drop, refl, sym, ap, subst, ◌∙◌, inl, inr}
+use Rattle.std.proofs.Common.{◌≡◌, ℕ, zero, suc, ◌≤◌, true, Some, List, [], ◌∷◌, ◌++◌, take, drop, refl, sym, ap, subst, ◌∙◌, inl, inr, append_assoc, length-append, map, length, ◌+◌, arith}
 use Rattle.std.specs.Prelude.{◌||◌, All, Contains, slice_get}
 use Rattle.std.proofs.lemmas.List.{take-append-drop}
-use Rattle.std.proofs.lemmas.List.Elements.{All-contains}
+use Rattle.std.proofs.lemmas.List.Elements.{All-contains, All-nil, All-cons, All-head, All-tail}
 use Rattle.tape_frames.specs.declared.frame.Frame.TheVariants as frames
 use Rattle.tape_frames.specs.declared.dump_head.DumpHeadFields.{DumpHeadFields}
 use Rattle.tape_frames.specs.declared.label.LabelFields.{LabelFields}
@@ -11,8 +11,9 @@ use Rattle.budb_changes.specs.declared.records.DumpRecordFields.{DumpRecordField
 use Rattle.plant_core.specs.Crashes.{State}
 use Rattle.plant_core.specs.Effects.{puts, settles, cuts, comes}
 use Rattle.tape_text.specs.Items.{Item, Says, Filemark, record_for, IsFitItem}
-use Rattle.tape_scan.specs.Scans.{IsBegunIn}
-use Rattle.tape_scan.specs.Slots.{Slot, Located, IsClosedAt}
+use Rattle.tape_text.specs.Wholes.{IsWhole, record_by}
+use Rattle.tape_scan.specs.Scans.{IsBegunIn, IsClosedIn}
+use Rattle.tape_scan.specs.Slots.{Slot, Located, IsClosedAt, IsFound}
 use Rattle.archive_model.specs.Holding.{place_of, holds}
 use Rattle.archive_model.specs.Archives.{Archive, listed_of}
 use Rattle.archive_model.specs.Settled.{HoldsSettled, AreHeld}
@@ -21,11 +22,13 @@ use Rattle.archive_model.specs.Turns.{with_items, with_slot, IsFreshHead, HasOwn
 use Rattle.tape_scan.proofs.ListLaws.{of_filter}
 use Rattle.tape_scan.proofs.ClosedLaws.{begun_longer}
 use Rattle.tape_scan.proofs.HeadLaws.{begun_head}
-use Rattle.archive_model.proofs.PutLaws.{with_get}
-use Rattle.archive_model.proofs.DumpLaws.{mid_put_holds, cut_holds_all}
+use Rattle.archive_model.proofs.PutLaws.{with_get, closed_before, closed_under}
+use Rattle.archive_model.proofs.DumpLaws.{mid_put_holds, cut_holds_all, part_end_holds}
 use Rattle.archive_model.proofs.StepLaws.{settling_holds}
 use Rattle.archive_model.proofs.OwnLaws.{some_part}
-use Rattle.archive_model.proofs.ExampleLaws.{with_twice, marked_holds}
+use Rattle.archive_model.proofs.ExampleLaws.{with_twice, marked_holds, two_puts}
+use Rattle.tape_text.specs.Parts.{FoundPart}
+use Rattle.tape_frames.specs.declared.dump_end.DumpEndFields.{DumpEndFields}
 
 -- ---- heads of one's own
 
@@ -137,3 +140,35 @@ module _ (s : State) (a : Archive) (records : List DumpRecordFields) (held : Hol
       let fourth = subst (λ (b : Archive). HoldsSettled (comes (puts k (record_for (Says (frames.DumpHead h)))) (comes (settles k) (comes (puts k (record_for Filemark)) (comes (puts k (record_for (Says (frames.Label l)))) (comes (cuts k 0) s))))) b few)
       (slots_twice a k (Says (frames.Label l) ∷ Filemark ∷ Says (frames.DumpHead h) ∷ []) two) put in
       (held, (cut, (first, (second, (third, fourth)))))
+
+-- ---- the end of a part
+
+-- the end's frame, its filemark and the settling, where the dump goes on
+pub part_ended_holds : (s : State) (a : Archive) (records : List DumpRecordFields) → HoldsSettled s a records → (k : ℕ) (t : Slot) → slice_get a.slots k ≡ Some t → (e : DumpEndFields) → IsFitItem (Says (frames.DumpEnd e)) → (q : FoundPart)
+    → IsClosedIn (t.items ++ Says (frames.DumpEnd e) ∷ Filemark ∷ []) q → q.end ≡ length t.items + 2 → q.part.end.more ≡ 1 → ((l : Located) → IsClosedAt a.slots l → l.found.part.head.id ≡ q.part.head.id → l.found.part.end.more ≡ 0 → ⊥)
+    → AreHeld s (puts k (record_for (Says (frames.DumpEnd e))) ∷ puts k (record_for Filemark) ∷ settles k ∷ [])
+    (record { archive = a; records = records } ∷ record { archive = with_slot a k (t.items ++ Says (frames.DumpEnd e) ∷ []); records = records }
+    ∷ record { archive = with_slot a k (t.items ++ Says (frames.DumpEnd e) ∷ Filemark ∷ []); records = records } ∷ record { archive = with_slot a k (t.items ++ Says (frames.DumpEnd e) ∷ Filemark ∷ []); records = records } ∷ [])
+part_ended_holds s a records held k t at e fit q closed end goes_on none_ends =
+    let one : List Item = t.items ++ Says (frames.DumpEnd e) ∷ [] in
+    let first : HoldsSettled (comes (puts k (record_for (Says (frames.DumpEnd e)))) s) (with_slot a k one) records = mid_put_holds s a records held k t at (Says (frames.DumpEnd e)) fit (λ d there. tt) (λ h same. absurd (cc)) (λ same. absurd (cc)) in
+    let both : one ++ Filemark ∷ [] ≡ t.items ++ Says (frames.DumpEnd e) ∷ Filemark ∷ [] = append_assoc t.items (Says (frames.DumpEnd e) ∷ []) (Filemark ∷ []) in
+    let put = part_end_holds (comes (puts k (record_for (Says (frames.DumpEnd e)))) s) (with_slot a k one) records first k (record t { items = one }) (slot_with k one a.slots t at) q
+    (subst (λ (l : List Item). IsClosedIn l q) (sym both) closed) (omega (arith, end, length-append t.items (Says (frames.DumpEnd e) ∷ []))) goes_on
+    (λ l now id ends. none_ends l (closed_before (listed_of a) records a.slots a.contents held.seen.kept k t at (Says (frames.DumpEnd e)) (λ d there. tt) (λ h same. absurd (cc)) (λ same. absurd (cc)) l now) id ends) in
+    let second : HoldsSettled (comes (puts k (record_for Filemark)) (comes (puts k (record_for (Says (frames.DumpEnd e)))) s)) (with_slot a k (t.items ++ Says (frames.DumpEnd e) ∷ Filemark ∷ [])) records =
+    subst (λ (b : Archive). HoldsSettled (comes (puts k (record_for Filemark)) (comes (puts k (record_for (Says (frames.DumpEnd e)))) s)) b records) (two_puts a k t.items (Says (frames.DumpEnd e)) Filemark (record t { items = one }) refl) put in
+    (held, (first, (second, settling_holds (comes (puts k (record_for Filemark)) (comes (puts k (record_for (Says (frames.DumpEnd e)))) s)) (with_slot a k (t.items ++ Says (frames.DumpEnd e) ∷ Filemark ∷ [])) records k second)))
+
+-- ---- the last part
+
+closed_all : (slots : List Slot) (k : ℕ) (t : Slot) → slice_get slots k ≡ Some t → (more : List Item) (own : List Located) (q : FoundPart) → All (IsClosedAt slots) own → IsClosedIn (t.items ++ more) q → All (IsClosedAt (with_items k (t.items ++ more) slots)) (own ++ record { slot = k; found = q } ∷ [])
+closed_all slots k t at more [] q closed last =
+    All-cons (IsClosedAt (with_items k (t.items ++ more) slots)) (record { slot = k; found = q }) [] (record { here = record t { items = t.items ++ more }; at = slot_with k (t.items ++ more) slots t at; closed = last }) (All-nil (IsClosedAt (with_items k (t.items ++ more) slots)))
+closed_all slots k t at more (l ∷ own) q closed last =
+    All-cons (IsClosedAt (with_items k (t.items ++ more) slots)) l (own ++ record { slot = k; found = q } ∷ []) (closed_under slots k t at more l (All-head (IsClosedAt slots) l own closed)) (closed_all slots k t at more own q (All-tail (IsClosedAt slots) l own closed) last)
+
+-- a dump's parts so far, and one more that is closed behind a tape, are found there
+pub last_part_found : (slots : List Slot) (k : ℕ) (t : Slot) → slice_get slots k ≡ Some t → (more : List Item) (own : List Located) (q : FoundPart) (d : DumpRecordFields) → All (IsClosedAt slots) own → IsClosedIn (t.items ++ more) q
+    → IsWhole (map (λ (l : Located). l.found.part) (own ++ record { slot = k; found = q } ∷ [])) → record_by (map (λ (l : Located). l.found) (own ++ record { slot = k; found = q } ∷ [])) ≡ Some d → IsFound (with_items k (t.items ++ more) slots) (own ++ record { slot = k; found = q } ∷ []) d
+last_part_found slots k t at more own q d closed last whole is = record { closed = closed_all slots k t at more own q closed last; whole = whole; record_is = is }

@@ -3,6 +3,7 @@ pub mod ChainLaws
 pub mod ContentsLaws
 pub mod CutLaws
 pub mod DumpLaws
+pub mod DumpedLaws
 pub mod EndLaws
 pub mod ExampleLaws
 pub mod ForgetLaws

@@ -22,17 +22,18 @@ pub use images::{
     held_archives_join, what_is_settled_holds, what_is_settled_lies_in_each_image,
 };
 pub use plays::{
-    a_chain_plays_to_its_clone, a_dump_gives_its_clone_next, a_from_time_is_fair,
-    a_look_up_has_one_outcome, a_play_has_one_outcome, what_a_dump_gives_next_is_its_contents,
-    what_is_held_is_the_clone, what_is_made_is_a_volume, what_is_played_is_looked_up,
-    what_was_written_is_given, what_was_written_plays_to_its_clone,
+    a_chain_plays_to_its_clone, a_dump_gives_its_clone_next, a_dumped_clone_is_given_next,
+    a_from_time_is_fair, a_look_up_has_one_outcome, a_play_has_one_outcome,
+    what_a_dump_gives_next_is_its_contents, what_is_held_is_the_clone, what_is_made_is_a_volume,
+    what_is_played_is_looked_up, what_was_written_is_given, what_was_written_plays_to_its_clone,
 };
 pub use sources::a_fair_cell_gives_clones;
 pub use steps::{
     a_cut_keeps_own_heads, a_filemark_closes_its_part_alone, a_label_is_held,
     a_put_begins_its_head_alone, a_put_keeps_own_heads, a_taken_tape_is_held,
     an_appended_tape_is_held, own_heads_are_not_anew, settled_parts_are_a_settled_dump,
-    the_end_of_a_dump_is_held, the_end_of_a_volume_is_held,
+    the_end_of_a_dump_is_held, the_end_of_a_part_is_held, the_end_of_a_volume_is_held,
+    the_last_part_makes_a_dump_found,
 };
 pub use turns::{
     a_commit_that_touches_no_dump_keeps_all, a_cut_keeps_what_is_listed,

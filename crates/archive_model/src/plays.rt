@@ -1,11 +1,15 @@
 //! Laws of plays and contents, each the contract of a function without a body.
 
-ghost use Rattle.std.specs.Prelude.{◌≡◌, ◌⊎◌, ◌≤◌, ℕ, Option, Some, None, Result, Ok, List, ◌∷◌, find, Contains};
+ghost use Rattle.std.specs.Prelude.{◌≡◌, ◌⊎◌, ◌≤◌, ℕ, Option, Some, None, Result, Ok, List, ◌∷◌, [], find, Contains};
+ghost use Rattle.std.specs.List.{flat_map};
 ghost use Rattle.vnode_model.specs.declared.volumes.VolumeFields.{VolumeFields};
 ghost use Rattle.vnode_model.specs.declared.increments.IncrementFields.{IncrementFields};
 ghost use Rattle.vnode_model.specs.Limits.{AreVolume};
 ghost use Rattle.vnode_model.specs.Increments.{Follows, selected};
 ghost use Rattle.dump_stream.specs.Stream.{Spells};
+ghost use Rattle.dump_stream.specs.Written.{written};
+ghost use Rattle.dump_stream.specs.Allowed.{Allowed};
+ghost use Rattle.bk_text.specs.Blanks.{is_same_text};
 ghost use Rattle.budb_changes.specs.declared.records.DumpRecordFields.{DumpRecordFields};
 ghost use Rattle.budb_changes.specs.declared.records.VolRecordFields.{VolRecordFields};
 ghost use Rattle.budb_fold.specs.Lookups.{VolumeDump, volume_of, from_volume, latest};
@@ -13,11 +17,11 @@ ghost use Rattle.budb_fold.specs.Chains.{IsChain};
 ghost use Rattle.plant_core.specs.Stock.{Stock};
 ghost use Rattle.tape_text.specs.Parts.{FoundPart};
 ghost use Rattle.tape_text.specs.Wholes.{record_with};
-ghost use Rattle.tape_scan.specs.Slots.{Slot};
-ghost use Rattle.tape_writer.specs.Filling.{Dumping};
-ghost use Rattle.archive_model.specs.Holding.{called_for};
+ghost use Rattle.tape_scan.specs.Slots.{Slot, Located, IsFound};
+ghost use Rattle.tape_writer.specs.Filling.{Dumping, IsDumped};
+ghost use Rattle.archive_model.specs.Holding.{placed_from, called_for};
 ghost use Rattle.archive_model.specs.Plays.{HasStream, PlayFault, records_of, PlaysOver, Plays};
-ghost use Rattle.archive_model.specs.Archives.{Archive, Refusal, listed_of, is_unheld, is_missing, needs, all_here, refused_by, Holds, LooksUp};
+ghost use Rattle.archive_model.specs.Archives.{Archive, Refusal, listed_of, is_unheld, is_missing, needs, all_here, refused_by, AreHeldOnce, Holds, LooksUp};
 ghost use Rattle.archive_model.specs.Turns.{ContentsGrow, GivesNext, IsClone};
 ghost use Rattle.archive_model.specs.Clones.{Cloned, HaveClones, AreWritten, IsWritten, last_of};
 
@@ -92,4 +96,14 @@ pub fn what_is_played_is_looked_up()
 /// What a play makes is a volume.
 pub fn what_is_made_is_a_volume()
     ensures { (slots : List Slot) (name : List ℕ) (ds : List DumpRecordFields) (v : VolumeFields) → PlaysOver slots name None ds (Ok v) → AreVolume v.vnodes }
+{}
+
+/// A dump that is found, and held once, on whose tapes a clone's increment was put as a volume's stream, gives that clone
+/// over the parent's contents, or the refusal that these are.
+pub fn a_dumped_clone_is_given_next()
+    ensures { (slots : List Slot) (parts : List Located) (d : DumpRecordFields) → IsFound slots parts d → AreHeldOnce (d ∷ []) slots
+        → (contents : ℕ → List ℕ → Result VolumeFields Refusal) (name : List ℕ) (volume : ℕ × VolRecordFields) → find (λ x. is_same_text x.1.name name) (placed_from 0 d.volumes) ≡ Some volume
+        → (w : Dumping) → IsDumped d.id volume.0 (flat_map (λ l. l.found.part.fragments) parts) w
+        → (clone : VolumeFields) (time : ℕ) → w.stream ≡ written (selected clone volume.1.from time) → Allowed (selected clone volume.1.from time) → AreVolume clone.vnodes
+        → IsClone contents d name volume.1 clone → GivesNext slots contents d name volume.1 }
 {}

@@ -1,6 +1,6 @@
 //! Laws of the steps of a dump, put together from those of effects. Each is the contract of a function without a body.
 
-ghost use Rattle.std.specs.Prelude.{◌≡◌, ◌⊎◌, ◌<◌, ◌≤◌, ℕ, ◌+◌, true, false, Some, Result, List, ◌∷◌, [], ◌++◌, length, take, slice_get, All, Contains};
+ghost use Rattle.std.specs.Prelude.{◌≡◌, ◌⊎◌, ◌<◌, ◌≤◌, ℕ, ◌+◌, true, false, Some, Result, List, ◌∷◌, [], ◌++◌, length, map, take, slice_get, All, Contains};
 ghost use Rattle.vnode_model.specs.declared.volumes.VolumeFields.{VolumeFields};
 ghost use Rattle.budb_changes.specs.declared.records.TapePart.{TapePart};
 ghost use Rattle.budb_changes.specs.declared.records.DumpRecordFields.{DumpRecordFields};
@@ -14,9 +14,11 @@ ghost use Rattle.plant_core.specs.Crashes.{State};
 ghost use Rattle.plant_core.specs.Effects.{commits, puts, settles, cuts};
 ghost use Rattle.tape_frames.specs.declared.dump_head.DumpHeadFields.{DumpHeadFields};
 ghost use Rattle.tape_frames.specs.declared.label.LabelFields.{LabelFields};
+ghost use Rattle.tape_frames.specs.declared.dump_end.DumpEndFields.{DumpEndFields};
 ghost use Rattle.tape_frames.specs.declared.vol_end.VolEndFields.{VolEndFields};
 ghost use Rattle.tape_text.specs.Items.{Item, Says, Filemark, record_for, IsFitItem};
 ghost use Rattle.tape_text.specs.Parts.{FoundPart};
+ghost use Rattle.tape_text.specs.Wholes.{IsWhole, record_by};
 ghost use Rattle.tape_scan.specs.Scans.{IsClosedIn};
 ghost use Rattle.tape_scan.specs.Slots.{Slot, Located, IsClosedAt, IsBegunAt, IsFound};
 ghost use Rattle.archive_model.specs.Holding.{place_of, holds, HasNoHead};
@@ -123,4 +125,23 @@ pub fn a_taken_tape_is_held()
         (record { archive = a; records = records } ∷ record { archive = with_slot a k []; records = few } ∷ record { archive = with_slot a k (Says (frames.Label l) ∷ []); records = few }
         ∷ record { archive = labelled; records = few } ∷ record { archive = labelled; records = few }
         ∷ record { archive = with_slot a k (Says (frames.Label l) ∷ Filemark ∷ Says (frames.DumpHead h) ∷ []); records = few } ∷ []) }
+{}
+
+/// The step of a part's end where the dump goes on: its frame, its filemark and the settling.
+pub fn the_end_of_a_part_is_held()
+    ensures { (s : State) (a : Archive) (records : List DumpRecordFields) → HoldsSettled s a records → (k : ℕ) (t : Slot) → slice_get a.slots k ≡ Some t
+        → (e : DumpEndFields) → IsFitItem (Says (frames.DumpEnd e)) → (q : FoundPart) → IsClosedIn (t.items ++ Says (frames.DumpEnd e) ∷ Filemark ∷ []) q → q.end ≡ length t.items + 2 → q.part.end.more ≡ 1
+        → ((l : Located) → IsClosedAt a.slots l → l.found.part.head.id ≡ q.part.head.id → l.found.part.end.more ≡ 0 → ⊥)
+        → let ended = with_slot a k (t.items ++ Says (frames.DumpEnd e) ∷ Filemark ∷ []) in
+        AreHeld s (puts k (record_for (Says (frames.DumpEnd e))) ∷ puts k (record_for Filemark) ∷ settles k ∷ [])
+        (record { archive = a; records = records } ∷ record { archive = with_slot a k (t.items ++ Says (frames.DumpEnd e) ∷ []); records = records }
+        ∷ record { archive = ended; records = records } ∷ record { archive = ended; records = records } ∷ []) }
+{}
+
+/// A dump's closed parts, and one more that is closed by what is put behind a tape, are found there where they are a whole dump.
+pub fn the_last_part_makes_a_dump_found()
+    ensures { (slots : List Slot) (k : ℕ) (t : Slot) → slice_get slots k ≡ Some t → (more : List Item) (own : List Located) (q : FoundPart) (d : DumpRecordFields)
+        → All (IsClosedAt slots) own → IsClosedIn (t.items ++ more) q
+        → let parts = own ++ record { slot = k; found = q } ∷ [] in
+        IsWhole (map (λ l. l.found.part) parts) → record_by (map (λ l. l.found) parts) ≡ Some d → IsFound (with_items k (t.items ++ more) slots) parts d }
 {}
