@@ -20,10 +20,9 @@ use Rattle.archive_model.proofs.SlotLaws.{in_map}
 some_slot : (s t : Slot) → Some s ≡ Some t → s ≡ t
 some_slot s t same = cc
 
-module _ (listed records : List DumpRecordFields) (slots : List Slot) (contents : ℕ → List ℕ → Result VolumeFields Refusal) (kept : IsKept listed slots contents records)
-    (few : List Slot) (place : ℕ → ℕ) (at : (k : ℕ) (s : Slot) → slice_get few k ≡ Some s → slice_get slots (place k) ≡ Some s) where
-  -- ---- from these slots to all
+-- ---- from some slots to all
 
+module _ (slots few : List Slot) (place : ℕ → ℕ) (at : (k : ℕ) (s : Slot) → slice_get few k ≡ Some s → slice_get slots (place k) ≡ Some s) where
   moved : Located → Located
   moved l = record { slot = place l.slot; found = l.found }
 
@@ -51,11 +50,16 @@ module _ (listed records : List DumpRecordFields) (slots : List Slot) (contents 
     record_is = ap record_by (same_founds ls) ∙ found.record_is;
   }
 
+  pub found_also : (ls : List Located) (d : DumpRecordFields) → IsFound few ls d → (ms : List Located) × IsFound slots ms d
+  found_also ls d found = (map moved ls, found_on_all ls d found)
+
+module _ (listed records : List DumpRecordFields) (slots : List Slot) (contents : ℕ → List ℕ → Result VolumeFields Refusal) (kept : IsKept listed slots contents records)
+    (few : List Slot) (place : ℕ → ℕ) (at : (k : ℕ) (s : Slot) → slice_get few k ≡ Some s → slice_get slots (place k) ≡ Some s) where
   -- what a scan of these slots finds under a listed id is the listed dump
   pub scanned_equal : (whole : List DumpRecordFields) (left : List Located) → Scanned few whole left → (d e : DumpRecordFields) → Contains listed d → Contains whole e → e.id ≡ d.id → e ≡ d
   scanned_equal whole left scan d e there found same =
       let chosen = All-contains (λ (x : DumpRecordFields). (parts : List Located) × IsChosen few parts x) whole e scan.each found in
-      kept.agree d e (map moved chosen.0) there (found_on_all chosen.0 e chosen.1.found) same
+      (let all = found_also slots few place at chosen.0 e chosen.1.found in kept.agree d e all.0 there all.1 same)
 
   -- ---- from all slots to these
 

@@ -18,7 +18,8 @@ use Rattle.tape_scan.specs.Slots.{Slot, Located, IsClosedAt, IsBegunAt, IsFound,
 use Rattle.archive_model.specs.Holding.{place_of, holds_at, holds, HasNoHead}
 use Rattle.archive_model.specs.Archives.{Refusal, IsUnlisted, AreDumps, IsHeld, IsKept}
 use Rattle.tape_scan.specs.Scans.{IsClosedIn, IsBegunIn}
-use Rattle.archive_model.specs.Turns.{AreAlike, AreLeft, is_filemark, is_there, remaining}
+use Rattle.archive_model.specs.Turns.{is_filemark, is_there, remaining}
+use Rattle.archive_model.proofs.Alike.{AreAlike, AreLeft}
 use Rattle.tape_scan.proofs.ListLaws.{contains_filter, take_of_append, contains_map, of_filter}
 use Rattle.tape_scan.proofs.ScanLaws.{part_length}
 use Rattle.tape_scan.proofs.PlaceLaws.{Amid, amid_again, amid_behind, amid_more, parts_amid, item_amid}

@@ -20,7 +20,8 @@ use Rattle.archive_model.specs.Clones.{part_in}
 use Rattle.archive_model.specs.Plays.{PlayFault, PlaysOver, records_of, Plays}
 use Rattle.archive_model.specs.Archives.{Refusal, needs, needs_of, is_unheld, all_here, refused_by, IsUnlisted, AreHeldOnce, IsKept}
 use Rattle.tape_scan.specs.Scans.{IsClosedIn}
-use Rattle.archive_model.specs.Turns.{with_items, AreAlike, IsFreshHead, ContentsGrow, GivesNext}
+use Rattle.archive_model.specs.Turns.{with_items, IsFreshHead, ContentsGrow, GivesNext}
+use Rattle.archive_model.proofs.Alike.{AreAlike}
 use Rattle.tape_scan.proofs.PlaceLaws.{parts_amid, part_long}
 use Rattle.tape_scan.proofs.ListLaws.{take_of_append, either}
 use Rattle.archive_model.proofs.WholeLaws.{all_agree, agree_self}

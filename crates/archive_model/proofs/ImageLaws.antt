@@ -11,7 +11,8 @@ use Rattle.tape_scan.specs.Slots.{Slot}
 use Rattle.archive_model.specs.Holding.{holds}
 use Rattle.archive_model.specs.Archives.{Archive, listed_of, Holds}
 use Rattle.archive_model.specs.Settled.{HoldsSettled}
-use Rattle.archive_model.specs.Turns.{is_here, AreLeft, remaining}
+use Rattle.archive_model.specs.Turns.{is_here, remaining}
+use Rattle.archive_model.proofs.Alike.{AreLeft}
 use Rattle.archive_model.proofs.HoldLaws.{lies_within}
 use Rattle.archive_model.proofs.TornLaws.{torn_reads}
 use Rattle.archive_model.proofs.ListedLaws.{parents_below}

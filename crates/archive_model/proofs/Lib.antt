@@ -1,3 +1,4 @@
+pub mod Alike
 pub mod AgainLaws
 pub mod ChainLaws
 pub mod ContentsLaws

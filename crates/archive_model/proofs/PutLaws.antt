@@ -15,7 +15,8 @@ use Rattle.tape_scan.specs.Slots.{Slot, Located, IsClosedAt, IsBegunAt, IsFound,
 use Rattle.archive_model.specs.Holding.{place_of, holds, HasNoHead}
 use Rattle.archive_model.specs.Archives.{Refusal, AreDumps, IsKept}
 use Rattle.tape_scan.specs.Scans.{IsClosedIn, IsBegunIn}
-use Rattle.archive_model.specs.Turns.{with_items, AreAlike, IsFreshHead, EndsNoPart}
+use Rattle.archive_model.specs.Turns.{with_items, IsFreshHead, EndsNoPart}
+use Rattle.archive_model.proofs.Alike.{AreAlike}
 use Rattle.tape_scan.proofs.ListLaws.{take_of_append, either, push_same, same_or_not}
 use Rattle.archive_model.proofs.HoldLaws.{lies_within}
 use Rattle.archive_model.proofs.KeepLaws.{held_before}

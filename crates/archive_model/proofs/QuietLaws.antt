@@ -18,7 +18,7 @@ use Rattle.archive_model.specs.Holding.{place_of, is_label_frame, is_head_frame,
 use Rattle.archive_model.specs.Plays.{StandsOn, records_of, PlaysOver}
 use Rattle.archive_model.specs.Archives.{Need, needs, needs_of, is_unheld, all_here, Refusal, AreDumps, AreContents, AreHeldOnce, IsHeld, AreHolders, IsKept}
 use Rattle.tape_scan.specs.Scans.{IsClosedIn}
-use Rattle.archive_model.specs.Turns.{AreAlike}
+use Rattle.archive_model.proofs.Alike.{AreAlike}
 use Rattle.tape_scan.proofs.ListLaws.{take_of_append, contains_map}
 use Rattle.archive_model.proofs.HoldLaws.{lies_by_front, lies_stands_too}
 use Rattle.archive_model.proofs.KeepLaws.{held_before}

@@ -13,7 +13,8 @@ use Rattle.tape_text.specs.Wholes.{tape_part}
 use Rattle.tape_scan.specs.Slots.{Slot, Located, IsClosedAt, IsFound}
 use Rattle.archive_model.specs.Holding.{place_of, holds}
 use Rattle.archive_model.specs.Archives.{Refusal, IsUnlisted, AreHolders, IsKept}
-use Rattle.archive_model.specs.Turns.{with_items, IsLeftAt, AreLeft, remaining}
+use Rattle.archive_model.specs.Turns.{with_items, remaining}
+use Rattle.archive_model.proofs.Alike.{IsLeftAt, AreLeft}
 use Rattle.tape_scan.proofs.ListLaws.{of_filter, same_or_not}
 use Rattle.archive_model.proofs.HoldLaws.{lies_within}
 use Rattle.archive_model.proofs.KeepLaws.{held_uncut}

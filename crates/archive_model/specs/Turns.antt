@@ -1,5 +1,5 @@
 -- What an effect, or a crash, makes of slots that keep dumps.
-use Rattle.std.specs.Prelude.{◌≡◌, ◌⊎◌, zero, suc, ℕ, ◌-◌, ◌≤◌, Bool, true, false, ◌&&◌, ◌||◌, Option, Some, None, Result, Ok, Err, List, [], ◌∷◌, ◌++◌, length, take, filter, find, slice_get, Contains}
+use Rattle.std.specs.Prelude.{◌≡◌, zero, suc, ℕ, ◌-◌, Bool, true, false, ◌&&◌, ◌||◌, Option, Some, None, Result, Ok, Err, List, [], ◌∷◌, ◌++◌, filter, find, slice_get, Contains}
 use Rattle.std.specs.List.{list_any, list_all}
 use Rattle.vnode_model.specs.declared.volumes.VolumeFields.{VolumeFields}
 use Rattle.vnode_model.specs.declared.increments.IncrementFields.{IncrementFields}
@@ -8,7 +8,6 @@ use Rattle.vnode_model.specs.Increments.{applied, Follows}
 use Rattle.tape_frames.specs.declared.frame.Frame.TheVariants as frames
 use Rattle.tape_frames.specs.declared.dump_head.DumpHeadFields.{DumpHeadFields}
 use Rattle.tape_frames.specs.declared.dump_end.DumpEndFields.{DumpEndFields}
-use Rattle.budb_changes.specs.declared.records.TapePart.{TapePart}
 use Rattle.budb_changes.specs.declared.records.VolRecordFields.{VolRecordFields}
 use Rattle.budb_changes.specs.declared.records.DumpRecordFields.{DumpRecordFields}
 use Rattle.budb_changes.specs.declared.change.Change.{Change}
@@ -17,7 +16,7 @@ use Rattle.budb_fold.specs.Database.{is_dump, has_dump}
 use Rattle.budb_fold.specs.Chains.{IsChain}
 use Rattle.tape_text.specs.Items.{Item, Says, Filemark, Nothing}
 use Rattle.tape_scan.specs.Slots.{Slot, Located, IsBegunAt}
-use Rattle.archive_model.specs.Holding.{place_of, holds, called_for, HasNoHead}
+use Rattle.archive_model.specs.Holding.{holds, called_for}
 use Rattle.archive_model.specs.Plays.{HasStream, PlayFault, Plays}
 use Rattle.archive_model.specs.Archives.{Archive, Refusal, needs, is_unheld, all_here, refused_by}
 
@@ -36,23 +35,6 @@ with_slot a k items = record { log = a.log; slots = with_items k items a.slots; 
 
 abbrev pub with_contents : Archive → (ℕ → List ℕ → Result VolumeFields Refusal) → Archive
 with_contents a contents = record { log = a.log; slots = a.slots; contents = contents }
-
--- A tape, and what it was: they begin alike; behind that items are gone, and others have come, none of which is a head of one of
--- these dumps; and what it holds of these dumps ends where they are alike.
-pub record IsAlike (records : List DumpRecordFields) (slots : List Slot) (k : ℕ) (new : List Item) : Type 0 where
-  pub here : Slot
-  pub at : slice_get slots k ≡ Some here
-  pub common : List Item
-  pub gone : List Item
-  pub more : List Item
-  pub old_is : here.items ≡ common ++ gone
-  pub new_is : new ≡ common ++ more
-  pub heads : (d : DumpRecordFields) → Contains records d → HasNoHead d.id more
-  pub ends : (d : DumpRecordFields) (tape : ℕ) (p : TapePart) → Contains records d → place_of d tape ≡ Some p → holds d tape new ≡ true → p.end ≤ length common
-
--- each tape begins as it was
-abbrev pub AreAlike : List DumpRecordFields → List Slot → List Slot → Type 0
-AreAlike records slots slots2 = (k : ℕ) (s : Slot) → slice_get slots2 k ≡ Some s → IsAlike records slots k s.items
 
 -- ---- a record that is put
 
@@ -102,20 +84,6 @@ StillHeld listed slots slots2 =
 
 abbrev pub is_here : Slot → Bool
 is_here s = s.here
-
--- What a cut, or a crash, leaves of a tape: a front of its items, perhaps with one behind that says nothing. What is held of listed
--- dumps ends in that front.
-pub record IsLeftAt (listed : List DumpRecordFields) (slots : List Slot) (k : ℕ) (new : List Item) : Type 0 where
-  pub here : Slot
-  pub at : slice_get slots k ≡ Some here
-  pub count : ℕ
-  pub rest : List Item
-  pub torn : (rest ≡ []) ⊎ (rest ≡ Nothing ∷ [])
-  pub is : new ≡ take count here.items ++ rest
-  pub ends : (d : DumpRecordFields) (tape : ℕ) (p : TapePart) → Contains listed d → place_of d tape ≡ Some p → holds d tape new ≡ true → p.end ≤ length (take count here.items)
-
-abbrev pub AreLeft : List DumpRecordFields → List Slot → List Slot → Type 0
-AreLeft listed slots slots2 = (k : ℕ) (s : Slot) → slice_get slots2 k ≡ Some s → IsLeftAt listed slots k s.items
 
 abbrev pub is_filemark : Option Item → Bool
 is_filemark None = false

@@ -114,3 +114,9 @@ pub fn recorded_dumps_are_scanned_again()
         → (whole : List DumpRecordFields) (left : List Located) → Scanned few whole left
         → (d e : DumpRecordFields) → Contains (listed_of a) d → Contains whole e → e.id ≡ d.id → e ≡ d }
 {}
+
+/// What is found whole over some of the slots is found whole over all of them.
+pub fn what_is_found_on_some_slots_is_found()
+    ensures { (slots few : List Slot) (place : ℕ → ℕ) → ((k : ℕ) (s : Slot) → slice_get few k ≡ Some s → slice_get slots (place k) ≡ Some s)
+        → (parts : List Located) (d : DumpRecordFields) → IsFound few parts d → (others : List Located) × IsFound slots others d }
+{}

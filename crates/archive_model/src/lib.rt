@@ -10,7 +10,7 @@ mod sources;
 mod steps;
 mod turns;
 
-pub use holding::{
+pub use holding::{ what_is_found_on_some_slots_is_found,
     a_cut_behind_keeps_what_lies, a_found_dump_is_here, a_log_with_the_same_dumps_holds,
     a_put_keeps_what_lies, a_record_calls_for_its_fragments, a_taken_tape_holds_nothing_listed,
     a_whole_dump_lies_on_its_tapes, blank_tapes_hold_no_dump, dumps_of_a_tape_end_in_order,
