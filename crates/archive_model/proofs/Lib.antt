@@ -7,6 +7,7 @@ pub mod DumpLaws
 pub mod DumpedLaws
 pub mod EndLaws
 pub mod ExampleLaws
+pub mod FairLaws
 pub mod ForgetLaws
 pub mod FoundLaws
 pub mod FromLaws

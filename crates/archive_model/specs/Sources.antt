@@ -1,13 +1,16 @@
 -- What an archive's dumps are to the cell that they are dumped from.
-use Rattle.std.specs.Prelude.{ℕ, ◌==◌, if◌then◌else◌, Option, Some, None, Result, Ok, Err, List, [], ◌∷◌, map}
+use Rattle.std.specs.Prelude.{ℕ, ◌==◌, if◌then◌else◌, Option, Some, None, Result, Ok, Err, List, [], ◌∷◌, map, ◌≡◌, ◌⊎◌, ◌≤◌, Contains}
 use Rattle.std.specs.List.{flat_map}
 use Rattle.bk_text.specs.Blanks.{is_same_text}
 use Rattle.vnode_model.specs.declared.volumes.VolumeFields.{VolumeFields}
 use Rattle.budb_changes.specs.declared.records.VolRecordFields.{VolRecordFields}
 use Rattle.budb_changes.specs.declared.records.DumpRecordFields.{DumpRecordFields}
 use Rattle.budb_fold.specs.Database.{without}
-use Rattle.cell_core.specs.Fairness.{Dumped}
+use Rattle.cell_core.specs.Fairness.{Dumped, dumped_from}
 use Rattle.archive_model.specs.Archives.{Refusal}
+use Rattle.cell_core.specs.declared.stored.Stored.{Stored}
+use Rattle.cell_core.specs.declared.stored.Taken.{Taken}
+use Rattle.cell_core.specs.Calls.{clone_at}
 
 -- of one name in a record the first volume alone counts
 abbrev pub firsts : List VolRecordFields → List VolRecordFields
@@ -35,3 +38,21 @@ over_parent (Err refusal) clone = Err refusal
 
 abbrev pub clone_or_refusal : Result VolumeFields Refusal → ℕ → VolumeFields → Result VolumeFields Refusal
 clone_or_refusal parent from clone = if from == 0 then Ok clone else over_parent parent clone
+
+-- ---- the clones of a dump
+
+-- a clone of one of a cell's volumes at this time
+abbrev pub IsTakenFrom : List Stored → ℕ → Taken → Type 0
+IsTakenFrom cell now clone = (i : ℕ) × (clone_at cell i now ≡ Some clone)
+
+-- what dumps of clones have, before what was dumped already
+abbrev pub dumped_clones : List Taken → List Dumped → List Dumped
+dumped_clones [] dumped = dumped
+dumped_clones (c ∷ clones) dumped = dumped_from c ∷ dumped_clones clones dumped
+
+-- A volume's contents in a dump are one of these clones, of its name and clone time; or they are a refusal, and its clone time isn't to
+-- come.
+abbrev pub IsCloneOf : (ℕ → List ℕ → Result VolumeFields Refusal) → DumpRecordFields → ℕ → List Taken → VolRecordFields → Type 0
+IsCloneOf contents d now clones v =
+    ((c : Taken) × Contains clones c × (v.name ≡ c.volume.header.name) × (v.clone ≡ c.time) × (contents d.id v.name ≡ Ok c.volume))
+    ⊎ ((r : Refusal) × (contents d.id v.name ≡ Err r) × (v.clone ≤ now))

@@ -10,12 +10,13 @@ mod sources;
 mod steps;
 mod turns;
 
-pub use holding::{ what_is_found_on_some_slots_is_found,
+pub use holding::{
     a_cut_behind_keeps_what_lies, a_found_dump_is_here, a_log_with_the_same_dumps_holds,
     a_put_keeps_what_lies, a_record_calls_for_its_fragments, a_taken_tape_holds_nothing_listed,
     a_whole_dump_lies_on_its_tapes, blank_tapes_hold_no_dump, dumps_of_a_tape_end_in_order,
     holds_is_said_of_listed_dumps, other_dumps_stay_listed, own_heads_are_held_once,
-    recorded_dumps_are_scanned_again, what_lies_is_played, without_its_head_nothing_is_held,
+    recorded_dumps_are_scanned_again, what_is_found_on_some_slots_is_found, what_lies_is_played,
+    without_its_head_nothing_is_held,
 };
 pub use images::{
     a_joint_image_holds_the_archive_of_its_count, a_torn_tape_reads, an_image_holds_the_archive,
@@ -27,7 +28,7 @@ pub use plays::{
     what_a_dump_gives_next_is_its_contents, what_is_held_is_the_clone, what_is_made_is_a_volume,
     what_is_played_is_looked_up, what_was_written_is_given, what_was_written_plays_to_its_clone,
 };
-pub use sources::a_fair_cell_gives_clones;
+pub use sources::{a_dump_keeps_its_cell_fair, a_fair_cell_gives_clones};
 pub use steps::{
     a_cut_keeps_own_heads, a_filemark_closes_its_part_alone, a_label_is_held,
     a_put_begins_its_head_alone, a_put_keeps_own_heads, a_taken_tape_is_held,

@@ -1,6 +1,6 @@
 //! Laws of what dumps are to the cell that they are dumped from, each the contract of a function without a body.
 
-ghost use Rattle.std.specs.Prelude.{◌≡◌, ℕ, Option, Some, Result, List, Contains};
+ghost use Rattle.std.specs.Prelude.{◌≡◌, ℕ, Option, Some, Result, List, ◌∷◌, [], ◌++◌, All, Contains};
 ghost use Rattle.vnode_model.specs.declared.volumes.VolumeFields.{VolumeFields};
 ghost use Rattle.budb_changes.specs.declared.records.DumpRecordFields.{DumpRecordFields};
 ghost use Rattle.budb_changes.specs.declared.records.VolRecordFields.{VolRecordFields};
@@ -9,8 +9,8 @@ ghost use Rattle.cell_core.specs.declared.stored.Stored.{Stored};
 ghost use Rattle.cell_core.specs.declared.stored.Taken.{Taken};
 ghost use Rattle.cell_core.specs.Cells.{IsCell};
 ghost use Rattle.cell_core.specs.Calls.{clone_at};
-ghost use Rattle.cell_core.specs.Fairness.{Fair};
-ghost use Rattle.archive_model.specs.Sources.{dumped_by, clone_or_refusal};
+ghost use Rattle.cell_core.specs.Fairness.{Fair, NoneIsMadeAfter, NoSourceHasBackupName};
+ghost use Rattle.archive_model.specs.Sources.{firsts, dumped_by, clone_or_refusal, IsTakenFrom, IsCloneOf};
 ghost use Rattle.archive_model.specs.Archives.{Refusal};
 ghost use Rattle.archive_model.specs.Turns.{IsClone};
 
@@ -24,4 +24,13 @@ pub fn a_fair_cell_gives_clones()
         → let name = clone.volume.header.name in
         v.from ≡ from_of parent name clone.born → grown d.parent name ≡ contents d.parent name → grown d.id name ≡ clone_or_refusal (grown d.parent name) v.from clone.volume
         → IsClone grown d name v clone.volume }
+{}
+
+/// A dump of clones of a cell that is fair to an archive leaves it fair to the archive with the dump.
+pub fn a_dump_keeps_its_cell_fair()
+    ensures { (cell : List Stored) (contents grown : ℕ → List ℕ → Result VolumeFields Refusal) (records : List DumpRecordFields) (d : DumpRecordFields) (now : ℕ) (clones : List Taken)
+        → ((e : DumpRecordFields) → Contains records e → e.id ≡ d.id → ⊥) → ((id : ℕ) (name : List ℕ) → (id ≡ d.id → ⊥) → grown id name ≡ contents id name)
+        → ((v : VolRecordFields) → Contains (firsts d.volumes) v → IsCloneOf grown d now clones v)
+        → IsCell cell → Fair cell (dumped_by contents records) now → NoneIsMadeAfter now cell → NoSourceHasBackupName cell → All (IsTakenFrom cell now) clones
+        → Fair cell (dumped_by grown (records ++ d ∷ [])) now }
 {}
