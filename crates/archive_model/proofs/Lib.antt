@@ -29,6 +29,7 @@ pub mod PlayedLaws
 pub mod PutLaws
 pub mod QuietLaws
 pub mod RecordLaws
+mod Rows
 pub mod SlotLaws
 pub mod SourceLaws
 pub mod StepLaws
