@@ -30,7 +30,6 @@ use Rattle.tape_scan.proofs.ListLaws.{push_same, same_or_not}
 use Rattle.archive_model.proofs.StepLaws.{read_length, settling_holds, listing_commit}
 use Rattle.archive_model.proofs.DumpLaws.{mid_put_holds, dump_end_holds}
 use Rattle.archive_model.proofs.OwnLaws.{own_held_once, parts_settled}
-use Rattle.archive_model.proofs.ListedLaws.{parents_below}
 use Rattle.tape_scan.proofs.ClosedLaws.{closed_within}
 use Rattle.archive_model.proofs.ManyTapeLaws.{differs}
 
@@ -71,20 +70,16 @@ module _ (s : State) (a : Archive) (records : List DumpRecordFields) (held : Hol
       (record { archive = a; records = records } ∷ record { archive = with_slot a k (t.items ++ Says (frames.Label l) ∷ []); records = records } ∷ record { archive = with_slot a k (t.items ++ Says (frames.Label l) ∷ Filemark ∷ []); records = records } ∷ record { archive = with_slot a k (t.items ++ Says (frames.Label l) ∷ Filemark ∷ []); records = records } ∷ [])
   label_holds l fit = marked_holds (Says (frames.Label l)) fit (λ d in_records. tt) (λ h same. absurd (cc)) (λ same. absurd (cc)) (λ x same. absurd (cc))
 
--- The step of a dump's end, behind its last frame. What is asked is what a job knows: all ids of dumps are below its own; each head of
+-- The step of a dump's end, behind its last frame. What is asked is what a job knows: its id is no dump's and no dump's parent; each head of
 -- its id is that of one of its parts; and its parts on other tapes are settled.
 pub dump_done_holds : (s : State) (a : Archive) (records : List DumpRecordFields) → HoldsSettled s a records → (k : ℕ) (t : Slot) → slice_get a.slots k ≡ Some t → (q : FoundPart) (d : DumpRecordFields) (parts : List Located) (contents2 : ℕ → List ℕ → Result VolumeFields Refusal)
-    → IsClosedIn (t.items ++ Filemark ∷ []) q → q.end ≡ length t.items + 1 → IsFound (with_items k (t.items ++ Filemark ∷ []) a.slots) parts d → q.part.head.id ≡ d.id → ((e : DumpRecordFields) → Contains records e → e.id < d.id) → HasOwnHeads (with_items k (t.items ++ Filemark ∷ []) a.slots) parts d.id
+    → IsClosedIn (t.items ++ Filemark ∷ []) q → q.end ≡ length t.items + 1 → IsFound (with_items k (t.items ++ Filemark ∷ []) a.slots) parts d → q.part.head.id ≡ d.id → ((e : DumpRecordFields) → Contains records e → e.id ≡ d.id → ⊥) → ((e : DumpRecordFields) → Contains records e → e.parent ≡ d.id → ⊥) → HasOwnHeads (with_items k (t.items ++ Filemark ∷ []) a.slots) parts d.id
     → ((l : Located) → Contains parts l → (l.slot ≡ k → ⊥) → l.found.end ≤ s.settled l.slot) → fits_record d (listed_of a) ≡ true → has_dump (listed_of a) d.id ≡ false → d.parent < d.id → AreChanges (Done d ∷ [])
     → ((id : ℕ) (name : List ℕ) → (id ≡ d.id → ⊥) → contents2 id name ≡ a.contents id name) → ((name : List ℕ) (v : VolRecordFields) → volume_of d name ≡ Some v → GivesNext (with_items k (t.items ++ Filemark ∷ []) a.slots) contents2 d name v)
     → AreHeld s (puts k (record_for Filemark) ∷ settles k ∷ commits (encoded (Done d ∷ [])) ∷ []) (record { archive = a; records = records } ∷ record { archive = record { log = a.log; slots = with_items k (t.items ++ Filemark ∷ []) a.slots; contents = contents2 }; records = records ++ d ∷ [] } ∷ record { archive = record { log = a.log; slots = with_items k (t.items ++ Filemark ∷ []) a.slots; contents = contents2 }; records = records ++ d ∷ [] } ∷ record { archive = record { log = a.log ++ Done d ∷ []; slots = with_items k (t.items ++ Filemark ∷ []) a.slots; contents = contents2 }; records = records ++ d ∷ [] } ∷ [])
-dump_done_holds s a records held k t at q d parts contents2 closed end found id below own others_settled fit unlisted above form others gives =
+dump_done_holds s a records held k t at q d parts contents2 closed end found id new no_child own others_settled fit unlisted above form others gives =
     let once : AreHeldOnce (d ∷ []) (with_items k (t.items ++ Filemark ∷ []) a.slots) = own_held_once (with_items k (t.items ++ Filemark ∷ []) a.slots) parts d found own in
-    let above_all : (e : DumpRecordFields) → Contains records e → e.parent < e.id = λ e there. elim (held.seen.kept.dumps.sound e there) [
-      | inl is_listed ↦ parents_below a.log e is_listed
-      | inr un ↦ un.above
-    ] in
-    let put = dump_end_holds s a records held k t at q d parts contents2 closed end found id (λ e there same. absurd (omega (arith, below e there, same))) (λ e there same. absurd (omega (arith, below e there, above_all e there, same))) unlisted above once others gives in
+    let put = dump_end_holds s a records held k t at q d parts contents2 closed end found id new no_child unlisted above once others gives in
     let settled = settling_holds (comes (puts k (record_for Filemark)) s) (record { log = a.log; slots = with_items k (t.items ++ Filemark ∷ []) a.slots; contents = contents2 }) (records ++ d ∷ []) k put in
     let each : (l : Located) → Contains parts l → l.found.end ≤ (comes (settles k) (comes (puts k (record_for Filemark)) s)).settled l.slot = λ l there.
     (let c : IsClosedAt (with_items k (t.items ++ Filemark ∷ []) a.slots) l = All-contains (IsClosedAt (with_items k (t.items ++ Filemark ∷ []) a.slots)) parts l found.closed there in

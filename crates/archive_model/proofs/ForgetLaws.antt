@@ -35,7 +35,7 @@ without_twice id ids (x ∷ xs) = elim (cases_Bool (is_dump id x)) [
   ]
 ]
 
-forgets_all : (ids : List ℕ) (db : Database) → (after_from (map Forget ids) db).listed ≡ without (is_one_of ids) db.listed
+pub forgets_all : (ids : List ℕ) (db : Database) → (after_from (map Forget ids) db).listed ≡ without (is_one_of ids) db.listed
 forgets_all [] db = sym (without_no db.listed)
 forgets_all (id ∷ ids) db = forgets_all ids (after_change (Forget id) db) ∙ ap (without (is_one_of ids)) (forgotten id db) ∙ without_twice id ids db.listed
 

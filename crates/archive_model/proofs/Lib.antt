@@ -1,3 +1,4 @@
+pub mod AfterLaws
 pub mod Alike
 pub mod AgainLaws
 pub mod ChainLaws

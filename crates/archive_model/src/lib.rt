@@ -32,9 +32,10 @@ pub use sources::{a_dump_keeps_its_cell_fair, a_fair_cell_gives_clones};
 pub use steps::{
     a_cut_keeps_own_heads, a_filemark_closes_its_part_alone, a_label_is_held,
     a_put_begins_its_head_alone, a_put_keeps_own_heads, a_taken_tape_is_held,
-    an_appended_tape_is_held, own_heads_are_not_anew, settled_parts_are_a_settled_dump,
-    the_end_of_a_dump_is_held, the_end_of_a_part_is_held, the_end_of_a_volume_is_held,
-    the_last_part_makes_a_dump_found,
+    an_appended_tape_is_held, an_id_above_all_is_new, own_heads_are_not_anew,
+    remaining_dumps_were_dumps, settled_parts_are_a_settled_dump, the_end_of_a_dump_is_held,
+    the_end_of_a_part_is_held, the_end_of_a_volume_is_held, the_last_part_makes_a_dump_found,
+    the_listed_dumps_behind_a_commit,
 };
 pub use turns::{
     a_commit_that_touches_no_dump_keeps_all, a_cut_keeps_what_is_listed,

@@ -5,12 +5,14 @@ ghost use Rattle.vnode_model.specs.declared.volumes.VolumeFields.{VolumeFields};
 ghost use Rattle.budb_changes.specs.declared.records.TapePart.{TapePart};
 ghost use Rattle.budb_changes.specs.declared.records.DumpRecordFields.{DumpRecordFields};
 ghost use Rattle.budb_changes.specs.declared.records.VolRecordFields.{VolRecordFields};
-ghost use Rattle.budb_changes.specs.declared.change.Change.TheVariants.{Done};
+ghost use Rattle.budb_changes.specs.declared.change.Change.{Change};
+ghost use Rattle.budb_changes.specs.declared.change.Change.TheVariants.{Take, Done, Forget, Found};
 ghost use Rattle.budb_changes.specs.Bytes.{encoded};
 ghost use Rattle.budb_changes.specs.Forms.{AreChanges};
-ghost use Rattle.budb_fold.specs.Database.{has_dump, fits_record};
+ghost use Rattle.budb_fold.specs.Database.{has_dump, is_initial, without, fits_record, after};
 ghost use Rattle.budb_fold.specs.Lookups.{volume_of};
 ghost use Rattle.plant_core.specs.Crashes.{State};
+ghost use Rattle.plant_core.specs.Stock.{Stock};
 ghost use Rattle.plant_core.specs.Effects.{commits, puts, settles, cuts};
 ghost use Rattle.tape_frames.specs.declared.dump_head.DumpHeadFields.{DumpHeadFields};
 ghost use Rattle.tape_frames.specs.declared.label.LabelFields.{LabelFields};
@@ -22,9 +24,9 @@ ghost use Rattle.tape_text.specs.Wholes.{IsWhole, record_by};
 ghost use Rattle.tape_scan.specs.Scans.{IsClosedIn};
 ghost use Rattle.tape_scan.specs.Slots.{Slot, Located, IsClosedAt, IsBegunAt, IsFound};
 ghost use Rattle.archive_model.specs.Holding.{place_of, holds, HasNoHead};
-ghost use Rattle.archive_model.specs.Archives.{Archive, Refusal, listed_of, AreHeldOnce, IsKept};
+ghost use Rattle.archive_model.specs.Archives.{Archive, Refusal, listed_of, AreHeldOnce, IsKept, Holds};
 ghost use Rattle.archive_model.specs.Settled.{HoldsSettled, IsSettledOn, AreHeld};
-ghost use Rattle.archive_model.specs.Turns.{with_items, with_log, with_slot, with_contents, HasOwnHeads, IsFreshHead, GivesNext, remaining};
+ghost use Rattle.archive_model.specs.Turns.{with_items, with_log, with_slot, with_contents, HasOwnHeads, IsFreshHead, GivesNext, remaining, AllUntouched, is_one_of};
 ghost use Rattle.tape_frames.specs.declared.frame.Frame.TheVariants as frames;
 
 /// A put begins no part but the one whose head it is.
@@ -79,7 +81,7 @@ pub fn the_end_of_a_dump_is_held()
     ensures { (s : State) (a : Archive) (records : List DumpRecordFields) → HoldsSettled s a records → (k : ℕ) (t : Slot) → slice_get a.slots k ≡ Some t
         → (q : FoundPart) (d : DumpRecordFields) (parts : List Located) (contents : ℕ → List ℕ → Result VolumeFields Refusal)
         → IsClosedIn (t.items ++ Filemark ∷ []) q → q.end ≡ length t.items + 1 → IsFound (with_items k (t.items ++ Filemark ∷ []) a.slots) parts d → q.part.head.id ≡ d.id
-        → ((e : DumpRecordFields) → Contains records e → e.id < d.id) → HasOwnHeads (with_items k (t.items ++ Filemark ∷ []) a.slots) parts d.id
+        → ((e : DumpRecordFields) → Contains records e → e.id ≡ d.id → ⊥) → ((e : DumpRecordFields) → Contains records e → e.parent ≡ d.id → ⊥) → HasOwnHeads (with_items k (t.items ++ Filemark ∷ []) a.slots) parts d.id
         → ((l : Located) → Contains parts l → (l.slot ≡ k → ⊥) → l.found.end ≤ s.settled l.slot)
         → fits_record d (listed_of a) ≡ true → has_dump (listed_of a) d.id ≡ false → d.parent < d.id → AreChanges (Done d ∷ [])
         → ((id : ℕ) (name : List ℕ) → (id ≡ d.id → ⊥) → contents id name ≡ a.contents id name)
@@ -144,4 +146,23 @@ pub fn the_last_part_makes_a_dump_found()
         → All (IsClosedAt slots) own → IsClosedIn (t.items ++ more) q
         → let parts = own ++ record { slot = k; found = q } ∷ [] in
         IsWhole (map (λ l. l.found.part) parts) → record_by (map (λ l. l.found) parts) ≡ Some d → IsFound (with_items k (t.items ++ more) slots) parts d }
+{}
+
+/// An id above those of all dumps is none's, and none's parent.
+pub fn an_id_above_all_is_new()
+    ensures { (stock : Stock) (a : Archive) (records : List DumpRecordFields) (id : ℕ) → Holds stock a records → ((e : DumpRecordFields) → Contains records e → e.id < id)
+        → (e : DumpRecordFields) → Contains records e → (e.id ≡ id → ⊥) × (e.parent ≡ id → ⊥) }
+{}
+
+/// The dumps that remain were dumps.
+pub fn remaining_dumps_were_dumps()
+    ensures { (listed : List DumpRecordFields) (slots : List Slot) (records : List DumpRecordFields) (e : DumpRecordFields) → Contains (remaining listed slots records) e → Contains records e }
+{}
+
+/// The listed dumps behind changes that touch none, behind a take, behind forgets, and behind a record that fits.
+pub fn the_listed_dumps_behind_a_commit()
+    ensures untouched { (log cs : List Change) → AllUntouched cs → (after (log ++ cs)).listed ≡ (after log).listed }
+    ensures taken { (log cs : List Change) (initial : ℕ) → AllUntouched cs → (after (log ++ (cs ++ Take initial ∷ []))).listed ≡ without (is_initial initial) (after log).listed }
+    ensures forgotten { (log : List Change) (ids : List ℕ) → (after (log ++ map Forget ids)).listed ≡ without (is_one_of ids) (after log).listed }
+    ensures recorded { (log : List Change) (c : Change) (d : DumpRecordFields) → (c ≡ Done d) ⊎ (c ≡ Found d) → fits_record d (after log).listed ≡ true → (after (log ++ c ∷ [])).listed ≡ (after log).listed ++ d ∷ [] }
 {}
