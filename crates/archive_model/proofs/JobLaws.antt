@@ -73,7 +73,7 @@ with_same k [] s at = refl
 with_same zero (t ∷ slots) s at = (let same : s ≡ t = cc in ap (λ (x : Slot). record t { items = x.items } ∷ slots) same)
 with_same (suc k) (t ∷ slots) s at = ap (λ (l : List Slot). t ∷ l) (with_same k slots s at)
 
-slots_twice : (a : Archive) (k : ℕ) (xs ys : List Item) → with_slot (with_slot a k ys) k xs ≡ with_slot a k xs
+pub slots_twice : (a : Archive) (k : ℕ) (xs ys : List Item) → with_slot (with_slot a k ys) k xs ≡ with_slot a k xs
 slots_twice a k xs ys = ap (λ (l : List Slot). record { log = a.log; slots = l; contents = a.contents }) (with_twice k xs ys a.slots)
 
 pub remaining_among : (listed : List DumpRecordFields) (slots : List Slot) (records : List DumpRecordFields) (d : DumpRecordFields) → Contains (remaining listed slots records) d → Contains records d

@@ -13,6 +13,7 @@ pub mod ForgetLaws
 pub mod FoundLaws
 pub mod FromLaws
 pub mod GivenLaws
+pub mod GrowLaws
 pub mod HeldLaws
 pub mod HereLaws
 pub mod HoldLaws

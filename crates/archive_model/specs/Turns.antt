@@ -46,6 +46,17 @@ IsFreshHead slots i = (h : DumpHeadFields) → i ≡ Says (frames.DumpHead h) �
 abbrev pub EndsNoPart : List Item → Item → Type 0
 EndsNoPart items i = i ≡ Filemark → (before : List Item) (e : DumpEndFields) → items ≡ before ++ Says (frames.DumpEnd e) ∷ [] → ⊥
 
+-- a frame that stands within a part
+abbrev pub IsWithinPart : Item → Type 0
+IsWithinPart (Says (frames.Label a)) = ⊥
+IsWithinPart (Says (frames.DumpHead a)) = ⊥
+IsWithinPart (Says (frames.VolHead a)) = Unit {0}
+IsWithinPart (Says (frames.Data a)) = Unit {0}
+IsWithinPart (Says (frames.VolEnd a)) = Unit {0}
+IsWithinPart (Says (frames.DumpEnd a)) = ⊥
+IsWithinPart Filemark = ⊥
+IsWithinPart Nothing = ⊥
+
 -- each head of this id, wherever it stands, is that of one of these parts
 abbrev pub HasOwnHeads : List Slot → List Located → ℕ → Type 0
 HasOwnHeads slots parts id =

@@ -29,7 +29,7 @@ pub use plays::{
     what_is_played_is_looked_up, what_was_written_is_given, what_was_written_plays_to_its_clone,
 };
 pub use sources::{a_dump_keeps_its_cell_fair, a_fair_cell_gives_clones};
-pub use steps::{
+pub use steps::{ frames_within_a_part_are_held, an_id_above_all_heads_is_new,
     a_cut_keeps_own_heads, a_filemark_closes_its_part_alone, a_label_is_held,
     a_put_begins_its_head_alone, a_put_keeps_own_heads, a_taken_tape_is_held,
     an_appended_tape_is_held, an_id_above_all_is_new, own_heads_are_not_anew,

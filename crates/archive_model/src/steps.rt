@@ -25,8 +25,8 @@ ghost use Rattle.tape_scan.specs.Scans.{IsClosedIn};
 ghost use Rattle.tape_scan.specs.Slots.{Slot, Located, IsClosedAt, IsBegunAt, IsFound};
 ghost use Rattle.archive_model.specs.Holding.{place_of, holds, HasNoHead};
 ghost use Rattle.archive_model.specs.Archives.{Archive, Refusal, listed_of, AreHeldOnce, IsKept, Holds};
-ghost use Rattle.archive_model.specs.Settled.{HoldsSettled, IsSettledOn, AreHeld};
-ghost use Rattle.archive_model.specs.Turns.{with_items, with_log, with_slot, with_contents, HasOwnHeads, IsFreshHead, GivesNext, remaining, AllUntouched, is_one_of};
+ghost use Rattle.archive_model.specs.Settled.{HoldsSettled, IsSettledOn, AreHeld, growing};
+ghost use Rattle.archive_model.specs.Turns.{with_items, with_log, with_slot, with_contents, HasOwnHeads, IsFreshHead, IsWithinPart, GivesNext, remaining, AllUntouched, is_one_of};
 ghost use Rattle.tape_frames.specs.declared.frame.Frame.TheVariants as frames;
 
 /// A put begins no part but the one whose head it is.
@@ -165,4 +165,21 @@ pub fn the_listed_dumps_behind_a_commit()
     ensures taken { (log cs : List Change) (initial : ℕ) → AllUntouched cs → (after (log ++ (cs ++ Take initial ∷ []))).listed ≡ without (is_initial initial) (after log).listed }
     ensures forgotten { (log : List Change) (ids : List ℕ) → (after (log ++ map Forget ids)).listed ≡ without (is_one_of ids) (after log).listed }
     ensures recorded { (log : List Change) (c : Change) (d : DumpRecordFields) → (c ≡ Done d) ⊎ (c ≡ Found d) → fits_record d (after log).listed ≡ true → (after (log ++ c ∷ [])).listed ≡ (after log).listed ++ d ∷ [] }
+{}
+
+/// Frames within a part that are put one behind another keep all.
+pub fn frames_within_a_part_are_held()
+    ensures { (s : State) (a : Archive) (records : List DumpRecordFields) (k : ℕ) (t : Slot) → slice_get a.slots k ≡ Some t → (items more : List Item)
+        → All IsWithinPart more → All IsFitItem more → HoldsSettled s (with_slot a k items) records
+        → AreHeld s (map (λ i. puts k (record_for i)) more) (growing a records k items more) }
+{}
+
+/// Where all heads on tapes have ids below one, and the greatest id that was begun or recorded is below it too, it is above the
+/// ids of all dumps, and no head has it.
+pub fn an_id_above_all_heads_is_new()
+    ensures above { (stock : Stock) (a : Archive) (records : List DumpRecordFields) (id : ℕ) → Holds stock a records
+        → ((k : ℕ) (s : Slot) (n : ℕ) (h : DumpHeadFields) → slice_get a.slots k ≡ Some s → slice_get s.items n ≡ Some (Says (frames.DumpHead h)) → h.id < id)
+        → (after a.log).greatest < id → (e : DumpRecordFields) → Contains records e → e.id < id }
+    ensures none { (slots : List Slot) (id : ℕ)
+        → ((k : ℕ) (s : Slot) (n : ℕ) (h : DumpHeadFields) → slice_get slots k ≡ Some s → slice_get s.items n ≡ Some (Says (frames.DumpHead h)) → h.id < id) → HasOwnHeads slots [] id }
 {}
