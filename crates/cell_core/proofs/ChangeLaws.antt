@@ -22,7 +22,7 @@ use Rattle.cell_core.specs.Vnodes.{number_order, number_of_vnode, vnode_of, with
 use Rattle.cell_core.specs.Volumes.{within_limits, updated_header, updated_volume, written_over}
 use Rattle.cell_core.specs.Changing.{volume_from}
 use Rattle.cell_core.proofs.OrderLaws.{found_at, placed_found, placed_free}
-use Rattle.cell_core.proofs.VnodeLaws.{kept_in, number_order_total, volume_with, volume_less, are_ascending}
+use Rattle.cell_core.proofs.VnodeLaws.{kept_in, number_order_total, equal_same, volume_with, volume_less, are_ascending}
 
 -- ---- limits
 
@@ -50,9 +50,6 @@ limits_data body volume large =
     (and_right (nat_le (length volume.vnodes) most_vnodes) (nat_le (data_of volume.vnodes) all_data) (lt-leb (data_of volume.vnodes) all_data large)))
 
 -- ---- a vnode that is there
-
-same_number : (m n : ℕ) → number_order m n ≡ Equal → m ≡ n
-same_number m n h = grind (arith, nat_tests)
 
 module _ (vs : List Vnode) (at : ℕ) (v : Vnode) (body : List ℕ) (now : ℕ) (fit : AreVolume vs) (within : at < length vs) (v_is : v ≡ get_or vs at v) where
   -- the data of all, with the new data in place of the old

@@ -4,9 +4,9 @@ use Rattle.std.specs.Prelude.{not, filter, All, AllPairs, sum_by}
 use Rattle.std.specs.Ordering.{is_eq}
 use Rattle.std.proofs.lemmas.List.Elements.{All-nil, All-cons, All-head, All-tail}
 use Rattle.std.proofs.lemmas.List.Sums.{sum_by-cons}
-use Rattle.std.specs.declared.cmp.Ordering.TheVariants.{Less}
+use Rattle.std.specs.declared.cmp.Ordering.TheVariants.{Less, Equal}
 use Rattle.std.specs.Cmp.{IsTotalOrder}
-use Rattle.std.proofs.lemmas.Cmp.{nat_cmp_total, on_total, then_total, back_total}
+use Rattle.std.proofs.lemmas.Cmp.{nat_cmp_total, on_total, then_total, back_total, tied_itself}
 use Rattle.std.proofs.lemmas.List.{length-map}
 use Rattle.std.proofs.lemmas.Bool.Decides.{nat_tests}
 use Rattle.vnode_model.specs.declared.increments.Entry.TheVariants.{Whole}
@@ -26,6 +26,12 @@ stands_is m n (inr h) = grind (arith, nat_tests)
 
 pub is_stands : (m n : ℕ) → number_order m n ≡ Less → StandsBefore m n
 is_stands m n h = grind (arith, nat_tests)
+
+pub equal_same : (m n : ℕ) → number_order m n ≡ Equal → m ≡ n
+equal_same m n h = grind (arith, nat_tests)
+
+pub same_equal : (m n : ℕ) → m ≡ n → number_order m n ≡ Equal
+same_equal m n is = subst (λ (k : ℕ). number_order m k ≡ Equal) is (tied_itself number_order_total m)
 
 -- the numbers of vnodes, one by one
 number_at : (vs : List Vnode) (i d : ℕ) (v : Vnode) → i < length vs → get_or (map number_of (map Whole vs)) i d ≡ (get_or vs i v).number

@@ -7,7 +7,7 @@ use Rattle.vnode_model.specs.declared.vnodes.VnodeKind.TheVariants.{File, Direct
 use Rattle.vnode_model.specs.declared.vnodes.Vnode.{Vnode}
 use Rattle.cell_core.specs.Orders.{of_key, placed, without_key}
 
--- directories, which have odd numbers, come first, each class in ascending order
+-- the order in which a volume's vnodes stand (`StandsBefore`, which a law proves it to be), as a comparison that lookups go by
 abbrev pub number_order : ℕ → ℕ → Ordering
 number_order m n = ordering_then (nat_cmp (n % 2) (m % 2)) (nat_cmp m n)
 

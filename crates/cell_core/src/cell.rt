@@ -6,6 +6,7 @@ ghost use Rattle.cell_core.specs.Cells.{IsCell};
 ghost use Rattle.cell_core.specs.Calls.{entry_at, clone_at, is_good, after_create, after_put, after_write, after_remove_vnode, after_backup, after_remove};
 ghost use Rattle.crash_moments.specs.Moments.{HasCauseAt};
 ghost use Rattle.cell_core.specs.Answers.{Changes, Creates, OnlyFromOutside};
+ghost use Rattle.cell_core.specs.Listings.{most_volumes};
 
 use crate::fault::CellFault;
 use crate::stored::Taken;
@@ -103,5 +104,5 @@ pub trait Cell {
     ghost sized: { (s : Self) → tells → size s ≡ length (list s) };
 
     /// There are at most 65,536 volumes.
-    ghost few: { (s : Self) → size s ≤ 65536 };
+    ghost few: { (s : Self) → size s ≤ most_volumes };
 }

@@ -14,14 +14,9 @@ use crate::places::place_of_number;
 use crate::vnodes::{data_of, kib_of, made_vnode, rewrite};
 use bk_text::{Bytes, List};
 use std::alloc::Global;
-use vnode_model::{HeaderFields, Vnode, VolHeader, Volume, VolumeFields};
-
-/// The bytes of one vnode's data, of all of a volume's, and its vnodes.
-const MOST_DATA: usize = 16_777_216;
-
-const ALL_DATA: usize = 268_435_456;
-
-const MOST_VNODES: usize = 65_536;
+use vnode_model::{
+    ALL_DATA, HeaderFields, MOST_DATA, MOST_VNODES, Vnode, VolHeader, Volume, VolumeFields,
+};
 
 /// A change of a volume's vnodes.
 #[derive(Clone, Copy, Debug)]

@@ -1,17 +1,25 @@
 //! What holds of a cell's list after each call, whichever cell made it.
 
-ghost use Rattle.std.specs.Prelude.{◌≡◌, ◌⊎◌, ℕ, ◌+◌, ◌*◌, ◌^◌, ◌<◌, ◌≤◌, List, ◌∷◌, Contains, Option, Some, Result, Ok};
+ghost use Rattle.std.specs.Prelude.{◌≡◌, ◌↔◌, ◌⊎◌, ℕ, ◌+◌, ◌*◌, ◌^◌, ◌<◌, ◌≤◌, List, ◌∷◌, Contains, Option, Some, Result, Ok};
 ghost use Rattle.vnode_model.specs.declared.volumes.VolumeFields.{VolumeFields};
-ghost use Rattle.vnode_model.specs.Limits.{AreVolume};
+ghost use Rattle.std.specs.declared.cmp.Ordering.TheVariants.{Less, Equal};
+ghost use Rattle.vnode_model.specs.Limits.{AreVolume, StandsBefore};
 ghost use Rattle.cell_core.specs.declared.fault.CellFault.{CellFault};
 ghost use Rattle.cell_core.specs.declared.stored.Stored.{Stored};
 ghost use Rattle.cell_core.specs.declared.stored.Image.TheVariants.{Good};
 ghost use Rattle.cell_core.specs.declared.stored.Taken.{Taken};
+ghost use Rattle.cell_core.specs.Vnodes.{number_order};
 ghost use Rattle.cell_core.specs.Volumes.{backup_name};
 ghost use Rattle.cell_core.specs.Cells.{IsCell, free_id_in};
 ghost use Rattle.cell_core.specs.Calls.{Creation, after_create, after_put, after_write, after_remove_vnode, after_backup, after_remove, clone_at};
 ghost use Rattle.cell_core.specs.Answers.{Changes, Creates};
 ghost use Rattle.cell_core.specs.Fairness.{Dumped, dumped_from, IsFairTo, Fair, NoneIsMadeAfter, IsNoSourceUnder, NoSourceHasBackupName};
+
+/// A vnode is looked up by the order in which a volume's vnodes stand.
+pub fn vnodes_are_looked_up_in_their_order()
+    ensures before { (m n : ℕ) → (number_order m n ≡ Less ↔ StandsBefore m n) }
+    ensures same { (m n : ℕ) → (number_order m n ≡ Equal ↔ m ≡ n) }
+{}
 
 /// A call leaves the list as it was, or what its function makes of it.
 pub fn a_call_leaves_its_list()

@@ -29,7 +29,7 @@ pub use laws::{
     a_dump_keeps_a_cell_fair, a_new_id_is_the_least_above_all, a_new_volume_keeps_a_cell_fair,
     a_put_volume_keeps_a_cell_fair, a_removed_vnode_keeps_a_cell_fair,
     a_removed_volume_keeps_a_cell_fair, fewer_dumps_keep_a_cell_fair, time_keeps_a_cell_fair,
-    written_data_keeps_a_cell_fair,
+    vnodes_are_looked_up_in_their_order, written_data_keeps_a_cell_fair,
 };
 pub use listed::{Listed, backup_id, free_id, is_full, new_id, place_of};
 pub use mem::CellMem;

@@ -6,14 +6,19 @@ ghost use Rattle.cell_core.specs.Places.{FoundAt, FreeAt};
 ghost use Rattle.cell_core.specs.Vnodes.{number_order, number_of_vnode};
 
 use std::cmp::Ordering;
-use vnode_model::Vnode;
+use vnode_model::{Vnode, stands_before};
 
-/// How two numbers of vnodes are ordered: directories, which have odd numbers, come first, each class in ascending
-/// order.
+/// How two numbers of vnodes stand to each other in a volume.
 fn number_order(first: u32, second: u32) -> Ordering
     ensures { result ≡ number_order first second }
 {
-    (second % 2).cmp(&(first % 2)).then(first.cmp(&second))
+    if stands_before(first, second) {
+        Ordering::Less
+    } else if first == second {
+        Ordering::Equal
+    } else {
+        Ordering::Greater
+    }
 }
 
 /// Where a number stands, or where it would stand.

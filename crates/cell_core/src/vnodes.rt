@@ -1,7 +1,7 @@
 //! What a file server makes of vnodes. The rules are this project's own.
 
 ghost use Rattle.std.specs.Prelude.{◌≡◌, ◌≤◌};
-ghost use Rattle.vnode_model.specs.Limits.{AreVolume};
+ghost use Rattle.vnode_model.specs.Limits.{AreVolume, all_data};
 ghost use Rattle.vnode_model.specs.Increments.{data_of};
 ghost use Rattle.cell_core.specs.Vnodes.{first_directory, kind_of_number, made_vnode, rewritten_vnode, kib_of};
 
@@ -78,10 +78,13 @@ pub(crate) fn rewrite(vnode: &mut Vnode, body: Bytes, now: u32)
 pub(crate) fn data_of(vnodes: &[Vnode]) -> usize
     requires { AreVolume vnodes.now }
     ensures value { result ≡ data_of vnodes.now }
-    ensures small { result ≤ 268435456 }
+    ensures small { result ≤ all_data }
 {
     vnodes.iter().map(|vnode| vnode.body.len()).sum()
 }
+
+/// The bytes of one KiB.
+const KIB: usize = 1024;
 
 /// What the vnodes use of a disk: each one's data in KiB, rounded up.
 pub(crate) fn kib_of(vnodes: &[Vnode]) -> u32
@@ -90,7 +93,7 @@ pub(crate) fn kib_of(vnodes: &[Vnode]) -> u32
 {
     let mut kib = 0;
     for vnode in vnodes {
-        kib += vnode.body.len().div_ceil(1024) as u32;
+        kib += vnode.body.len().div_ceil(KIB) as u32;
     }
     kib
 }
