@@ -1,5 +1,6 @@
 -- What a run does.
-use Rattle.std.specs.Prelude.{◌≡◌, ◌⊎◌, ℕ, ◌+◌, ◌<◌, ◌≤◌, List, [], ◌∷◌, ◌++◌, length, map, codes, String}
+use Rattle.std.specs.Prelude.{◌≡◌, ◌⊎◌, ℕ, ◌+◌, ◌<◌, ◌≤◌, List, [], ◌∷◌, ◌++◌, length, map, codes, String, Option}
+use Rattle.std.specs.Io.KnownBytes.{Appends}
 use Rattle.std.specs.String.{string_bytes}
 use Rattle.std.specs.declared.alloc.Global.{Global}
 use Rattle.crash_moments.specs.Moments.{Moments, Leads}
@@ -12,6 +13,10 @@ use Rattle.dump_stream.specs.Inputs.{IsInput}
 use Rattle.backup_top.specs.Inputs.{TookUpTo, most_input}
 use Rattle.backup_top.specs.Replies.{lines_of, usage_line}
 use Rattle.backup_top.specs.Tells.{ToldFront, TellsOn}
+
+-- What an output holds has only grown, where that is known.
+abbrev pub Grows : Option (List ℕ) → Option (List ℕ) → Type 0
+Grows old new = (more : List ℕ) × Appends old new more
 
 -- the words are examine alone
 abbrev pub IsExamine : List (String Global) → Type 0

@@ -1,11 +1,11 @@
 //! The program over what it reads and what it prints to.
 
-ghost use Rattle.std.specs.Prelude.{◌≡◌, ◌≢◌, ◌⊎◌, OnOk, MatchOption};
+ghost use Rattle.std.specs.Prelude.{◌≡◌, ◌≢◌, ◌⊎◌, None, OnOk, MatchOption};
 ghost use Rattle.std.specs.Io.KnownBytes.{Keeps, Appends};
 ghost use Rattle.crash_moments.specs.Moments.{Rose};
 ghost use Rattle.backup_top.specs.Statuses.{line_of_status};
 ghost use Rattle.backup_top.specs.Replies.{usage_line};
-ghost use Rattle.backup_top.specs.Runs.{IsExamine};
+ghost use Rattle.backup_top.specs.Runs.{IsExamine, Grows};
 ghost use Rattle.backup_top.specs.declared.status.Status.TheVariants.{Usage, ReadFault, Memory, OutputFault};
 
 use crate::status::Status;
@@ -19,7 +19,8 @@ use std::io::{self, ErrorKind, Read, Write};
 /// How many files the media in memory have: the journal and four tapes.
 const FILES: u32 = 5;
 
-/// The words after the program's name; none where some word is not text.
+/// The words after the program's name; none where some word is not text. The toolchain names no words of an environment, so
+/// that no clause can say which they are: the tests over fakes do.
 fn words_of<R: Env + AllocGlobal>(rt: &R) -> Result<Vec<String>, AllocError> {
     let mut words = Vec::new(rt.alloc());
     let args = match env::args(rt) {
@@ -46,6 +47,7 @@ fn print_told<O: Write>(output: &mut O, told: &[u8], status: Status) -> Status
 
 /// Prints the line of a status that nothing told. Where it can't be printed the exit status alone says it.
 fn explain<E: Write>(errors: &mut E, status: Status) -> io::Result<()>
+    ensures quiet { line_of_status status ≡ None → errors.new ≡ errors.old }
     ensures line { OnOk result (MatchOption (line_of_status status) (Keeps (E.contents errors.old) (E.contents errors.new)) (λ text. Appends (E.contents errors.old) (E.contents errors.new) text)) }
 {
     match status.line() {
@@ -64,6 +66,7 @@ fn run_over<I: Read + Drop, O: Write>(
     ensures usage { result ≡ Usage → IsExamine words.now.items → ⊥ }
     ensures other_words { (IsExamine words.now.items → ⊥) → ((result ≡ Usage) ⊎ (result ≡ OutputFault) ⊎ (result ≡ Memory)) × (source.new ≡ source.old) }
     ensures usage_line { result ≡ Usage → Appends (O.contents output.old) (O.contents output.new) usage_line }
+    ensures grows { result ≢ OutputFault → Grows (O.contents output.old) (O.contents output.new) }
     ensures read_fault { result ≡ ReadFault → Rose source.old.faults source.new.faults }
 {
     let Ok(media) = MemMedia::new(alloc, FILES) else {
@@ -74,13 +77,17 @@ fn run_over<I: Read + Drop, O: Write>(
 }
 
 /// Runs on an input with the words after the program's name. What is told goes to the output, and to the errors one line
-/// where a run told nothing that says how it ended.
+/// where a run told nothing that says how it ended. Where the output refused some of it, a front of it may be there.
 pub fn program<R: Env + AllocGlobal, I: Read + Drop, O: Write, E: Write>(
     rt: &R,
     input: I,
     output: &mut O,
     errors: &mut E,
-) -> Status {
+) -> Status
+    ensures usage_line { result ≡ Usage → Appends (O.contents output.old) (O.contents output.new) usage_line }
+    ensures grows { result ≢ OutputFault → Grows (O.contents output.old) (O.contents output.new) }
+    ensures quiet { line_of_status result ≡ None → errors.new ≡ errors.old }
+{
     let mut source = StdSource::new(input);
     let status = match words_of(rt) {
         Ok(words) => run_over(rt.alloc(), &words, &mut source, output),

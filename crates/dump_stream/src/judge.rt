@@ -19,7 +19,8 @@ pub fn byte_or(bytes: &[u8], at: usize, other: u8) -> u8
     }
 }
 
-/// The number of four bytes that begins at this place.
+/// The number of four bytes that begins at this place. Bytes that aren't there count as 0: a number is judged byte by byte as it
+/// comes, and so is read by std's `from_be_bytes` and not whole by the crate `byteorder`.
 pub fn number_at(bytes: &[u8], at: usize) -> u32
     requires { at < 1000 }
     ensures { result ≡ number_from at bytes.now }
