@@ -13,17 +13,17 @@ pub record Taking {D : Type 0} (tells : Type 0) (left : D → List ℕ) (faults 
   pub holds : HasTaken bytes intake
   pub few : length bytes ≤ most_input + 1
   pub is : tells → left old ≡ bytes ++ left new
-  pub later : faults old ≤ faults new
+  pub same : faults new ≡ faults old
 
 module _ {D : Type 0} (tells : Type 0) (left : D → List ℕ) (faults : D → ℕ) (old mid new : D) where
   -- one piece more
-  pub taking_more : (before after : InputReader) (room : ℕ) (so_far : Taking tells left faults old mid before) → room + length so_far.bytes ≤ most_input + 1 → TookPiece tells (left mid) (left new) room so_far.bytes after → faults mid ≤ faults new → Taking tells left faults old new after
-  taking_more before after room so_far few took later = record {
+  pub taking_more : (before after : InputReader) (room : ℕ) (so_far : Taking tells left faults old mid before) → room + length so_far.bytes ≤ most_input + 1 → TookPiece tells (left mid) (left new) room so_far.bytes after → faults new ≡ faults mid → Taking tells left faults old new after
+  taking_more before after room so_far few took same = record {
     bytes = so_far.bytes ++ took.piece;
     holds = took.holds;
     few = omega (arith, length-append so_far.bytes took.piece, took.few, few);
     is = λ told. so_far.is told ∙ ap (λ (l : List ℕ). so_far.bytes ++ l) (took.is told) ∙ sym (append_assoc so_far.bytes took.piece (left new));
-    later = omega (arith, so_far.later, later);
+    same = same ∙ so_far.same;
   }
 
   -- a read failed or memory ran out behind what was taken

@@ -68,6 +68,7 @@ fn run_over<I: Read + Drop, O: Write>(
     ensures usage_line { result ≡ Usage → Appends (O.contents output.old) (O.contents output.new) usage_line }
     ensures grows { result ≢ OutputFault → Grows (O.contents output.old) (O.contents output.new) }
     ensures read_fault { result ≡ ReadFault → Rose source.old.faults source.new.faults }
+    ensures no_fault { (result ≢ ReadFault) × (result ≢ OutputFault) → source.new.faults ≡ source.old.faults }
 {
     let Ok(media) = MemMedia::new(alloc, FILES) else {
         return Status::Memory;

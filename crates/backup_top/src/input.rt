@@ -1,7 +1,7 @@
 //! Reading an input to its end.
 
 ghost use Rattle.std.specs.Prelude.{◌≡◌, ◌≢◌, ℕ, ◌+◌, ◌^◌, ◌<◌, ◌≤◌, List, [], length, IfOk, Err};
-ghost use Rattle.crash_moments.specs.Moments.{Rose};
+ghost use Rattle.crash_moments.specs.Moments.{HasCauseAt};
 ghost use Rattle.backup_top.specs.Inputs.{ReadsInput};
 ghost use Rattle.dump_stream.specs.Inputs.{HasTaken};
 ghost use Rattle.backup_top.specs.Intakes.{TakesNext, TakesAll};
@@ -42,8 +42,7 @@ fn take_next<S: Source>(
     requires held { (bytes : List ℕ) × HasTaken bytes input.old }
     ensures taken { (bytes : List ℕ) → HasTaken bytes input.old → length bytes + length into.old < 2 ^ 64
         → TakesNext S.tells (S.left source.old) (S.left source.new) (length into.old) bytes input.new result }
-    ensures cause { result ≡ Err Failed → Rose (S.faults source.old) (S.faults source.new) }
-    ensures later { S.faults source.old ≤ S.faults source.new }
+    ensures cause { HasCauseAt Failed (S.faults source.old) (S.faults source.new) result }
     ensures few { result ≢ Err TooLong }
 {
     match source.read(into) {
@@ -69,8 +68,7 @@ fn take_all<S: Source>(
     requires room { (0 < length buffer.old) × (length buffer.old < 2 ^ 32) }
     requires held { HasTaken [] input.old }
     ensures taken { TakesAll S.tells (S.left source.old) (S.left source.new) input.new result }
-    ensures cause { result ≡ Err Failed → Rose (S.faults source.old) (S.faults source.new) }
-    ensures later { S.faults source.old ≤ S.faults source.new }
+    ensures cause { HasCauseAt Failed (S.faults source.old) (S.faults source.new) result }
 {
     while input.taken() <= MOST {
         let room = buffer.len().min(MOST + 1 - input.taken());
@@ -97,8 +95,7 @@ fn room_for(alloc: Global, count: usize) -> Result<Vec<u8>, AllocError>
 /// Reads an input to its end.
 pub fn read_input<S: Source>(alloc: Global, source: &mut S) -> Result<Input, ReadStop>
     ensures read { S.tells → ReadsInput (S.left source.old) (S.left source.new) result }
-    ensures cause { result ≡ Err Failed → Rose (S.faults source.old) (S.faults source.new) }
-    ensures later { S.faults source.old ≤ S.faults source.new }
+    ensures cause { HasCauseAt Failed (S.faults source.old) (S.faults source.new) result }
 {
     match room_for(alloc, PIECE) {
         Err(_) => Err(ReadStop::Memory),

@@ -2,7 +2,7 @@
 
 ghost use Rattle.std.specs.Prelude.{◌≡◌, ◌++◌, ℕ, List, length, IfOk, OnErr, Err};
 ghost use Rattle.std.specs.List.{flat_map};
-ghost use Rattle.crash_moments.specs.Moments.{Leads, Rose};
+ghost use Rattle.crash_moments.specs.Moments.{Leads, HasCause, HasCauseAt};
 ghost use Rattle.backup_top.specs.Tells.{ToldLines, TellsOn, OnlyTells};
 ghost use Rattle.backup_top.specs.Replies.{entry_line, stream_lines, lines_of};
 ghost use Rattle.backup_top.specs.declared.telling.TellStop.TheVariants.{Refused};
@@ -31,7 +31,7 @@ pub fn tell_all<M: Media>(media: &mut M, piece: &[u8]) -> Result<(), Failed>
     ensures told { M.tells → ToldLines piece.now (M.seen media.old).told (M.seen media.new).told result }
     ensures images { M.tells → Leads M.time media.old media.new (TellsOn piece.now (M.seen media.old).told) }
     ensures only { OnlyTells M.tells M.seen M.time M.count M.present M.faults M.tell_faults media.old media.new }
-    ensures cause { OnErr result (Rose (M.tell_faults media.old) (M.tell_faults media.new)) }
+    ensures cause { HasCause (M.tell_faults media.old) (M.tell_faults media.new) result }
 {
     let mut at = 0;
     while at < piece.len() {
@@ -48,7 +48,7 @@ fn tell_line<M: Media>(media: &mut M, line: Result<Bytes, AllocError>) -> Result
     ensures told { (text : List ℕ) → IfOk line (λ bytes. bytes ≡ text) → M.tells → ToldLines text (M.seen media.old).told (M.seen media.new).told result }
     ensures images { (text : List ℕ) → IfOk line (λ bytes. bytes ≡ text) → M.tells → Leads M.time media.old media.new (TellsOn text (M.seen media.old).told) }
     ensures only { OnlyTells M.tells M.seen M.time M.count M.present M.faults M.tell_faults media.old media.new }
-    ensures cause { result ≡ Err Refused → Rose (M.tell_faults media.old) (M.tell_faults media.new) }
+    ensures cause { HasCauseAt Refused (M.tell_faults media.old) (M.tell_faults media.new) result }
 {
     match line {
         Err(_) => Err(TellStop::Memory),
@@ -64,7 +64,7 @@ fn tell_entries<M: Media>(alloc: Global, media: &mut M, entries: &[Entry]) -> Re
     ensures told { M.tells → ToldLines (flat_map entry_line entries.now) (M.seen media.old).told (M.seen media.new).told result }
     ensures images { M.tells → Leads M.time media.old media.new (TellsOn (flat_map entry_line entries.now) (M.seen media.old).told) }
     ensures only { OnlyTells M.tells M.seen M.time M.count M.present M.faults M.tell_faults media.old media.new }
-    ensures cause { result ≡ Err Refused → Rose (M.tell_faults media.old) (M.tell_faults media.new) }
+    ensures cause { HasCauseAt Refused (M.tell_faults media.old) (M.tell_faults media.new) result }
 {
     for entry in entries {
         match tell_line(media, line_of_entry(alloc, entry)) {
@@ -84,7 +84,7 @@ fn tell_stream<M: Media>(
     ensures told { M.tells → ToldLines (stream_lines increment.now) (M.seen media.old).told (M.seen media.new).told result }
     ensures images { M.tells → Leads M.time media.old media.new (TellsOn (stream_lines increment.now) (M.seen media.old).told) }
     ensures only { OnlyTells M.tells M.seen M.time M.count M.present M.faults M.tell_faults media.old media.new }
-    ensures cause { result ≡ Err Refused → Rose (M.tell_faults media.old) (M.tell_faults media.new) }
+    ensures cause { HasCauseAt Refused (M.tell_faults media.old) (M.tell_faults media.new) result }
 {
     match tell_line(media, line_of_volume(alloc, increment)) {
         Err(stop) => Err(stop),
@@ -100,7 +100,7 @@ pub fn tell_input<M: Media>(alloc: Global, media: &mut M, input: &Input) -> Resu
     ensures told { M.tells → ToldLines (lines_of input.now) (M.seen media.old).told (M.seen media.new).told result }
     ensures images { M.tells → Leads M.time media.old media.new (TellsOn (lines_of input.now) (M.seen media.old).told) }
     ensures only { OnlyTells M.tells M.seen M.time M.count M.present M.faults M.tell_faults media.old media.new }
-    ensures cause { result ≡ Err Refused → Rose (M.tell_faults media.old) (M.tell_faults media.new) }
+    ensures cause { HasCauseAt Refused (M.tell_faults media.old) (M.tell_faults media.new) result }
 {
     match input {
         Input::Stream(increment) => tell_stream(alloc, media, increment),

@@ -49,7 +49,9 @@ fn examine<M: Media, S: Source>(alloc: Global, media: &mut M, source: &mut S) ->
     ensures told { S.tells → M.tells → Examines (passage S.left M.seen M.time source.old source.new media.old media.new) result }
     ensures only { OnlyTells M.tells M.seen M.time M.count M.present M.faults M.tell_faults media.old media.new }
     ensures read_fault { result ≡ ReadFault → Rose (S.faults source.old) (S.faults source.new) }
+    ensures no_read_fault { result ≢ ReadFault → S.faults source.new ≡ S.faults source.old }
     ensures output_fault { result ≡ OutputFault → Rose (M.tell_faults media.old) (M.tell_faults media.new) }
+    ensures no_output_fault { result ≢ OutputFault → M.tell_faults media.new ≡ M.tell_faults media.old }
     ensures later { S.faults source.old ≤ S.faults source.new }
     ensures no_usage { result ≢ Usage }
 {
@@ -71,6 +73,7 @@ fn tell_usage<M: Media>(media: &mut M) -> Status
     ensures images { M.tells → Leads M.time media.old media.new (TellsOn usage_line (M.seen media.old).told) }
     ensures only { OnlyTells M.tells M.seen M.time M.count M.present M.faults M.tell_faults media.old media.new }
     ensures output_fault { result ≡ OutputFault → Rose (M.tell_faults media.old) (M.tell_faults media.new) }
+    ensures no_output_fault { result ≢ OutputFault → M.tell_faults media.new ≡ M.tell_faults media.old }
     ensures usage { (result ≡ Usage) ⊎ (result ≡ OutputFault) }
 {
     match tell_all(media, USAGE) {
@@ -100,9 +103,11 @@ pub fn run<M: Media, S: Source>(
     // The files stay, and no count of faults falls.
     ensures only { OnlyTells M.tells M.seen M.time M.count M.present M.faults M.tell_faults media result.1 }
     ensures source_faults { S.faults source.old ≤ S.faults source.new }
-    // Each fault has its cause.
+    // Each fault has its cause, and no count rises at another status.
     ensures read_fault { result.0 ≡ ReadFault → Rose (S.faults source.old) (S.faults source.new) }
+    ensures no_read_fault { result.0 ≢ ReadFault → S.faults source.new ≡ S.faults source.old }
     ensures output_fault { result.0 ≡ OutputFault → Rose (M.tell_faults media) (M.tell_faults result.1) }
+    ensures no_output_fault { result.0 ≢ OutputFault → M.tell_faults result.1 ≡ M.tell_faults media }
 {
     let mut media = media;
     if is_examine(words) {

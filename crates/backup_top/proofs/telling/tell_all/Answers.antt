@@ -21,6 +21,7 @@ loop-at-preserved g c =
         faults_stay = omega (arith, c.in-Ok.ensures.faults, only.faults_stay);
         tell_faults_stay = omega (arith, c.in-Ok.ensures.cause.later, only.tell_faults_stay);
       },
+      c.in-Ok.ensures.cause.stays ∙ c.loop-at.invariant.2,
     )
 
 pub returns-in-Err-clause-told : goal.returns-in-Err-clause-told

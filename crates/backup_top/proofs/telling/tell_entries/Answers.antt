@@ -1,4 +1,4 @@
-use Rattle.std.proofs.Common.{ap, arith}
+use Rattle.std.proofs.Common.{◌∙◌, ap, arith}
 use Rattle.std.specs.List.{flat_map}
 use Rattle.std.proofs.lemmas.List.{take_all}
 use Rattle.backup_top.specs.Replies.{entry_line}
@@ -19,6 +19,7 @@ loop-entry-preserved g c = (
     only_more _ _ _ _ _ _ _ _ _ _ c.loop-entry.invariant.1.0 c.in-Ok.ensures.only,
     λ told. on_same g.M.Media.time _ _ _ _ _ (lines_upto entry_line c.args.entries.now c.loop-entry.entry-index c.entry-item.result c.loop-entry-test.true c.entry-item.is)
         (on_both g.M.Media.time _ _ _ _ c.args.media.now _ _ (c.loop-entry.invariant.0 told) (c.loop-entry.invariant.1.1 told) (c.in-Ok.ensures.images _ c.line_of_entry.ensures told)),
+    c.in-Ok.ensures.cause.stays (λ is. absurd (cc)) ∙ c.loop-entry.invariant.1.2,
   ),
 )
 
