@@ -1,0 +1,9 @@
+pub mod Refusals
+pub mod Texts
+pub mod Streams
+pub mod Levels
+pub mod Volumes
+pub mod Labels
+pub mod Sets
+pub mod Hosts
+pub mod WordRefusals

@@ -1,0 +1,27 @@
+//! The texts that the program tells: the table of refusals, the lines of replies, and the reply to a line that is no
+//! command.
+#![tactic(auto)]
+
+mod faults;
+mod hosts;
+mod labels;
+mod levels;
+mod putting;
+mod refusals;
+mod refused;
+mod sets;
+mod streams;
+mod told;
+mod volumes;
+
+pub use faults::fault_line;
+pub use hosts::hosts_lines;
+pub use labels::{label_lines, labeled_lines};
+pub use levels::levels_lines;
+pub use putting::ok_line;
+pub use refusals::Refusal;
+pub use refused::{refused_alone, refused_at, refused_number, refused_numbers, refused_word};
+pub use sets::{set_reply, sets_lines};
+pub use streams::{bad_line, cut_line, entry_line, usage_line, volume_line};
+pub use told::has_refusal;
+pub use volumes::put_listed;
