@@ -1,0 +1,141 @@
+-- How changes are made, and what a command leaves.
+use Rattle.std.proofs.Common.{◌≡◌, ◌⊎◌, ⊎_elim, ℕ, ◌+◌, ◌<◌, ◌≤◌, Bool, true, false, List, [], ◌∷◌, length, refl, sym, ◌∙◌, ap, subst, arith}
+use Rattle.std.specs.Prelude.{nat_lt, if◌then◌else◌, min, max, Result, Ok, Err, IfOk}
+use Rattle.std.proofs.lemmas.Bool.Decides.{nat_tests}
+use Rattle.std.proofs.lemmas.Bool.{cases_lt}
+use Rattle.plant_core.specs.declared.plant.Plant.{Ghosts as Plant}
+use Rattle.plant_core.specs.Effects.{commits}
+use Rattle.plant_effects.specs.Runs.{state_of, Done, Leaves}
+use Rattle.plant_effects.proofs.Joining.{Fits as FitsImages, nothing_done, nothing_left}
+use Rattle.budb_changes.specs.declared.change.Change.{Change}
+use Rattle.budb_changes.specs.Bytes.{encoded}
+use Rattle.budb_fold.specs.Database.{after}
+use Rattle.cell_core.specs.declared.cell.Cell.{Ghosts as Cell}
+use Rattle.cell_core.specs.declared.stored.Stored.{Stored}
+use Rattle.backup_words.specs.declared.command.Command.{Command}
+use Rattle.backup_replies.specs.declared.refusals.Refusal.TheVariants.{NoSuchCommand, LogFull}
+use Rattle.backup_replies.specs.Texts.{refused_word, refused_number}
+use Rattle.backup_session.specs.declared.verdict.Verdict.{Verdict}
+use Rattle.backup_session.specs.declared.verdict.Verdict.TheVariants.{Refuses, Makes, Shows}
+use Rattle.backup_session.specs.Views.{SessionView, ReplyView}
+use Rattle.backup_session.specs.Worlds.{World, Turn, at_moment, last_cell}
+use Rattle.backup_session.specs.Asks.{asks_cell, is_built, first_word}
+use Rattle.backup_session.specs.Cells.{CellAnswer, cell_answer, IsAnswer}
+use Rattle.backup_session.specs.Verdicts.{verdict}
+use Rattle.backup_session.specs.Machine.{said, committed, length_with, carried, on_cell, done, turn}
+use Rattle.backup_session.specs.Fitting.{Fits, Turned, OnTheWay, FitsPlant, TurnedPlant}
+
+full_true : (a b : ℕ) → a < b → nat_lt a b ≡ true
+full_true a b lt = grind (arith, nat_tests)
+
+room_false : (a b : ℕ) → b ≤ a → nat_lt a b ≡ false
+room_false a b le = grind (arith, nat_tests)
+
+choice : World → List Change → Bool → Turn
+choice w changes b = if b then said w (refused_number LogFull (length_with w changes)) else committed w changes
+
+-- whatever came of a commit
+pub made_leaves : {D : Type 0} (P : Plant D) (w : World) (changes : List Change) (old new : D) (session : SessionView) → FitsPlant P w old session → (P.view old).log_size ≡ length (state_of P old).log → FitsImages P old
+    → (268435456 < (P.view old).log_size + length (encoded changes) → new ≡ old) → Leaves P (commits (encoded changes) ∷ []) old new → Leaves P (carried w (Makes changes)).effects old new
+unfolding choice
+made_leaves P w changes old new session fits size images over leaves =
+    let is : (P.view old).log_size ≡ length (encoded w.log) = size ∙ ap length (fits.state.log ∙ fits.keeps.is) in
+    ⊎_elim
+    (λ (full : 268435456 < length_with w changes). subst (λ (b : Bool). Leaves P (choice w changes b).effects old new) (sym (full_true 268435456 (length_with w changes) full))
+    (subst (λ s. Leaves P [] old s) (sym (over (omega (arith, is, full)))) (nothing_left P [] old images)))
+    (λ (room : length_with w changes ≤ 268435456). subst (λ (b : Bool). Leaves P (choice w changes b).effects old new) (sym (room_false 268435456 (length_with w changes) room)) leaves)
+    (cases_lt 268435456 (length_with w changes))
+
+-- ---- what a turn is
+
+pub turn_unbuilt : (w : World) (now : ℕ) (command : Command) → is_built command ≡ false → turn w now command ≡ said w (refused_word NoSuchCommand (first_word command))
+unfolding turn
+turn_unbuilt w now command is = ap (λ (b : Bool). if b then done (at_moment w now) command else said w (refused_word NoSuchCommand (first_word command))) is
+
+turn_done : (w : World) (now : ℕ) (command : Command) → is_built command ≡ true → turn w now command ≡ done (at_moment w now) command
+unfolding turn
+turn_done w now command is = ap (λ (b : Bool). if b then done (at_moment w now) command else said w (refused_word NoSuchCommand (first_word command))) is
+
+pub turn_cell : (w : World) (now : ℕ) (command : Command) → is_built command ≡ true → asks_cell command ≡ true → turn w now command ≡ on_cell (at_moment w now) (cell_answer w.cell (at_moment w now).time command)
+turn_cell w now command built is = turn_done w now command built
+    ∙ ap (λ (b : Bool). if b then on_cell (at_moment w now) (cell_answer w.cell (at_moment w now).time command) else carried (at_moment w now) (verdict (after w.log) command)) is
+
+pub turn_database : (w : World) (now : ℕ) (command : Command) → is_built command ≡ true → asks_cell command ≡ false → turn w now command ≡ carried (at_moment w now) (verdict (after w.log) command)
+turn_database w now command built is = turn_done w now command built
+    ∙ ap (λ (b : Bool). if b then on_cell (at_moment w now) (cell_answer w.cell (at_moment w now).time command) else carried (at_moment w now) (verdict (after w.log) command)) is
+
+-- a verdict leaves the cell alone
+pub carried_cells : (w : World) (v : Verdict) → (carried w v).cells ≡ []
+carried_cells w (Refuses text) = refl
+carried_cells w (Shows text) = refl
+carried_cells w (Makes changes) = go (nat_lt 268435456 (length_with w changes))
+  where
+    go : (b : Bool) → (if b then said w (refused_number LogFull (length_with w changes)) else committed w changes).cells ≡ []
+    go true = refl
+    go false = refl
+
+-- ---- what fits
+
+module _ {D E : Type 0} (P : Plant D) (C : Cell E) (w : World) (old : D) (site : E) (session : SessionView) (fits : Fits P C w old site session) where
+  -- the same at a moment of the clock
+  pub fits_at : (now : ℕ) (later : SessionView) → later.budb ≡ session.budb → later.config ≡ session.config → later.time ≡ max session.time (min now 4294967295) → FitsPlant P (at_moment w now) old later
+  fits_at now later budb config time = record {
+    keeps = record { form = fits.keeps.form; is = fits.keeps.is; fold = ap (λ b. b.database) budb ∙ fits.keeps.fold };
+    time = time ∙ ap (λ (t : ℕ). max t (min now 4294967295)) fits.time;
+    config = config ∙ fits.config;
+    state = fits.state;
+    loaded = fits.loaded;
+    present = fits.present;
+  }
+
+  -- a turn that leaves the cell alone
+  pub turned_by : (now : ℕ) (t : Turn) (new : D) (later : SessionView) (reply : ReplyView) → t.cells ≡ [] → TurnedPlant P (at_moment w now) t old new later reply → Turned P C w t old new site later reply
+  turned_by now t new later reply cells turned = record {
+    done = turned.done;
+    text = turned.text;
+    fits = record {
+      keeps = turned.fits.keeps;
+      time = turned.fits.time;
+      config = turned.fits.config;
+      state = turned.fits.state;
+      loaded = turned.fits.loaded;
+      present = turned.fits.present;
+      cell = fits.cell ∙ sym (ap (last_cell w.cell) cells);
+    };
+  }
+
+  -- a turn of the cell alone
+  pub turned_cell : (now : ℕ) (new : E) (later : SessionView) (reply : ReplyView) (command : Command) → P.sound old → later.budb ≡ session.budb → later.config ≡ session.config → later.time ≡ max session.time (min now 4294967295)
+      → IsAnswer (cell_answer (C.list site) later.time command) reply (C.list site) (C.list new) → Turned P C w (on_cell (at_moment w now) (cell_answer w.cell (at_moment w now).time command)) old old new later reply
+  turned_cell now new later reply command sound budb config time answer =
+      let plant = fits_at now later budb config time in
+      let same : cell_answer (C.list site) later.time command ≡ cell_answer w.cell (at_moment w now).time command =
+      ap (λ (l : List Stored). cell_answer l later.time command) fits.cell ∙ ap (λ (t : ℕ). cell_answer w.cell t command) plant.time in
+      record {
+        done = nothing_done P old sound;
+        text = answer.text ∙ ap (λ (a : CellAnswer). a.reply) same;
+        fits = record {
+          keeps = plant.keeps;
+          time = plant.time;
+          config = plant.config;
+          state = plant.state;
+          loaded = plant.loaded;
+          present = plant.present;
+          cell = answer.list ∙ ap (λ (l : List Stored). last_cell l (cell_answer (C.list site) later.time command).cells) fits.cell ∙ ap (λ (a : CellAnswer). last_cell w.cell a.cells) same;
+        };
+      }
+
+  -- the cell on the way
+  pub cell_way : (now : ℕ) (new : List Stored) (time : ℕ) (command : Command) → time ≡ max session.time (min now 4294967295) → OnTheWay (C.list site) (cell_answer (C.list site) time command).cells new → OnTheWay w.cell (cell_answer w.cell (at_moment w now).time command).cells new
+  cell_way now new time command is way =
+      subst (λ (l : List Stored). OnTheWay l (cell_answer l (at_moment w now).time command).cells new) fits.cell
+      (subst (λ (t : ℕ). OnTheWay (C.list site) (cell_answer (C.list site) t command).cells new) (is ∙ ap (λ (t : ℕ). max t (min now 4294967295)) fits.time) way)
+
+-- in an Ok
+pub in_ok : {A F : Type 0} (r : Result A F) (Q R : A → Type 0) → ((x : A) → Q x → R x) → IfOk r Q → IfOk r R
+in_ok (Ok x) Q R map is = map x is
+in_ok (Err e) Q R map is = tt
+
+-- nothing but a reply
+pub said_turned : {D E : Type 0} (P : Plant D) (C : Cell E) (w : World) (old : D) (site : E) (session : SessionView) → Fits P C w old site session → (reply : ReplyView) (text : List ℕ) → P.sound old → reply.text ≡ text → Turned P C w (said w text) old old site session reply
+said_turned P C w old site session fits reply text sound is = record { done = nothing_done P old sound; text = is; fits = fits }

@@ -1,0 +1,5 @@
+pub mod Patterns
+pub mod Lists
+pub mod Entries
+pub mod CellLaws
+pub mod Carrying

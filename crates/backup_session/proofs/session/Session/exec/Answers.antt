@@ -1,0 +1,80 @@
+use Rattle.std.proofs.Common.{◌≡◌, ℕ, sym, ◌∙◌, ap, subst, arith, IfOk}
+use Rattle.std.specs.Prelude.{min, max}
+use Rattle.plant_effects.specs.Runs.{Leaves}
+use Rattle.plant_effects.proofs.Joining.{nothing_left}
+use Rattle.budb_fold.specs.Database.{after}
+use Rattle.backup_replies.specs.declared.refusals.Refusal.TheVariants.{NoSuchCommand}
+use Rattle.backup_replies.specs.Texts.{refused_word}
+use Rattle.backup_session.specs.Asks.{first_word}
+use Rattle.backup_session.specs.Views.{SessionView}
+use Rattle.backup_session.specs.Worlds.{World, Turn, at_moment}
+use Rattle.backup_session.specs.Verdicts.{verdict}
+use Rattle.backup_session.specs.Machine.{carried, turn}
+use Rattle.backup_session.specs.Fitting.{Turned, OnTheWay}
+use Rattle.backup_session.proofs.Carrying.{turn_unbuilt, turn_cell, turn_database, carried_cells, fits_at, turned_by, turned_cell, cell_way, said_turned, in_ok}
+use Rattle.backup_session.proofs.session.Session.exec.Goals as goal
+
+pub returns-then-not-is_built-clause-turned : goal.returns-then-not-is_built-clause-turned
+returns-then-not-is_built-clause-turned g c = λ told ctold w fits.
+    let P = g.P.Plant in
+    let C = g.C.Cell in
+    let old = c.args.plant.now in
+    let is = turn_unbuilt w c.args.now c.args.command.now (sym c.is_built.ensures ∙ c.if-not-is_built.true) in
+    subst (λ (t : Turn). Turned P C w t old old c.args.cell.now c.args.self.now c.new.result) (sym is)
+    (said_turned P C w old c.args.cell.now c.args.self.now fits c.new.result (refused_word NoSuchCommand (first_word c.args.command.now)) c.requires (c.new.ensures ∙ c.in_ok-text.ensures ∙ ap (refused_word NoSuchCommand) c.first_word.ensures))
+
+pub returns-then-asks_cell-clause-turned : goal.returns-then-asks_cell-clause-turned
+returns-then-asks_cell-clause-turned g c = λ told ctold w fits.
+    let P = g.P.Plant in
+    let C = g.C.Cell in
+    let old = c.args.plant.now in
+    let later : SessionView = record { config = c.self.inside.config; budb = c.self.inside.budb; time = c.max-self-inside.result } in
+    let is = turn_cell w c.args.now c.args.command.now (sym c.is_built.ensures ∙ c.if-not-is_built.false) (sym c.asks_cell.ensures ∙ c.if-asks_cell.true) in
+    let was = ap (λ (s : SessionView). s.time) c.self.view_is in
+    let time : c.max-self-inside.result ≡ max c.args.self.now.time (min c.args.now 4294967295) = omega (arith, c.max-self-inside.ensures, c.min.ensures, was) in
+    subst (λ (t : Turn). IfOk c.on_cell.result (λ reply. Turned P C w t old old c.on_cell.new.cell later reply)) (sym is)
+    (in_ok c.on_cell.result _ _ (λ reply answer. turned_cell P C w old c.args.cell.now c.args.self.now fits c.args.now c.on_cell.new.cell later reply c.args.command.now c.requires (ap (λ (s : SessionView). s.budb) c.self.view_is) (ap (λ (s : SessionView). s.config) c.self.view_is) time answer) (c.on_cell.ensures.answer ctold))
+
+pub returns-then-asks_cell-clause-leaves : goal.returns-then-asks_cell-clause-leaves
+returns-then-asks_cell-clause-leaves g c = λ told ctold w fits.
+    let old = c.args.plant.now in
+    nothing_left g.P.Plant (turn w c.args.now c.args.command.now).effects old (λ told survives image left. g.met.P.Plant.left old image told c.requires survives left)
+
+pub returns-then-asks_cell-clause-cells : goal.returns-then-asks_cell-clause-cells
+returns-then-asks_cell-clause-cells g c = λ told ctold w fits.
+    let P = g.P.Plant in
+    let C = g.C.Cell in
+    let is = turn_cell w c.args.now c.args.command.now (sym c.is_built.ensures ∙ c.if-not-is_built.false) (sym c.asks_cell.ensures ∙ c.if-asks_cell.true) in
+    let was = ap (λ (s : SessionView). s.time) c.self.view_is in
+    let time : c.max-self-inside.result ≡ max c.args.self.now.time (min c.args.now 4294967295) = omega (arith, c.max-self-inside.ensures, c.min.ensures, was) in
+    subst (λ (t : Turn). OnTheWay w.cell t.cells (C.list c.on_cell.new.cell)) (sym is)
+    (cell_way P C w c.args.plant.now c.args.cell.now c.args.self.now fits c.args.now (C.list c.on_cell.new.cell) c.max-self-inside.result c.args.command.now time (c.on_cell.ensures.left ctold))
+
+pub returns-else-asks_cell-clause-turned : goal.returns-else-asks_cell-clause-turned
+returns-else-asks_cell-clause-turned g c = λ told ctold w fits.
+    let P = g.P.Plant in
+    let C = g.C.Cell in
+    let old = c.args.plant.now in
+    let new = c.on_database.new.plant in
+    let later : SessionView = record { config = c.self.inside.config; budb = c.self.inside.budb; time = c.max-self-inside.result } in
+    let is = turn_database w c.args.now c.args.command.now (sym c.is_built.ensures ∙ c.if-not-is_built.false) (sym c.asks_cell.ensures ∙ c.if-asks_cell.false) in
+    let was = ap (λ (s : SessionView). s.time) c.self.view_is in
+    let time : c.max-self-inside.result ≡ max c.args.self.now.time (min c.args.now 4294967295) = omega (arith, c.max-self-inside.ensures, c.min.ensures, was) in
+    let moment = at_moment w c.args.now in
+    let decided = verdict (after w.log) c.args.command.now in
+    subst (λ (t : Turn). IfOk c.on_database.result (λ reply. Turned P C w t old new c.args.cell.now c.on_database.new.self reply)) (sym is)
+    (in_ok c.on_database.result _ _ (λ reply turned. turned_by P C w old c.args.cell.now c.args.self.now fits c.args.now (carried moment decided) new c.on_database.new.self reply (carried_cells moment decided) turned)
+    (c.on_database.ensures.turned told moment (fits_at P C w old c.args.cell.now c.args.self.now fits c.args.now later (ap (λ (s : SessionView). s.budb) c.self.view_is) (ap (λ (s : SessionView). s.config) c.self.view_is) time)))
+
+pub returns-else-asks_cell-clause-leaves : goal.returns-else-asks_cell-clause-leaves
+returns-else-asks_cell-clause-leaves g c = λ told ctold w fits.
+    let P = g.P.Plant in
+    let C = g.C.Cell in
+    let old = c.args.plant.now in
+    let new = c.on_database.new.plant in
+    let later : SessionView = record { config = c.self.inside.config; budb = c.self.inside.budb; time = c.max-self-inside.result } in
+    let is = turn_database w c.args.now c.args.command.now (sym c.is_built.ensures ∙ c.if-not-is_built.false) (sym c.asks_cell.ensures ∙ c.if-asks_cell.false) in
+    let was = ap (λ (s : SessionView). s.time) c.self.view_is in
+    let time : c.max-self-inside.result ≡ max c.args.self.now.time (min c.args.now 4294967295) = omega (arith, c.max-self-inside.ensures, c.min.ensures, was) in
+    subst (λ (t : Turn). Leaves P t.effects old new) (sym is)
+    (c.on_database.ensures.leaves told (at_moment w c.args.now) (fits_at P C w old c.args.cell.now c.args.self.now fits c.args.now later (ap (λ (s : SessionView). s.budb) c.self.view_is) (ap (λ (s : SessionView). s.config) c.self.view_is) time))

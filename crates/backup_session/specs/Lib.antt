@@ -1,0 +1,9 @@
+pub mod Worlds
+pub mod Levels
+pub mod Verdicts
+pub mod Cells
+pub mod Asks
+pub mod Machine
+pub mod Views
+pub mod Fitting
+pub mod Opening

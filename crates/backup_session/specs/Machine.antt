@@ -1,0 +1,46 @@
+-- THE MACHINE: what a command makes of a world.
+use Rattle.std.specs.Prelude.{ℕ, ◌+◌, List, [], ◌∷◌, ◌++◌, length, nat_lt, if◌then◌else◌}
+use Rattle.plant_core.specs.Effects.{commits}
+use Rattle.budb_changes.specs.declared.change.Change.{Change}
+use Rattle.budb_changes.specs.Bytes.{encoded}
+use Rattle.budb_fold.specs.Database.{after}
+use Rattle.backup_words.specs.declared.command.Command.{Command}
+use Rattle.backup_replies.specs.declared.refusals.Refusal.TheVariants.{NoSuchCommand, LogFull}
+use Rattle.backup_replies.specs.Texts.{refused_word, refused_number, ok_line}
+use Rattle.backup_session.specs.declared.verdict.Verdict.{Verdict}
+use Rattle.backup_session.specs.declared.verdict.Verdict.TheVariants.{Refuses, Makes, Shows}
+use Rattle.backup_session.specs.Asks.{asks_cell, is_built, first_word}
+use Rattle.backup_session.specs.Cells.{CellAnswer, cell_answer}
+use Rattle.backup_session.specs.Verdicts.{verdict}
+use Rattle.backup_session.specs.Worlds.{World, Turn, at_moment}
+
+-- nothing but a reply
+abbrev pub said : World → List ℕ → Turn
+said w text = record { effects = []; reply = text; log = w.log; time = w.time; cells = []; loaded = w.loaded }
+
+-- changes are made by one commit
+abbrev pub committed : World → List Change → Turn
+committed w changes = record { effects = commits (encoded changes) ∷ []; reply = ok_line; log = w.log ++ changes; time = w.time; cells = []; loaded = w.loaded }
+
+-- how long the log is with these changes behind it
+abbrev pub length_with : World → List Change → ℕ
+length_with w changes = length (encoded w.log) + length (encoded changes)
+
+-- A verdict carried out: changes are one commit, where the log has room for them.
+abbrev pub carried : World → Verdict → Turn
+carried w (Refuses text) = said w text
+carried w (Shows text) = said w text
+carried w (Makes changes) = if nat_lt 268435456 (length_with w changes) then said w (refused_number LogFull (length_with w changes)) else committed w changes
+
+-- What a command on the cell is answered: no effect on the plant.
+abbrev pub on_cell : World → CellAnswer → Turn
+on_cell w answer = record { effects = []; reply = answer.reply; log = w.log; time = w.time; cells = answer.cells; loaded = w.loaded }
+
+-- a command that has a body, at the session's time
+abbrev pub done : World → Command → Turn
+done w command = if asks_cell command then on_cell w (cell_answer w.cell w.time command) else carried w (verdict (after w.log) command)
+
+-- ONE COMMAND at a moment of the clock. A command without a body yet is refused as none, in this one place, and isn't one: the
+-- session's time stays.
+unfoldable pub turn : World → ℕ → Command → Turn
+turn w now command = if is_built command then done (at_moment w now) command else said w (refused_word NoSuchCommand (first_word command))

@@ -1,0 +1,75 @@
+-- WHAT A COMMAND ON THE DATABASE DECIDES. A further command of this kind is one more row.
+use Rattle.std.specs.Prelude.{ℕ, List, [], ◌∷◌, ◌++◌, length, map, Bool, ◌&&◌, nat_lt, nat_le, ◌==◌, if◌then◌else◌, Option, Some, None}
+use Rattle.std.specs.List.{list_any}
+use Rattle.bk_text.specs.Blanks.{is_same_text}
+use Rattle.bk_text.specs.declared.expiry.Expiry.{Expiry}
+use Rattle.volume_sets.specs.declared.sets.SetEntry.{SetEntry}
+use Rattle.volume_sets.specs.declared.sets.VolumeSet.{VolumeSet}
+use Rattle.volume_sets.specs.Sets.{has_set, entries_of}
+use Rattle.dump_levels.specs.Trees.{has_level}
+use Rattle.budb_changes.specs.declared.change.Change.{Change}
+use Rattle.budb_changes.specs.declared.change.Change.TheVariants.{AddSet, DelSet, AddEntry, DelEntry, AddLevel, SetExpiry, DelLevel, AddHost, DelHost}
+use Rattle.budb_fold.specs.declared.database.HostPort.{HostPort}
+use Rattle.budb_fold.specs.declared.database.Database.{Database}
+use Rattle.budb_fold.specs.Database.{has_port}
+use Rattle.backup_words.specs.declared.command.Command.{Command}
+use Rattle.backup_words.specs.declared.command.Command.TheVariants.{Addvolset, Delvolset, Addvolentry, Delvolentry, Listvolsets, Adddump, Setexp, Deldump, Listdumps, Addhost, Delhost, Listhosts}
+use Rattle.backup_replies.specs.declared.refusals.Refusal.TheVariants.{SetExists, NoSuchSet, NoSuchEntry, LevelExists, NoSuchLevel, NoParentLevel, PortTaken, NoSuchPort}
+use Rattle.backup_replies.specs.Texts.{refused_word, refused_number, ok_line}
+use Rattle.backup_replies.specs.Hosts.{hosts_lines}
+use Rattle.backup_replies.specs.Sets.{set_lines, sets_lines}
+use Rattle.backup_replies.specs.Levels.{levels_lines}
+use Rattle.backup_session.specs.declared.verdict.Verdict.{Verdict}
+use Rattle.backup_session.specs.declared.verdict.Verdict.TheVariants.{Refuses, Makes, Shows}
+use Rattle.backup_session.specs.Levels.{first_known, first_unfounded, first_missing}
+
+-- a tape host at this port
+abbrev pub is_host_port : List ℕ → ℕ → HostPort → Bool
+is_host_port host port there = (there.port == port) && is_same_text there.host host
+
+abbrev pub has_host_port : List HostPort → List ℕ → ℕ → Bool
+has_host_port hosts host port = list_any (is_host_port host port) hosts
+
+-- an entry of the set of a name goes, where the set is there and has one of this number
+abbrev pub entry_goes : List ℕ → ℕ → Option (List SetEntry) → Verdict
+entry_goes name number None = Refuses (refused_word NoSuchSet name)
+entry_goes name number (Some entries) =
+    if nat_lt 0 number && nat_le number (length entries) then Makes (DelEntry name number ∷ []) else Refuses (refused_number NoSuchEntry number)
+
+-- one volume set is told
+abbrev pub one_set : List ℕ → Option (List SetEntry) → Verdict
+one_set name None = Refuses (refused_word NoSuchSet name)
+one_set name (Some entries) = Shows (set_lines (record { name = name; entries = entries }) ++ ok_line)
+
+-- all of them are told, or the one that is asked for
+abbrev pub told_sets : List VolumeSet → Option (List ℕ) → Verdict
+told_sets sets None = Shows (sets_lines sets)
+told_sets sets (Some name) = one_set name (entries_of name sets)
+
+-- Levels are added: 20 over all of the line before 22, and all in one commit.
+abbrev pub levels_come : Expiry → List (List ℕ) → Option (List ℕ) → Option (List ℕ) → Verdict
+levels_come expiry paths (Some known) unfounded = Refuses (refused_word LevelExists known)
+levels_come expiry paths None (Some unfounded) = Refuses (refused_word NoParentLevel unfounded)
+levels_come expiry paths None None = Makes (map (λ path. AddLevel path expiry) paths)
+
+-- levels get another expiration, all in one commit
+abbrev pub levels_expire : Expiry → List (List ℕ) → Option (List ℕ) → Verdict
+levels_expire expiry paths (Some missing) = Refuses (refused_word NoSuchLevel missing)
+levels_expire expiry paths None = Makes (map (λ path. SetExpiry path expiry) paths)
+
+abbrev pub verdict : Database → Command → Verdict
+verdict db (Addhost host port) = if has_port db.hosts port then Refuses (refused_number PortTaken port) else Makes (AddHost host port ∷ [])
+verdict db (Delhost host port) = if has_host_port db.hosts host port then Makes (DelHost port ∷ []) else Refuses (refused_number NoSuchPort port)
+verdict db Listhosts = Shows (hosts_lines db.hosts)
+verdict db (Addvolset name) = if has_set name db.sets then Refuses (refused_word SetExists name) else Makes (AddSet name ∷ [])
+verdict db (Delvolset name) = if has_set name db.sets then Makes (DelSet name ∷ []) else Refuses (refused_word NoSuchSet name)
+verdict db (Addvolentry name server partition pattern) =
+    if has_set name db.sets then Makes (AddEntry name server partition pattern ∷ []) else Refuses (refused_word NoSuchSet name)
+verdict db (Delvolentry name number) = entry_goes name number (entries_of name db.sets)
+verdict db (Listvolsets name) = told_sets db.sets name
+verdict db (Adddump paths expiry) = levels_come expiry paths (first_known db.levels [] paths) (first_unfounded db.levels [] paths)
+verdict db (Setexp paths expiry) = levels_expire expiry paths (first_missing db.levels paths)
+verdict db (Deldump path) = if has_level db.levels path then Makes (DelLevel path ∷ []) else Refuses (refused_word NoSuchLevel path)
+verdict db Listdumps = Shows (levels_lines db.levels)
+-- of other commands it isn't asked
+verdict db command = Shows []

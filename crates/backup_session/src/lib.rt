@@ -1,0 +1,19 @@
+//! The session of the backup service: what each command makes of the journal, the tapes and the cell, and what it replies.
+#![tactic(auto)]
+
+mod asks;
+mod decide;
+mod hosts;
+mod levels;
+mod opening;
+mod reply;
+mod session;
+mod sets;
+mod stops;
+mod verdict;
+mod vos;
+
+pub use reply::Reply;
+pub use session::Session;
+pub use stops::{OpenStop, Stop};
+pub use verdict::Verdict;

@@ -1,0 +1,177 @@
+//! The session: commands are decided, carried out on the plant or the cell, and answered.
+
+ghost use Rattle.std.specs.Prelude.{◌≡◌, ◌≢◌, [], ℕ, List as AnyList, Ok, Err, OnOk, IfOk};
+ghost use Rattle.crash_moments.specs.Moments.{HasCauseAt};
+ghost use Rattle.bk_text.specs.Places.{FailsAt};
+ghost use Rattle.budb_changes.specs.declared.change.Change.{Change as AnyChange};
+ghost use Rattle.budb_changes.specs.Bytes.{encoded};
+ghost use Rattle.budb_changes.specs.Forms.{AreChanges, IsLog};
+ghost use Rattle.budb_fold.specs.Database.{after};
+ghost use Rattle.plant_effects.specs.Runs.{state_of, loaded_of, Done, Leaves, SameNumbers, StaysQuiet};
+ghost use Rattle.backup_session.specs.declared.verdict.Verdict.TheVariants.{Makes};
+ghost use Rattle.backup_session.specs.Worlds.{World, Setting};
+ghost use Rattle.backup_session.specs.Verdicts.{verdict};
+ghost use Rattle.backup_session.specs.Machine.{said, carried, turn};
+
+use crate::asks::{asks_cell, first_word, is_built};
+use crate::decide::decide;
+use crate::opening::{first_time, open_database};
+use crate::reply::Reply;
+use crate::stops::{OpenStop, Stop};
+use crate::verdict::Verdict;
+use crate::vos::on_cell;
+use backup_replies::{Refusal, ok_line, refused_number, refused_word};
+use backup_words::Command;
+use budb::{Budb, CommitFault};
+use budb_journal::Change;
+use cell_core::Cell;
+use plant_core::Plant;
+use std::alloc::Global;
+use std::marker::Model;
+use tape_config::Config;
+
+/// The service between two commands. Contracts see it as the configuration, the database and the time.
+#[derive(Drop)]
+pub struct Session {
+    config: Config,
+    budb: Budb,
+    time: u32,
+}
+
+impl Model for Session {
+    ghost use Rattle.std.specs.Prelude.{◌≡◌, None};
+    ghost use Rattle.backup_session.specs.Views.{SessionView};
+
+    ghost Value = { SessionView };
+
+    ghost view = { λ a. record { config = a.config; budb = a.budb; time = a.time } };
+
+    ghost invariant = { λ a. a.budb.prepared ≡ None };
+}
+
+impl Session {
+    ghost use Rattle.backup_session.specs.Fitting.{Fits, Turned, OnTheWay, FitsPlant, TurnedPlant};
+    ghost use Rattle.backup_session.specs.Opening.{opened, UnlessFailed};
+
+    /// Opens the session of a plant's journal and of a cell. Its time is the greatest of all ids and clone times of the
+    /// database and of what the cell's entries tell. Nothing is written.
+    pub fn open<P: Plant, C: Cell>(
+        alloc: Global,
+        config: Config,
+        plant: &mut P,
+        cell: &mut C,
+    ) -> Result<Session, OpenStop>
+        requires { P.sound plant.old }
+        ensures fits { P.tells → C.tells → IfOk result (λ session. (log : AnyList AnyChange) × AreChanges log × ((state_of P.Plant plant.old).log ≡ encoded log) × Fits P.Plant C.Cell (opened (record { config = config; present = (P.view plant.old).present }) log (C.list cell.old) (state_of P.Plant plant.old) (loaded_of P.Plant plant.old)) plant.new cell.new session) }
+        ensures bad { P.tells → (at : ℕ) → result ≡ Err (OpenStop.BadLog at) → FailsAt IsLog (state_of P.Plant plant.old).log at }
+        ensures listed { P.tells → result ≡ Err OpenStop.Cell → IsLog (state_of P.Plant plant.old).log }
+        ensures done { UnlessFailed result (Done P.Plant [] plant.old plant.new) }
+        ensures leaves { Leaves P.Plant [] plant.old plant.new }
+        ensures numbers { UnlessFailed result (SameNumbers P.Plant plant.old plant.new) }
+        ensures stays { StaysQuiet P.Plant plant.old plant.new }
+        ensures cell { C.tells → C.list cell.new ≡ C.list cell.old }
+        ensures plant_cause { HasCauseAt OpenStop.Plant (P.view plant.old).faults (P.view plant.new).faults result }
+        ensures cell_cause { HasCauseAt OpenStop.Cell (C.faults cell.old) (C.faults cell.new) result }
+    {
+        let budb = open_database(alloc, plant)?;
+        let time = first_time(cell, budb.database())?;
+        Ok(Session { config, budb, time })
+    }
+
+    /// Makes changes by one commit, where the log has room for them. The reply has its memory before anything is written.
+    fn make<P: Plant>(
+        &mut self,
+        alloc: Global,
+        plant: &mut P,
+        changes: &[Change],
+    ) -> Result<Reply, Stop>
+        requires { P.sound plant.old }
+        ensures sound { OnOk result (P.sound plant.new) }
+        ensures turned { P.tells → (w : World) → FitsPlant P.Plant w plant.old self.old → IfOk result (λ reply. TurnedPlant P.Plant w (carried w (Makes changes.now)) plant.old plant.new self.new reply) }
+        ensures leaves { P.tells → (w : World) → FitsPlant P.Plant w plant.old self.old → Leaves P.Plant (carried w (Makes changes.now)).effects plant.old plant.new }
+        ensures stays { StaysQuiet P.Plant plant.old plant.new }
+        ensures cause { HasCauseAt Stop.Plant (P.view plant.old).faults (P.view plant.new).faults result }
+        ensures never { result ≢ Err Stop.Cell }
+    {
+        let done = ok_line(alloc)?;
+        match self.budb.commit(plant, changes) {
+            Ok(()) => Ok(Reply::new(done)),
+            Err(CommitFault::LogFull { length }) => {
+                Ok(Reply::new(refused_number(alloc, Refusal::LogFull, length)?))
+            }
+            Err(CommitFault::Failed) => Err(Stop::Plant),
+            Err(CommitFault::Memory) => Err(Stop::Memory),
+        }
+    }
+
+    /// Carries out what a command has decided.
+    fn carry<P: Plant>(
+        &mut self,
+        alloc: Global,
+        plant: &mut P,
+        verdict: Verdict,
+    ) -> Result<Reply, Stop>
+        requires { P.sound plant.old }
+        ensures sound { OnOk result (P.sound plant.new) }
+        ensures turned { P.tells → (w : World) → FitsPlant P.Plant w plant.old self.old → IfOk result (λ reply. TurnedPlant P.Plant w (carried w verdict) plant.old plant.new self.new reply) }
+        ensures leaves { P.tells → (w : World) → FitsPlant P.Plant w plant.old self.old → Leaves P.Plant (carried w verdict).effects plant.old plant.new }
+        ensures stays { StaysQuiet P.Plant plant.old plant.new }
+        ensures cause { HasCauseAt Stop.Plant (P.view plant.old).faults (P.view plant.new).faults result }
+        ensures never { result ≢ Err Stop.Cell }
+    {
+        match verdict {
+            Verdict::Refuses(text) => Ok(Reply::new(text)),
+            Verdict::Shows(text) => Ok(Reply::new(text)),
+            Verdict::Makes(changes) => self.make(alloc, plant, changes.as_slice()),
+        }
+    }
+
+    /// A command on the database, at the session's time.
+    fn on_database<P: Plant>(
+        &mut self,
+        alloc: Global,
+        plant: &mut P,
+        command: &Command,
+    ) -> Result<Reply, Stop>
+        requires { P.sound plant.old }
+        ensures sound { OnOk result (P.sound plant.new) }
+        ensures turned { P.tells → (w : World) → FitsPlant P.Plant w plant.old self.old → IfOk result (λ reply. TurnedPlant P.Plant w (carried w (verdict (after w.log) command.now)) plant.old plant.new self.new reply) }
+        ensures leaves { P.tells → (w : World) → FitsPlant P.Plant w plant.old self.old → Leaves P.Plant (carried w (verdict (after w.log) command.now)).effects plant.old plant.new }
+        ensures stays { StaysQuiet P.Plant plant.old plant.new }
+        ensures cause { HasCauseAt Stop.Plant (P.view plant.old).faults (P.view plant.new).faults result }
+        ensures never { result ≢ Err Stop.Cell }
+    {
+        let verdict = decide(alloc, self.budb.database(), command)?;
+        self.carry(alloc, plant, verdict)
+    }
+
+    /// Executes a command at a moment of the clock. What it tells is handed back and not told.
+    pub fn exec<P: Plant, C: Cell>(
+        &mut self,
+        alloc: Global,
+        plant: &mut P,
+        cell: &mut C,
+        now: u64,
+        command: &Command,
+    ) -> Result<Reply, Stop>
+        requires { P.sound plant.old }
+        ensures sound { OnOk result (P.sound plant.new) }
+        ensures turned { P.tells → C.tells → (w : World) → Fits P.Plant C.Cell w plant.old cell.old self.old → IfOk result (λ reply. Turned P.Plant C.Cell w (turn w now command.now) plant.old plant.new cell.new self.new reply) }
+        ensures leaves { P.tells → C.tells → (w : World) → Fits P.Plant C.Cell w plant.old cell.old self.old → Leaves P.Plant (turn w now command.now).effects plant.old plant.new }
+        ensures cells { P.tells → C.tells → (w : World) → Fits P.Plant C.Cell w plant.old cell.old self.old → OnTheWay w.cell (turn w now command.now).cells (C.list cell.new) }
+        ensures stays { StaysQuiet P.Plant plant.old plant.new }
+        ensures plant_cause { HasCauseAt Stop.Plant (P.view plant.old).faults (P.view plant.new).faults result }
+        ensures cell_cause { HasCauseAt Stop.Cell (C.faults cell.old) (C.faults cell.new) result }
+    {
+        if !is_built(command) {
+            let text = refused_word(alloc, Refusal::NoSuchCommand, first_word(command))?;
+            return Ok(Reply::new(text));
+        }
+        self.time = self.time.max(now.min(4_294_967_295) as u32);
+        if asks_cell(command) {
+            on_cell(alloc, cell, command, self.time)
+        } else {
+            self.on_database(alloc, plant, command)
+        }
+    }
+}
