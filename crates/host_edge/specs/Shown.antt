@@ -1,0 +1,19 @@
+-- What files in a folder show.
+use Rattle.std.specs.Prelude.{ℕ, Bool}
+use Rattle.host_edge.specs.Slots.{is_here}
+use Rattle.host_edge.specs.declared.dir_media.DirMedia.{DirMedia}
+
+-- the output
+abbrev pub output_of : {F W : Type 0} → DirMedia F W → W
+output_of media = media.output
+
+-- how often a call on files was refused, and one on the output
+abbrev pub faults_of : {F W : Type 0} → DirMedia F W → ℕ
+faults_of media = media.faults
+
+abbrev pub tell_faults_of : {F W : Type 0} → DirMedia F W → ℕ
+tell_faults_of media = media.tell_faults
+
+-- which files are here
+abbrev pub present_of : {F W : Type 0} → DirMedia F W → ℕ → Bool
+present_of media f = is_here media.slots.items f

@@ -1,0 +1,176 @@
+//! Files of a folder as a media.
+
+ghost use Rattle.std.specs.Prelude.{◌≡◌, ◌≢◌, ◌≤◌, length, IfOk, Err};
+ghost use Rattle.std.specs.Io.KnownBytes.{WriteAppends};
+ghost use Rattle.crash_moments.specs.Moments.{HasCause};
+ghost use Rattle.host_edge.specs.declared.fault.EdgeFault.TheVariants.{TooMany};
+
+use crate::counting::counted;
+use crate::fault::{EdgeFault, at_path};
+use crate::files::{make_folder, sync_folder};
+use crate::slots::{
+    file_at, has_slot, lengths_of, note_length, open_journal, open_slots, same_length,
+};
+use crash_moments::raised;
+use media_core::{Failed, Media};
+use std::fs::OpenFile;
+use std::io::{self, Write};
+use std::os::fd::AsRawFd;
+use std::os::unix::fs::FileExt;
+use std::rt::Files;
+
+/// The files `journal` and `slot0` to `slot255` of a folder, and an output. File 0 is the journal; a slot is here where its
+/// file is there at the opening. `lengths` are the lengths that the opening found and the writes of this program left: a file
+/// of another length is a fault.
+#[derive(Drop)]
+pub struct DirMedia<F: Drop, W: Drop> {
+    journal: F,
+    slots: Vec<Option<F>>,
+    lengths: Vec<u64>,
+    output: W,
+    faults: u64,
+    tell_faults: u64,
+    ghost all_slots: { length slots.items ≡ 256 },
+}
+
+impl<F: FileExt + OpenFile + AsRawFd + Drop, W: Write + Drop> DirMedia<F, W> {
+    ghost use Rattle.host_edge.specs.Shown.{output_of, faults_of, tell_faults_of};
+
+    /// Opens a folder, which is made where it is absent, as is an empty `journal`; the folder that it stands in is there. What
+    /// the files have, and their names, is on the disk then. No file gets the number of a standard stream.
+    pub fn open<R: Files<File = F> + AllocGlobal>(
+        rt: &R,
+        folder: &str,
+        output: W,
+    ) -> Result<Self, EdgeFault>
+        ensures output { IfOk result (λ media. output_of media ≡ output) }
+        ensures faults { IfOk result (λ media. (faults_of media ≡ 0) × (tell_faults_of media ≡ 0)) }
+        ensures few { result ≢ Err TooMany }
+    {
+        let alloc = rt.alloc();
+        at_path(alloc, folder, make_folder(rt, folder))?;
+        let journal = open_journal(rt, alloc, folder)?;
+        let slots = open_slots(rt, alloc, folder)?;
+        let lengths = at_path(alloc, folder, lengths_of(alloc, &journal, slots.as_slice()))?;
+        at_path(alloc, folder, sync_folder(rt, folder))?;
+        Ok(DirMedia {
+            journal,
+            slots,
+            lengths,
+            output,
+            faults: 0,
+            tell_faults: 0,
+        })
+    }
+
+    fn file(&self, f: u32) -> io::Result<&F> {
+        file_at(&self.journal, self.slots.as_slice(), f)
+    }
+
+    fn len_of(&self, f: u32) -> io::Result<u64> {
+        same_length(self.file(f)?, self.lengths.as_slice(), f)
+    }
+
+    fn read_from(&self, f: u32, at: u64, into: &mut [u8]) -> io::Result<()> {
+        self.file(f)?.read_exact_at(into, at)
+    }
+
+    fn write_to(&self, f: u32, at: u64, from: &[u8]) -> io::Result<()> {
+        self.file(f)?.write_all_at(from, at)
+    }
+
+    fn sync_of(&self, f: u32) -> io::Result<()> {
+        self.file(f)?.sync_all()
+    }
+}
+
+impl<F: FileExt + OpenFile + AsRawFd + Drop, W: Write + Drop> Media for DirMedia<F, W> {
+    ghost use Rattle.std.proofs.Common.{refl, lit≤};
+    ghost use Rattle.crash_moments.specs.Moments.{silent};
+    ghost use Rattle.media_core.specs.Media.{nothing};
+    ghost use Rattle.host_edge.specs.Here.{here_below};
+    ghost use Rattle.host_edge.specs.Shown.{output_of, present_of, faults_of, tell_faults_of};
+
+    ghost tells = { ⊥ };
+
+    ghost seen = { λ m. nothing };
+
+    ghost time = { silent };
+
+    ghost count = { λ m. 257 };
+
+    ghost present = { present_of };
+
+    ghost faults = { faults_of };
+
+    ghost tell_faults = { tell_faults_of };
+
+    ghost some_files = { λ m. lit≤ tt };
+
+    ghost few_files = { λ m. lit≤ tt };
+
+    ghost journal_here = { λ m. refl };
+
+    ghost here_below = { λ m f. here_below m.slots.items m.all_slots f };
+
+    ghost seen_may_be_left = { λ m told. absurd told };
+
+    ghost told_left = { λ m c told. absurd told };
+
+    fn count(&self) -> u32 {
+        257
+    }
+
+    fn here(&self, f: u32) -> bool {
+        if f == 0 {
+            true
+        } else {
+            has_slot(self.slots.as_slice(), f as usize - 1)
+        }
+    }
+
+    fn len(&mut self, f: u32) -> Result<u64, Failed> {
+        let answer = self.len_of(f);
+        counted(&mut self.faults, answer)
+    }
+
+    fn read(&mut self, f: u32, at: u64, into: &mut [u8]) -> Result<(), Failed> {
+        let answer = self.read_from(f, at, into);
+        counted(&mut self.faults, answer)
+    }
+
+    fn write(&mut self, f: u32, at: u64, from: &[u8]) -> Result<(), Failed> {
+        let answer = self.write_to(f, at, from);
+        counted(&mut self.faults, answer)?;
+        note_length(&mut self.lengths, f, at.saturating_add(from.len() as u64));
+        Ok(())
+    }
+
+    fn sync(&mut self, f: u32) -> Result<(), Failed> {
+        let answer = self.sync_of(f);
+        counted(&mut self.faults, answer)
+    }
+
+    fn tell(&mut self, piece: &[u8]) -> Result<usize, Failed>
+        ensures front { IfOk result (λ n. n ≤ length piece.now) }
+        ensures some { IfOk result (λ n. n ≡ 0 → length piece.now ≡ 0) }
+        ensures bytes { WriteAppends (W.contents (output_of self.old)) (W.contents (output_of self.new)) result piece.now }
+        ensures present { present_of self.new ≡ present_of self.old }
+        ensures cause { HasCause (tell_faults_of self.old) (tell_faults_of self.new) result }
+        ensures faults { faults_of self.new ≡ faults_of self.old }
+    {
+        match self.output.write(piece) {
+            Ok(count) => {
+                if count == 0 && piece.len() > 0 {
+                    self.tell_faults = raised(self.tell_faults);
+                    return Err(Failed);
+                }
+                Ok(count)
+            }
+            Err(_) => {
+                self.tell_faults = raised(self.tell_faults);
+                Err(Failed)
+            }
+        }
+    }
+}

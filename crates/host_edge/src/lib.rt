@@ -1,0 +1,28 @@
+//! The system as media, clock and source: files in a folder, standard input and the system's clock. This is the trusted
+//! edge: no clause says what a real file, stream or clock gives.
+//!
+//! Writing past the file size limit of a process ends it with a signal that the standard library cannot catch. What the files
+//! then have is what a crash leaves.
+#![tactic(auto)]
+
+mod clock;
+mod config;
+mod counting;
+mod dir_media;
+mod fault;
+mod files;
+mod lists;
+mod lock;
+mod opening;
+mod slots;
+mod source;
+
+pub use clock::SysClock;
+pub use config::read_config;
+pub use dir_media::DirMedia;
+pub use fault::{EdgeFault, at_path};
+pub use files::{make_folder, open_file, path_in, sync_folder};
+pub use lists::add;
+pub use lock::{FolderLock, TryLock, lock_folder};
+pub use opening::{Doors, Opened, Place, Unopened, open_all};
+pub use source::StdSource;

@@ -1,0 +1,147 @@
+//! The files `journal` and `slot0` to `slot255` of a folder, and what is known of them.
+
+ghost use Rattle.std.specs.Prelude.{◌≡◌, ◌≢◌, ◌++◌, codes, length, IfOk, Err};
+ghost use Rattle.std.specs.String.{string_bytes};
+ghost use Rattle.std.specs.Fmt.{decimal};
+ghost use Rattle.host_edge.specs.Slots.{has_slot};
+ghost use Rattle.host_edge.specs.Streams.{IsAboveStreams};
+ghost use Rattle.host_edge.specs.declared.fault.EdgeFault.TheVariants.{TooMany};
+
+use crate::fault::{EdgeFault, at_path};
+use crate::files::{open_file, path_in};
+use crate::lists::add;
+use std::alloc::{AllocError, Global};
+use std::fs::OpenFile;
+use std::io::{self, ErrorKind};
+use std::os::fd::AsRawFd;
+use std::rt::Files;
+
+/// How many slots there are.
+const SLOTS: usize = 256;
+
+/// The journal, which is made where it is absent.
+pub(crate) fn open_journal<F: OpenFile + AsRawFd + Drop, R: Files<File = F>>(
+    rt: &R,
+    alloc: Global,
+    folder: &str,
+) -> Result<F, EdgeFault>
+    ensures above { IfOk result (λ file. IsAboveStreams (F.raw_fd file)) }
+    ensures few { result ≢ Err TooMany }
+{
+    let path = path_in(alloc, folder, "journal")?;
+    at_path(alloc, path.as_str(), open_file(rt, path.as_str(), true))
+}
+
+/// The path of a slot's file.
+fn slot_path(alloc: Global, folder: &str, slot: usize) -> Result<String, AllocError>
+    ensures { IfOk result (λ path. string_bytes path ≡ folder.now ++ (codes "/slot" ++ decimal slot)) }
+{
+    format!(in alloc; "{folder}/slot{slot}")
+}
+
+/// A file, or none where it is absent.
+fn if_there<F: Drop>(answer: io::Result<F>) -> io::Result<Option<F>> {
+    match answer {
+        Ok(file) => Ok(Some(file)),
+        Err(error) if error.kind() == ErrorKind::NotFound => Ok(None),
+        Err(error) => Err(error),
+    }
+}
+
+/// A slot's file, where it is there.
+fn open_slot<F: OpenFile + AsRawFd + Drop, R: Files<File = F>>(
+    rt: &R,
+    alloc: Global,
+    folder: &str,
+    slot: usize,
+) -> Result<Option<F>, EdgeFault>
+    ensures { result ≢ Err TooMany }
+{
+    let path = slot_path(alloc, folder, slot)?;
+    let answer = if_there(open_file(rt, path.as_str(), false));
+    at_path(alloc, path.as_str(), answer)
+}
+
+/// The file of each slot that has one.
+pub(crate) fn open_slots<F: OpenFile + AsRawFd + Drop, R: Files<File = F>>(
+    rt: &R,
+    alloc: Global,
+    folder: &str,
+) -> Result<Vec<Option<F>>, EdgeFault>
+    ensures all { IfOk result (λ slots. length slots.items ≡ 256) }
+    ensures few { result ≢ Err TooMany }
+{
+    let mut slots = Vec::new(alloc);
+    for slot in 0..SLOTS {
+        add(&mut slots, open_slot(rt, alloc, folder, slot)?)?;
+    }
+    Ok(slots)
+}
+
+/// The length of each file; 0 where a slot has none.
+pub(crate) fn lengths_of<F: OpenFile + Drop>(
+    alloc: Global,
+    journal: &F,
+    slots: &[Option<F>],
+) -> io::Result<Vec<u64>> {
+    let mut lengths = Vec::new(alloc);
+    lengths.push(journal.metadata()?.len())?;
+    for slot in slots {
+        match slot {
+            Some(file) => lengths.push(file.metadata()?.len())?,
+            None => lengths.push(0)?,
+        }
+    }
+    Ok(lengths)
+}
+
+/// A file isn't as it was left.
+fn changed() -> io::Error {
+    io::Error::from(ErrorKind::InvalidData)
+}
+
+/// Whether a slot has a file.
+pub(crate) fn has_slot<F: Drop>(slots: &[Option<F>], slot: usize) -> bool
+    ensures { result ≡ has_slot slots.now slot }
+{
+    match slots.get(slot) {
+        Some(file) => file.is_some(),
+        None => false,
+    }
+}
+
+/// The file of a number.
+pub(crate) fn file_at<'a, F: Drop>(
+    journal: &'a F,
+    slots: &'a [Option<F>],
+    f: u32,
+) -> io::Result<&'a F> {
+    if f == 0 {
+        return Ok(journal);
+    }
+    match slots.get(f as usize - 1) {
+        Some(Some(file)) => Ok(file),
+        _ => Err(changed()),
+    }
+}
+
+/// The length of a file, which is the one that it was left with.
+pub(crate) fn same_length<F: OpenFile + Drop>(
+    file: &F,
+    lengths: &[u64],
+    f: u32,
+) -> io::Result<u64> {
+    let length = file.metadata()?.len();
+    if lengths.get(f as usize) == Some(&length) {
+        Ok(length)
+    } else {
+        Err(changed())
+    }
+}
+
+/// Notes how far a file was written.
+pub(crate) fn note_length(lengths: &mut Vec<u64>, f: u32, end: u64) {
+    if let Some(length) = lengths.get_mut(f as usize) {
+        *length = (*length).max(end);
+    }
+}
