@@ -1,6 +1,6 @@
 -- What files in a folder show.
-use Rattle.std.specs.Prelude.{ℕ, Bool}
-use Rattle.host_edge.specs.Slots.{is_here}
+use Rattle.std.specs.Prelude.{ℕ, Bool, Option}
+use Rattle.host_edge.specs.Slots.{file_among, is_here}
 use Rattle.host_edge.specs.declared.dir_media.DirMedia.{DirMedia}
 
 -- the output
@@ -17,3 +17,7 @@ tell_faults_of media = media.tell_faults
 -- which files are here
 abbrev pub present_of : {F W : Type 0} → DirMedia F W → ℕ → Bool
 present_of media f = is_here media.slots.items f
+
+-- the file of a number, where it is here
+abbrev pub file_of : {F W : Type 0} → DirMedia F W → ℕ → Option F
+file_of media f = file_among media.journal media.slots.items f

@@ -1,22 +1,20 @@
 //! Files of a folder as a media.
 
-ghost use Rattle.std.specs.Prelude.{◌≡◌, ◌≢◌, ◌≤◌, length, IfOk, Err};
+ghost use Rattle.std.specs.Prelude.{◌≡◌, ◌≢◌, ◌≤◌, length, IfOk, OnOk, IfSome, Some, Err};
 ghost use Rattle.std.specs.Io.KnownBytes.{WriteAppends};
 ghost use Rattle.crash_moments.specs.Moments.{HasCause};
 ghost use Rattle.host_edge.specs.declared.fault.EdgeFault.TheVariants.{TooMany};
 
 use crate::counting::counted;
+use crate::disk_file::DiskFile;
 use crate::fault::{EdgeFault, at_path};
 use crate::files::{make_folder, sync_folder};
 use crate::slots::{
-    file_at, has_slot, lengths_of, note_length, open_journal, open_slots, same_length,
+    changed, file_among, lengths_of, note_length, open_journal, open_slots, same_length, slot_at,
 };
 use crash_moments::raised;
 use media_core::{Failed, Media};
-use std::fs::OpenFile;
 use std::io::{self, Write};
-use std::os::fd::AsRawFd;
-use std::os::unix::fs::FileExt;
 use std::rt::Files;
 
 /// The files `journal` and `slot0` to `slot255` of a folder, and an output. File 0 is the journal; a slot is here where its
@@ -33,8 +31,8 @@ pub struct DirMedia<F: Drop, W: Drop> {
     ghost all_slots: { length slots.items ≡ 256 },
 }
 
-impl<F: FileExt + OpenFile + AsRawFd + Drop, W: Write + Drop> DirMedia<F, W> {
-    ghost use Rattle.host_edge.specs.Shown.{output_of, faults_of, tell_faults_of};
+impl<F: DiskFile + Drop, W: Write + Drop> DirMedia<F, W> {
+    ghost use Rattle.host_edge.specs.Shown.{file_of, output_of, faults_of, tell_faults_of};
 
     /// Opens a folder, which is made where it is absent, as is an empty `journal`; the folder that it stands in is there. What
     /// the files have, and their names, is on the disk then. No file gets the number of a standard stream.
@@ -63,33 +61,47 @@ impl<F: FileExt + OpenFile + AsRawFd + Drop, W: Write + Drop> DirMedia<F, W> {
         })
     }
 
-    fn file(&self, f: u32) -> io::Result<&F> {
-        file_at(&self.journal, self.slots.as_slice(), f)
+    /// The file of a number.
+    fn file(&self, f: u32) -> io::Result<&F>
+        ensures { IfOk result (λ file. file_of self.now f ≡ Some file.now) }
+    {
+        match file_among(&self.journal, self.slots.as_slice(), f) {
+            Some(file) => Ok(file),
+            None => Err(changed()),
+        }
     }
 
-    fn len_of(&self, f: u32) -> io::Result<u64> {
+    fn len_of(&self, f: u32) -> io::Result<u64>
+        ensures { IfOk result (λ length. IfSome (file_of self.now f) (λ file. F.measured file length)) }
+    {
         same_length(self.file(f)?, self.lengths.as_slice(), f)
     }
 
-    fn read_from(&self, f: u32, at: u64, into: &mut [u8]) -> io::Result<()> {
-        self.file(f)?.read_exact_at(into, at)
+    fn read_from(&self, f: u32, at: u64, into: &mut [u8]) -> io::Result<()>
+        ensures { OnOk result (IfSome (file_of self.now f) (λ file. F.gave file at into.new)) }
+    {
+        self.file(f)?.read_all_at(into, at)
     }
 
-    fn write_to(&self, f: u32, at: u64, from: &[u8]) -> io::Result<()> {
-        self.file(f)?.write_all_at(from, at)
+    fn write_to(&self, f: u32, at: u64, from: &[u8]) -> io::Result<()>
+        ensures { OnOk result (IfSome (file_of self.now f) (λ file. F.took file at from.now)) }
+    {
+        self.file(f)?.write_whole_at(from, at)
     }
 
-    fn sync_of(&self, f: u32) -> io::Result<()> {
-        self.file(f)?.sync_all()
+    fn sync_of(&self, f: u32) -> io::Result<()>
+        ensures { OnOk result (IfSome (file_of self.now f) (λ file. F.settled file)) }
+    {
+        self.file(f)?.settle()
     }
 }
 
-impl<F: FileExt + OpenFile + AsRawFd + Drop, W: Write + Drop> Media for DirMedia<F, W> {
+impl<F: DiskFile + Drop, W: Write + Drop> Media for DirMedia<F, W> {
     ghost use Rattle.std.proofs.Common.{refl, lit≤};
     ghost use Rattle.crash_moments.specs.Moments.{silent};
     ghost use Rattle.media_core.specs.Media.{nothing};
     ghost use Rattle.host_edge.specs.Here.{here_below};
-    ghost use Rattle.host_edge.specs.Shown.{output_of, present_of, faults_of, tell_faults_of};
+    ghost use Rattle.host_edge.specs.Shown.{file_of, output_of, present_of, faults_of, tell_faults_of};
 
     ghost tells = { ⊥ };
 
@@ -125,28 +137,52 @@ impl<F: FileExt + OpenFile + AsRawFd + Drop, W: Write + Drop> Media for DirMedia
         if f == 0 {
             true
         } else {
-            has_slot(self.slots.as_slice(), f as usize - 1)
+            slot_at(self.slots.as_slice(), f as usize - 1).is_some()
         }
     }
 
-    fn len(&mut self, f: u32) -> Result<u64, Failed> {
+    fn len(&mut self, f: u32) -> Result<u64, Failed>
+        ensures length { IfOk result (λ length. IfSome (file_of self.old f) (λ file. F.measured file length)) }
+        ensures files { file_of self.new ≡ file_of self.old }
+        ensures present { present_of self.new ≡ present_of self.old }
+        ensures cause { HasCause (faults_of self.old) (faults_of self.new) result }
+        ensures tell_faults { tell_faults_of self.new ≡ tell_faults_of self.old }
+    {
         let answer = self.len_of(f);
         counted(&mut self.faults, answer)
     }
 
-    fn read(&mut self, f: u32, at: u64, into: &mut [u8]) -> Result<(), Failed> {
+    fn read(&mut self, f: u32, at: u64, into: &mut [u8]) -> Result<(), Failed>
+        ensures gave { OnOk result (IfSome (file_of self.old f) (λ file. F.gave file at into.new)) }
+        ensures files { file_of self.new ≡ file_of self.old }
+        ensures present { present_of self.new ≡ present_of self.old }
+        ensures cause { HasCause (faults_of self.old) (faults_of self.new) result }
+        ensures tell_faults { tell_faults_of self.new ≡ tell_faults_of self.old }
+    {
         let answer = self.read_from(f, at, into);
         counted(&mut self.faults, answer)
     }
 
-    fn write(&mut self, f: u32, at: u64, from: &[u8]) -> Result<(), Failed> {
+    fn write(&mut self, f: u32, at: u64, from: &[u8]) -> Result<(), Failed>
+        ensures took { OnOk result (IfSome (file_of self.old f) (λ file. F.took file at from.now)) }
+        ensures files { file_of self.new ≡ file_of self.old }
+        ensures present { present_of self.new ≡ present_of self.old }
+        ensures cause { HasCause (faults_of self.old) (faults_of self.new) result }
+        ensures tell_faults { tell_faults_of self.new ≡ tell_faults_of self.old }
+    {
         let answer = self.write_to(f, at, from);
         counted(&mut self.faults, answer)?;
         note_length(&mut self.lengths, f, at.saturating_add(from.len() as u64));
         Ok(())
     }
 
-    fn sync(&mut self, f: u32) -> Result<(), Failed> {
+    fn sync(&mut self, f: u32) -> Result<(), Failed>
+        ensures settled { OnOk result (IfSome (file_of self.old f) (λ file. F.settled file)) }
+        ensures files { file_of self.new ≡ file_of self.old }
+        ensures present { present_of self.new ≡ present_of self.old }
+        ensures cause { HasCause (faults_of self.old) (faults_of self.new) result }
+        ensures tell_faults { tell_faults_of self.new ≡ tell_faults_of self.old }
+    {
         let answer = self.sync_of(f);
         counted(&mut self.faults, answer)
     }
@@ -155,19 +191,14 @@ impl<F: FileExt + OpenFile + AsRawFd + Drop, W: Write + Drop> Media for DirMedia
         ensures front { IfOk result (λ n. n ≤ length piece.now) }
         ensures some { IfOk result (λ n. n ≡ 0 → length piece.now ≡ 0) }
         ensures bytes { WriteAppends (W.contents (output_of self.old)) (W.contents (output_of self.new)) result piece.now }
+        ensures files { file_of self.new ≡ file_of self.old }
         ensures present { present_of self.new ≡ present_of self.old }
         ensures cause { HasCause (tell_faults_of self.old) (tell_faults_of self.new) result }
         ensures faults { faults_of self.new ≡ faults_of self.old }
     {
         match self.output.write(piece) {
-            Ok(count) => {
-                if count == 0 && piece.len() > 0 {
-                    self.tell_faults = raised(self.tell_faults);
-                    return Err(Failed);
-                }
-                Ok(count)
-            }
-            Err(_) => {
+            Ok(count) if count > 0 || piece.is_empty() => Ok(count),
+            _ => {
                 self.tell_faults = raised(self.tell_faults);
                 Err(Failed)
             }

@@ -4,11 +4,10 @@ ghost use Rattle.std.specs.Prelude.{◌≡◌, ◌++◌, IfOk, codes};
 ghost use Rattle.std.specs.String.{string_bytes};
 ghost use Rattle.host_edge.specs.Streams.{IsAboveStreams};
 
-use crate::fault::{EdgeFault, fault_at};
+use crate::disk_file::DiskFile;
 use std::alloc::{AllocError, Global};
 use std::fs::{self, OpenFile, OpenOptions};
 use std::io::{self, ErrorKind};
-use std::os::fd::AsRawFd;
 use std::rt::Files;
 
 /// The descriptor of standard error, the last of the standard streams.
@@ -33,10 +32,10 @@ fn folder_of(path: &str) -> &str {
 }
 
 /// A file, unless it has the number of a standard stream: replies would go into it, or it would be read as the script.
-fn above_streams<F: AsRawFd + Drop>(file: F) -> io::Result<F>
-    ensures { IfOk result (λ file. IsAboveStreams (F.raw_fd file)) }
+fn above_streams<F: DiskFile + Drop>(file: F) -> io::Result<F>
+    ensures { IfOk result (λ file. IsAboveStreams (F.number file)) }
 {
-    if file.as_raw_fd() <= LAST_STREAM {
+    if file.number() <= LAST_STREAM {
         return Err(io::Error::from(ErrorKind::InvalidInput));
     }
     Ok(file)
@@ -44,12 +43,13 @@ fn above_streams<F: AsRawFd + Drop>(file: F) -> io::Result<F>
 
 /// Opens a file for reading and writing, and waits until what an earlier program wrote to it is on the disk. It never has the
 /// number of a standard stream.
-pub fn open_file<F: OpenFile + AsRawFd + Drop, R: Files<File = F>>(
+pub fn open_file<F: DiskFile + Drop, R: Files<File = F>>(
     rt: &R,
     path: &str,
     create: bool,
 ) -> io::Result<F>
-    ensures { IfOk result (λ file. IsAboveStreams (F.raw_fd file)) }
+    ensures above { IfOk result (λ file. IsAboveStreams (F.number file)) }
+    ensures settled { IfOk result (λ file. F.settled file) }
 {
     let file = OpenOptions::new()
         .read(true)
@@ -57,7 +57,7 @@ pub fn open_file<F: OpenFile + AsRawFd + Drop, R: Files<File = F>>(
         .create(create)
         .open(rt, path)?;
     let file = above_streams(file)?;
-    file.sync_all()?;
+    file.settle()?;
     Ok(file)
 }
 

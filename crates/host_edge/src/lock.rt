@@ -5,27 +5,14 @@ ghost use Rattle.host_edge.specs.Locks.{handle_of};
 ghost use Rattle.host_edge.specs.Streams.{IsAboveStreams};
 ghost use Rattle.host_edge.specs.declared.fault.EdgeFault.TheVariants.{TooMany};
 
+use crate::disk_file::DiskFile;
 use crate::fault::{EdgeFault, fault_at};
 use crate::files::{LAST_STREAM, make_folder};
 use crate::lists::add;
 use std::alloc::Global;
-use std::fs::{self, File, OpenFile};
+use std::fs;
 use std::io::{self, ErrorKind};
-use std::os::fd::AsRawFd;
 use std::rt::Files;
-
-/// A file that one program at a time can have.
-pub trait TryLock {
-    /// Takes it for this program, until it is dropped. A file that another program has is refused.
-    fn take_lock(&self) -> io::Result<()>;
-}
-
-impl TryLock for File {
-    fn take_lock(&self) -> io::Result<()> {
-        self.try_lock()?;
-        Ok(())
-    }
-}
 
 /// A folder that this program has, until this is dropped. The lock is advisory: programs that don't ask for it are not kept
 /// out. Where a standard stream was closed at the start, a handle of the folder stands in its place: it can be neither read
@@ -40,17 +27,17 @@ pub struct FolderLock<F: Drop> {
 const MOST_HANDLES: usize = 4;
 
 /// Opens a folder until a handle of it is above the standard streams, and keeps those that aren't.
-fn hold_streams<F: OpenFile + AsRawFd + Drop, R: Files<File = F>>(
+fn hold_streams<F: DiskFile + Drop, R: Files<File = F>>(
     rt: &R,
     alloc: Global,
     folder: &str,
 ) -> io::Result<FolderLock<F>>
-    ensures { IfOk result (λ lock. IsAboveStreams (F.raw_fd (handle_of lock))) }
+    ensures { IfOk result (λ lock. IsAboveStreams (F.number (handle_of lock))) }
 {
     let mut held = Vec::new(alloc);
     for _ in 0..MOST_HANDLES {
         let handle = fs::open(rt, folder)?;
-        if handle.as_raw_fd() > LAST_STREAM {
+        if handle.number() > LAST_STREAM {
             return Ok(FolderLock {
                 in_place_of_streams: held,
                 handle,
@@ -62,12 +49,13 @@ fn hold_streams<F: OpenFile + AsRawFd + Drop, R: Files<File = F>>(
 }
 
 /// Makes a folder where it is absent, and takes it.
-fn take_folder<F: OpenFile + AsRawFd + TryLock + Drop, R: Files<File = F>>(
+fn take_folder<F: DiskFile + Drop, R: Files<File = F>>(
     rt: &R,
     alloc: Global,
     folder: &str,
 ) -> io::Result<FolderLock<F>>
-    ensures { IfOk result (λ lock. IsAboveStreams (F.raw_fd (handle_of lock))) }
+    ensures above { IfOk result (λ lock. IsAboveStreams (F.number (handle_of lock))) }
+    ensures locked { IfOk result (λ lock. F.locked (handle_of lock)) }
 {
     make_folder(rt, folder)?;
     let lock = hold_streams(rt, alloc, folder)?;
@@ -77,11 +65,12 @@ fn take_folder<F: OpenFile + AsRawFd + TryLock + Drop, R: Files<File = F>>(
 
 /// Takes a folder for this program. The folder is made where it is absent; the one that it stands in is there. It is refused
 /// where another program has it. It is to be the first that a program opens.
-pub fn lock_folder<F: OpenFile + AsRawFd + TryLock + Drop, R: Files<File = F> + AllocGlobal>(
+pub fn lock_folder<F: DiskFile + Drop, R: Files<File = F> + AllocGlobal>(
     rt: &R,
     folder: &str,
 ) -> Result<FolderLock<F>, EdgeFault>
-    ensures above { IfOk result (λ lock. IsAboveStreams (F.raw_fd (handle_of lock))) }
+    ensures above { IfOk result (λ lock. IsAboveStreams (F.number (handle_of lock))) }
+    ensures locked { IfOk result (λ lock. F.locked (handle_of lock)) }
     ensures few { result ≢ Err TooMany }
 {
     match take_folder(rt, rt.alloc(), folder) {

@@ -1,31 +1,31 @@
 //! The files `journal` and `slot0` to `slot255` of a folder, and what is known of them.
 
-ghost use Rattle.std.specs.Prelude.{◌≡◌, ◌≢◌, ◌++◌, codes, length, IfOk, Err};
+ghost use Rattle.std.specs.Prelude.{◌≡◌, ◌≢◌, ◌++◌, codes, length, is_some, IfOk, Err};
 ghost use Rattle.std.specs.String.{string_bytes};
+ghost use Rattle.std.specs.Option.{option_copied};
 ghost use Rattle.std.specs.Fmt.{decimal};
-ghost use Rattle.host_edge.specs.Slots.{has_slot};
+ghost use Rattle.host_edge.specs.Slots.{slot_at, file_among};
 ghost use Rattle.host_edge.specs.Streams.{IsAboveStreams};
 ghost use Rattle.host_edge.specs.declared.fault.EdgeFault.TheVariants.{TooMany};
 
+use crate::disk_file::DiskFile;
 use crate::fault::{EdgeFault, at_path};
 use crate::files::{open_file, path_in};
 use crate::lists::add;
 use std::alloc::{AllocError, Global};
-use std::fs::OpenFile;
 use std::io::{self, ErrorKind};
-use std::os::fd::AsRawFd;
 use std::rt::Files;
 
 /// How many slots there are.
 const SLOTS: usize = 256;
 
 /// The journal, which is made where it is absent.
-pub(crate) fn open_journal<F: OpenFile + AsRawFd + Drop, R: Files<File = F>>(
+pub(crate) fn open_journal<F: DiskFile + Drop, R: Files<File = F>>(
     rt: &R,
     alloc: Global,
     folder: &str,
 ) -> Result<F, EdgeFault>
-    ensures above { IfOk result (λ file. IsAboveStreams (F.raw_fd file)) }
+    ensures above { IfOk result (λ file. IsAboveStreams (F.number file)) }
     ensures few { result ≢ Err TooMany }
 {
     let path = path_in(alloc, folder, "journal")?;
@@ -49,7 +49,7 @@ fn if_there<F: Drop>(answer: io::Result<F>) -> io::Result<Option<F>> {
 }
 
 /// A slot's file, where it is there.
-fn open_slot<F: OpenFile + AsRawFd + Drop, R: Files<File = F>>(
+fn open_slot<F: DiskFile + Drop, R: Files<File = F>>(
     rt: &R,
     alloc: Global,
     folder: &str,
@@ -63,7 +63,7 @@ fn open_slot<F: OpenFile + AsRawFd + Drop, R: Files<File = F>>(
 }
 
 /// The file of each slot that has one.
-pub(crate) fn open_slots<F: OpenFile + AsRawFd + Drop, R: Files<File = F>>(
+pub(crate) fn open_slots<F: DiskFile + Drop, R: Files<File = F>>(
     rt: &R,
     alloc: Global,
     folder: &str,
@@ -79,16 +79,16 @@ pub(crate) fn open_slots<F: OpenFile + AsRawFd + Drop, R: Files<File = F>>(
 }
 
 /// The length of each file; 0 where a slot has none.
-pub(crate) fn lengths_of<F: OpenFile + Drop>(
+pub(crate) fn lengths_of<F: DiskFile + Drop>(
     alloc: Global,
     journal: &F,
     slots: &[Option<F>],
 ) -> io::Result<Vec<u64>> {
     let mut lengths = Vec::new(alloc);
-    lengths.push(journal.metadata()?.len())?;
+    lengths.push(journal.length()?)?;
     for slot in slots {
         match slot {
-            Some(file) => lengths.push(file.metadata()?.len())?,
+            Some(file) => lengths.push(file.length()?)?,
             None => lengths.push(0)?,
         }
     }
@@ -96,42 +96,40 @@ pub(crate) fn lengths_of<F: OpenFile + Drop>(
 }
 
 /// A file isn't as it was left.
-fn changed() -> io::Error {
+pub(crate) fn changed() -> io::Error {
     io::Error::from(ErrorKind::InvalidData)
 }
 
-/// Whether a slot has a file.
-pub(crate) fn has_slot<F: Drop>(slots: &[Option<F>], slot: usize) -> bool
-    ensures { result ≡ has_slot slots.now slot }
+/// The file of a slot, where it has one.
+pub(crate) fn slot_at<F: Drop>(slots: &[Option<F>], slot: usize) -> Option<&F>
+    ensures value { option_copied result ≡ slot_at slots.now slot }
+    ensures variant { is_some result ≡ is_some (slot_at slots.now slot) }
 {
     match slots.get(slot) {
-        Some(file) => file.is_some(),
-        None => false,
+        Some(file) => file.as_ref(),
+        None => None,
     }
 }
 
-/// The file of a number.
-pub(crate) fn file_at<'a, F: Drop>(
+/// The file of a number, where it is here.
+pub(crate) fn file_among<'a, F: Drop>(
     journal: &'a F,
     slots: &'a [Option<F>],
     f: u32,
-) -> io::Result<&'a F> {
+) -> Option<&'a F>
+    ensures { option_copied result ≡ file_among journal.now slots.now f }
+{
     if f == 0 {
-        return Ok(journal);
+        return Some(journal);
     }
-    match slots.get(f as usize - 1) {
-        Some(Some(file)) => Ok(file),
-        _ => Err(changed()),
-    }
+    slot_at(slots, f as usize - 1)
 }
 
 /// The length of a file, which is the one that it was left with.
-pub(crate) fn same_length<F: OpenFile + Drop>(
-    file: &F,
-    lengths: &[u64],
-    f: u32,
-) -> io::Result<u64> {
-    let length = file.metadata()?.len();
+pub(crate) fn same_length<F: DiskFile + Drop>(file: &F, lengths: &[u64], f: u32) -> io::Result<u64>
+    ensures { IfOk result (λ length. F.measured file.now length) }
+{
+    let length = file.length()?;
     if lengths.get(f as usize) == Some(&length) {
         Ok(length)
     } else {
