@@ -5,11 +5,12 @@ ghost use Rattle.plant_core.specs.Crashes.{State, Alike};
 ghost use Rattle.plant_core.specs.Effects.{come};
 ghost use Rattle.tape_config.specs.declared.port.PortFields.{PortFields as AnyPort};
 ghost use Rattle.tape_frames.specs.declared.data.DataFields.{DataFields as AnyData};
+ghost use Rattle.tape_frames.specs.declared.dump_head.DumpHeadFields.{DumpHeadFields as AnyHead};
 ghost use Rattle.tape_frames.specs.declared.label.LabelFields.{LabelFields as AnyLabel};
 ghost use Rattle.tape_text.specs.Items.{Item, Read, IsFitItem};
 ghost use Rattle.tape_text.specs.Texts.{Fragment, Part};
 ghost use Rattle.tape_writer.specs.Puts.{puts_on, with_items};
-ghost use Rattle.tape_writer.specs.Filling.{taken, Stays};
+ghost use Rattle.tape_writer.specs.Filling.{Start, Dumping, taken, Stays, TapeText};
 
 /// Items put one behind another are put as one list.
 pub fn puts_joined()
@@ -30,4 +31,10 @@ pub fn what_is_put_is_read()
 /// 3 filemarks.
 pub fn smallest_part()
     ensures { (port : AnyPort) (label : AnyLabel) (old : AnyList Item) (p : Part) (f : Fragment) (d : AnyData) → p.fragments ≡ f ∷ [] → f.pieces ≡ d ∷ [] → Stays port (taken label old) p ↔ (6 * 16384 + 3 * port.filemark ≤ port.capacity) }
+{}
+
+/// What a dump puts on its tapes is one thing, to the byte: the port, the cell, the first head, the volumes with their streams, and
+/// the tapes on which parts begin give the parts.
+pub fn one_filling()
+    ensures { (port : AnyPort) (cell : AnyList ℕ) (head : AnyHead) (volumes : AnyList Dumping) (starts : AnyList Start) (parts others : AnyList Part) → TapeText port cell head volumes starts parts → TapeText port cell head volumes starts others → parts ≡ others }
 {}

@@ -8,7 +8,7 @@ mod puts;
 mod writer;
 
 pub use fault::WriteFault;
-pub use laws::{puts_joined, smallest_part, what_is_put_is_read, what_is_put_stands};
+pub use laws::{one_filling, puts_joined, smallest_part, what_is_put_is_read, what_is_put_stands};
 pub use writer::Writer;
 
 #[cfg(test)]
