@@ -4,4 +4,5 @@ pub mod OneFragment
 pub mod OnePieces
 pub mod OneTape
 pub mod OneText
+pub mod Placing
 pub mod Standing

@@ -9,7 +9,7 @@ use Rattle.tape_frames.specs.declared.vol_head.VolHeadFields.{VolHeadFields}
 use Rattle.tape_frames.specs.declared.data.DataFields.{DataFields}
 use Rattle.tape_text.specs.Items.{Item, Says, Filemark, Nothing, IsFitItem}
 use Rattle.tape_text.specs.Texts.{Fragment, Part, Tape, part_items, IsPart}
-use Rattle.tape_text.specs.Parts.{part_marks, uses_told}
+use Rattle.tape_text.specs.Parts.{FoundPart, part_len, part_marks, uses_told}
 use Rattle.tape_text.specs.Wholes.{Ends, IsWhole}
 use Rattle.tape_writer.specs.Room.{taken_by}
 
@@ -52,6 +52,13 @@ appended t = record {
   marks = 1 + sum_by part_marks t.parts;
   uses = if uses_told t.parts == 0 then 1 else uses_told t.parts;
 }
+
+-- where parts stand that are put on these tapes, each behind what stands in front of it
+abbrev pub placed : List Start → List Part → List FoundPart
+placed [] ps = []
+placed (s ∷ ss) [] = []
+placed (s ∷ ss) (p ∷ ps) =
+    record { part = p; first = s.blocks + s.marks; end = s.blocks + s.marks + part_len p; marks = s.marks + part_marks p } ∷ placed ss ps
 
 -- ---- room
 

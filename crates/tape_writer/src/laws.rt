@@ -1,6 +1,6 @@
 //! Laws on what is put, each the contract of a function without a body.
 
-ghost use Rattle.std.specs.Prelude.{◌≡◌, ◌↔◌, ◌+◌, ◌*◌, ◌≤◌, ℕ, List as AnyList, [], ◌∷◌, ◌++◌, All};
+ghost use Rattle.std.specs.Prelude.{◌≡◌, ◌↔◌, ◌+◌, ◌*◌, ◌≤◌, ℕ, List as AnyList, [], ◌∷◌, ◌++◌, length, All};
 ghost use Rattle.plant_core.specs.Crashes.{State, Alike};
 ghost use Rattle.plant_core.specs.Effects.{come};
 ghost use Rattle.tape_config.specs.declared.port.PortFields.{PortFields as AnyPort};
@@ -8,9 +8,10 @@ ghost use Rattle.tape_frames.specs.declared.data.DataFields.{DataFields as AnyDa
 ghost use Rattle.tape_frames.specs.declared.dump_head.DumpHeadFields.{DumpHeadFields as AnyHead};
 ghost use Rattle.tape_frames.specs.declared.label.LabelFields.{LabelFields as AnyLabel};
 ghost use Rattle.tape_text.specs.Items.{Item, Read, IsFitItem};
-ghost use Rattle.tape_text.specs.Texts.{Fragment, Part};
+ghost use Rattle.tape_text.specs.Texts.{Fragment, Part, Tape, tape_items};
+ghost use Rattle.tape_text.specs.Parts.{parts_of};
 ghost use Rattle.tape_writer.specs.Puts.{puts_on, with_items};
-ghost use Rattle.tape_writer.specs.Filling.{Start, Dumping, taken, Stays, TapeText};
+ghost use Rattle.tape_writer.specs.Filling.{Start, Dumping, taken, appended, placed, Stays, TapeText};
 
 /// Items put one behind another are put as one list.
 pub fn puts_joined()
@@ -37,4 +38,15 @@ pub fn smallest_part()
 /// the tapes on which parts begin give the parts.
 pub fn one_filling()
     ensures { (port : AnyPort) (cell : AnyList ℕ) (head : AnyHead) (volumes : AnyList Dumping) (starts : AnyList Start) (parts others : AnyList Part) → TapeText port cell head volumes starts parts → TapeText port cell head volumes starts others → parts ≡ others }
+{}
+
+/// On a tape that is taken a part is found where it is put: its head is record 2.
+pub fn a_part_of_a_taken_tape_is_found()
+    ensures { (label : AnyLabel) (old : AnyList Item) (p : Part) → parts_of (record { label = label; parts = p ∷ [] }) ≡ placed (taken label old ∷ []) (p ∷ []) }
+{}
+
+/// A part that is appended to a tape is found where it is put, behind all that stands there.
+pub fn an_appended_part_is_found()
+    ensures place { (t : Tape) → (appended t).blocks + (appended t).marks ≡ length (tape_items t) }
+    ensures parts { (t : Tape) (p : Part) → parts_of (record t { parts = t.parts ++ p ∷ [] }) ≡ parts_of t ++ placed (appended t ∷ []) (p ∷ []) }
 {}

@@ -8,7 +8,10 @@ mod puts;
 mod writer;
 
 pub use fault::WriteFault;
-pub use laws::{one_filling, puts_joined, smallest_part, what_is_put_is_read, what_is_put_stands};
+pub use laws::{
+    a_part_of_a_taken_tape_is_found, an_appended_part_is_found, one_filling, puts_joined,
+    smallest_part, what_is_put_is_read, what_is_put_stands,
+};
 pub use writer::Writer;
 
 #[cfg(test)]
