@@ -1,5 +1,6 @@
 pub mod AfterLaws
 pub mod Alike
+pub mod AlikeLaws
 pub mod AgainLaws
 pub mod ChainLaws
 pub mod ContentsLaws

@@ -1,12 +1,12 @@
 //! Laws of what a crash leaves, each the contract of a function without a body.
 
-ghost use Rattle.std.specs.Prelude.{◌≡◌, ◌⊎◌, ◌≤◌, ℕ, Some, List, ◌∷◌, [], ◌++◌, length, map, take, slice_get};
+ghost use Rattle.std.specs.Prelude.{◌≡◌, ◌⊎◌, ◌≤◌, ℕ, Some, List, ◌∷◌, [], ◌++◌, map, take, slice_get};
 ghost use Rattle.budb_changes.specs.declared.records.TapePart.{TapePart};
 ghost use Rattle.budb_changes.specs.declared.records.DumpRecordFields.{DumpRecordFields};
 ghost use Rattle.plant_core.specs.Records.{Record};
-ghost use Rattle.plant_core.specs.Crashes.{State, LeftIn, IsTorn, seen_in, IsSettled};
+ghost use Rattle.plant_core.specs.Crashes.{State, LeftIn, IsTorn, seen_in, IsSettled, Alike};
 ghost use Rattle.plant_core.specs.Stock.{Stock};
-ghost use Rattle.plant_core.specs.Effects.{Effect, come};
+ghost use Rattle.plant_core.specs.Effects.{Effect, come, Joint};
 ghost use Rattle.tape_text.specs.Items.{Item, Nothing, Read};
 ghost use Rattle.tape_scan.specs.Slots.{Slot};
 ghost use Rattle.archive_model.specs.Holding.{LiesOn};
@@ -37,11 +37,11 @@ pub fn an_image_holds_the_archive()
         → (slots : List Slot) × (map is_here slots ≡ map is_here a.slots) × StillHeld (listed_of a) a.slots slots × Holds c (record a { slots = slots }) (remaining (listed_of a) slots records) }
 {}
 
-/// An image that is left after the first effects holds the archive that was held after them, and each listed dump of it where
-/// it was.
+/// An image that is left after the first effects, as every call on a plant promises it, holds the archive that was held after
+/// them, and each listed dump of it where it was.
 pub fn a_joint_image_holds_the_archive_of_its_count()
-    ensures { (es : List Effect) (archives : List Kept) (s : State) (count : ℕ) (c : Stock) → AreHeld s es archives → count ≤ length es → LeftIn (come (take count es) s) c
-        → (a : Kept) × (slice_get archives count ≡ Some a) × (slots : List Slot) × (map is_here slots ≡ map is_here a.archive.slots)
+    ensures { (es : List Effect) (archives : List Kept) (s : State) (old c : Stock) → AreHeld s es archives → (joint : Joint s es old c)
+        → (a : Kept) × (slice_get archives joint.count ≡ Some a) × (slots : List Slot) × (map is_here slots ≡ map is_here a.archive.slots)
         × StillHeld (listed_of a.archive) a.archive.slots slots × Holds c (record a.archive { slots = slots }) (remaining (listed_of a.archive) slots a.records) }
 {}
 
@@ -49,4 +49,15 @@ pub fn a_joint_image_holds_the_archive_of_its_count()
 pub fn held_archives_join()
     ensures { (s : State) (es fs : List Effect) (archives : List Kept) (a : Kept) (more : List Kept)
         → AreHeld s es (archives ++ a ∷ []) → AreHeld (come es s) fs (a ∷ more) → AreHeld s (es ++ fs) (archives ++ a ∷ more) }
+{}
+
+/// Of archives that are held while effects come the first is held before them, and the last after all of them.
+pub fn held_archives_begin_and_end()
+    ensures first { (s : State) (es : List Effect) (a : Kept) (more : List Kept) → AreHeld s es (a ∷ more) → HoldsSettled s a.archive a.records }
+    ensures last { (s : State) (es : List Effect) (archives : List Kept) (a : Kept) → AreHeld s es (archives ++ a ∷ []) → HoldsSettled (come es s) a.archive a.records }
+{}
+
+/// States that are the same, part by part, hold the same archives.
+pub fn alike_states_hold_alike()
+    ensures { (s t : State) (a : Archive) (records : List DumpRecordFields) → Alike s t → HoldsSettled s a records → HoldsSettled t a records }
 {}

@@ -19,8 +19,9 @@ pub use holding::{
     without_its_head_nothing_is_held,
 };
 pub use images::{
-    a_joint_image_holds_the_archive_of_its_count, a_torn_tape_reads, an_image_holds_the_archive,
-    held_archives_join, what_is_settled_holds, what_is_settled_lies_in_each_image,
+    a_joint_image_holds_the_archive_of_its_count, a_torn_tape_reads, alike_states_hold_alike,
+    an_image_holds_the_archive, held_archives_begin_and_end, held_archives_join,
+    what_is_settled_holds, what_is_settled_lies_in_each_image,
 };
 pub use plays::{
     a_chain_plays_to_its_clone, a_dump_gives_its_clone_next, a_dumped_clone_is_given_next,
@@ -29,12 +30,13 @@ pub use plays::{
     what_is_played_is_looked_up, what_was_written_is_given, what_was_written_plays_to_its_clone,
 };
 pub use sources::{a_dump_keeps_its_cell_fair, a_fair_cell_gives_clones};
-pub use steps::{ frames_within_a_part_are_held, an_id_above_all_heads_is_new,
+pub use steps::{
     a_cut_keeps_own_heads, a_filemark_closes_its_part_alone, a_label_is_held,
     a_put_begins_its_head_alone, a_put_keeps_own_heads, a_taken_tape_is_held,
-    an_appended_tape_is_held, an_id_above_all_is_new, own_heads_are_not_anew,
-    remaining_dumps_were_dumps, settled_parts_are_a_settled_dump, the_end_of_a_dump_is_held,
-    the_end_of_a_part_is_held, the_end_of_a_volume_is_held, the_last_part_makes_a_dump_found,
+    an_appended_tape_is_held, an_id_above_all_heads_is_new, an_id_above_all_is_new,
+    frames_within_a_part_are_held, own_heads_are_not_anew, remaining_dumps_were_dumps,
+    settled_parts_are_a_settled_dump, the_end_of_a_dump_is_held, the_end_of_a_part_is_held,
+    the_end_of_a_volume_is_held, the_last_part_makes_a_dump_found,
     the_listed_dumps_behind_a_commit,
 };
 pub use turns::{
