@@ -28,7 +28,7 @@ use Rattle.archive_model.proofs.HereLaws.{found_is_here}
 use Rattle.archive_model.proofs.GivenLaws.{written_given}
 use Rattle.archive_model.proofs.StillLaws.{clone_gives}
 
-fragments_of_parts : (parts : List Located) → flat_map (λ (l : Located). l.found.part.fragments) parts ≡ flat_map (λ (p : FoundPart). p.part.fragments) (map (λ (l : Located). l.found) parts)
+pub fragments_of_parts : (parts : List Located) → flat_map (λ (l : Located). l.found.part.fragments) parts ≡ flat_map (λ (p : FoundPart). p.part.fragments) (map (λ (l : Located). l.found) parts)
 fragments_of_parts [] = refl
 fragments_of_parts (l ∷ parts) = ap (λ (fs : List Fragment). l.found.part.fragments ++ fs) (fragments_of_parts parts)
 

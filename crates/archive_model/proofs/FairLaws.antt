@@ -71,7 +71,7 @@ old_there (c ∷ clones) dumped d there = (let rest = old_there clones dumped d 
 
 -- ---- the archive with the dump
 
-of_flat : {X Y : Type 0} (h : X → List Y) (xs : List X) (y : Y) → Contains (flat_map h xs) y → (x : X) × Contains xs x × Contains (h x) y
+pub of_flat : {X Y : Type 0} (h : X → List Y) (xs : List X) (y : Y) → Contains (flat_map h xs) y → (x : X) × Contains xs x × Contains (h x) y
 of_flat h [] y there = absurd (omega (arith, there.1))
 of_flat h (x ∷ xs) y there = elim (Contains-append_cases (h x) (flat_map h xs) y there) [
   | inl here ↦ (x, (0, omega arith, refl), here)

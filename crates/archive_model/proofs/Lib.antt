@@ -32,6 +32,7 @@ pub mod PlayedLaws
 pub mod PutLaws
 pub mod QuietLaws
 pub mod RecordLaws
+pub mod RecordedLaws
 mod Rows
 pub mod SlotLaws
 pub mod SourceLaws

@@ -85,3 +85,12 @@ AreWritten slots name base [] [] = Unit {0}
 AreWritten slots name base (d ∷ ds) (c ∷ cs) = WrittenAs slots name d c × IsNext base c × AreWritten slots name (Some c.volume) ds cs
 AreWritten slots name base [] (c ∷ cs) = ⊥
 AreWritten slots name base (d ∷ ds) [] = ⊥
+
+-- the fields of a volume's record are those of what was dumped
+pub record IsRecordOf (v : VolRecordFields) (w : Dumping) : Type 0 where
+  pub id : v.id ≡ w.id
+  pub clone : v.clone ≡ w.clone
+  pub from : v.from ≡ w.from
+  pub name : v.name ≡ w.name
+  pub server : v.server ≡ w.server
+  pub partition : v.partition ≡ w.partition

@@ -1,14 +1,17 @@
 //! Laws of what slots hold and what lies there, each the contract of a function without a body.
 
-ghost use Rattle.std.specs.Prelude.{◌≡◌, ◌≤◌, ℕ, true, Some, Result, List, ◌∷◌, [], ◌++◌, map, take, slice_get, All, Contains};
+ghost use Rattle.std.specs.Prelude.{◌≡◌, ◌<◌, ◌≤◌, ℕ, true, Some, Result, List, ◌∷◌, [], ◌++◌, length, map, take, find, slice_get, All, Contains};
 ghost use Rattle.std.specs.List.{flat_map};
 ghost use Rattle.vnode_model.specs.declared.volumes.VolumeFields.{VolumeFields};
+ghost use Rattle.bk_text.specs.Blanks.{is_same_text};
 ghost use Rattle.budb_changes.specs.declared.records.TapePart.{TapePart};
 ghost use Rattle.budb_changes.specs.declared.records.DumpRecordFields.{DumpRecordFields};
+ghost use Rattle.budb_changes.specs.declared.records.VolRecordFields.{VolRecordFields};
 ghost use Rattle.budb_changes.specs.declared.change.Change.{Change};
 ghost use Rattle.budb_changes.specs.Bytes.{encoded};
 ghost use Rattle.budb_changes.specs.Forms.{AreChanges};
 ghost use Rattle.budb_fold.specs.Database.{is_initial, without, after};
+ghost use Rattle.budb_fold.specs.Lookups.{volume_of};
 ghost use Rattle.plant_core.specs.Stock.{Stock, IsNothing};
 ghost use Rattle.tape_text.specs.Items.{Item};
 ghost use Rattle.tape_text.specs.Texts.{Fragment, Tape, tape_items, IsTape};
@@ -16,11 +19,12 @@ ghost use Rattle.tape_text.specs.Parts.{FoundPart, parts_of};
 ghost use Rattle.tape_text.specs.Wholes.{Lying, lying_in, tape_part, IsWhole, record_with};
 ghost use Rattle.tape_scan.specs.Scanned.{Scanned};
 ghost use Rattle.tape_scan.specs.Slots.{Slot, Located, IsFound, AreHeadsOnce};
-ghost use Rattle.archive_model.specs.Holding.{place_of, called_by, holds, LiesOn, Lies, HasInitial, HasNoHead};
+ghost use Rattle.tape_writer.specs.Filling.{Dumping, IsDumped};
+ghost use Rattle.archive_model.specs.Holding.{place_of, placed_from, called_by, holds, LiesOn, Lies, HasInitial, HasNoHead};
 ghost use Rattle.archive_model.specs.Plays.{StandsAt};
 ghost use Rattle.archive_model.specs.Archives.{Archive, Refusal, listed_of, all_here, AreHeldOnce, AreDumps, AreContents, IsHeld, AreHolders, IsKept, Holds, AreBlank, blank_archive};
 ghost use Rattle.archive_model.specs.Turns.{with_log, HasOwnHeads};
-ghost use Rattle.archive_model.specs.Clones.{IsHere, ArePlaced, part_in};
+ghost use Rattle.archive_model.specs.Clones.{IsHere, IsRecordOf, ArePlaced, part_in};
 
 /// Each fragment that a record calls for stands where its tape lies: its play has no bad record.
 pub fn what_lies_is_played()
@@ -119,4 +123,12 @@ pub fn recorded_dumps_are_scanned_again()
 pub fn what_is_found_on_some_slots_is_found()
     ensures { (slots few : List Slot) (place : ℕ → ℕ) → ((k : ℕ) (s : Slot) → slice_get few k ≡ Some s → slice_get slots (place k) ≡ Some s)
         → (parts : List Located) (d : DumpRecordFields) → IsFound few parts d → (others : List Located) × IsFound slots others d }
+{}
+
+/// A volume of a dump that is found has an index in its record, and what was dumped under it on the tapes has the fields that
+/// the record says.
+pub fn what_was_dumped_is_recorded()
+    ensures { (slots : List Slot) (parts : List Located) (d : DumpRecordFields) → IsFound slots parts d → (name : List ℕ) (v : VolRecordFields) → volume_of d name ≡ Some v
+        → (index : ℕ) × (index < length d.volumes) × (find (λ x. is_same_text x.1.name name) (placed_from 0 d.volumes) ≡ Some (index, v))
+        × ((w : Dumping) → IsDumped d.id index (flat_map (λ l. l.found.part.fragments) parts) w → IsRecordOf v w) }
 {}
