@@ -10,6 +10,7 @@ pub mod DumpedLaws
 pub mod EndLaws
 pub mod ExampleLaws
 pub mod FairLaws
+pub mod FilledLaws
 pub mod ForgetLaws
 pub mod FoundLaws
 pub mod FromLaws

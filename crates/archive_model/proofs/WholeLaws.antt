@@ -215,7 +215,7 @@ module _ (q : FoundPart) (qs : List FoundPart) (placed : ArePlaced (q ∷ qs)) (
       calls_for_all q.part.head.id (flat_map lying_in (q ∷ qs)) starts_all (linked_all q qs placed whole.linked) (ends_volume q.part.head.volumes (flat_map lying_in (q ∷ qs)) (ends_all q.part.head.volumes q qs placed refl whole.linked whole.ends))
       (dumps_all q.part.head (q ∷ qs) placed agrees)
 
-  whole_count : q.part.head.volumes ≡ length (volume_records (flat_map lying_in (q ∷ qs)))
+  pub whole_count : q.part.head.volumes ≡ length (volume_records (flat_map lying_in (q ∷ qs)))
   whole_count = count_all q.part.head.volumes (flat_map lying_in (q ∷ qs)) starts_all (linked_all q qs placed whole.linked) (ends_all q.part.head.volumes q qs placed refl whole.linked whole.ends)
 
   pub whole_lies : (t : Tape) (r : FoundPart) (items : List Item) → IsTape t → Contains (parts_of t) r → Contains (q ∷ qs) r → take r.end items ≡ tape_items t → LiesOn (record_with q.part.head (q ∷ qs)) (tape_part r) items

@@ -1,5 +1,5 @@
 -- What an archive's dumps are to the cell that they are dumped from.
-use Rattle.std.specs.Prelude.{ℕ, ◌==◌, if◌then◌else◌, Option, Some, None, Result, Ok, Err, List, [], ◌∷◌, map, ◌≡◌, ◌⊎◌, ◌≤◌, Contains}
+use Rattle.std.specs.Prelude.{ℕ, ◌==◌, if◌then◌else◌, Option, Some, None, Result, Ok, Err, List, [], ◌∷◌, map, ◌≡◌, ◌⊎◌, ◌≤◌, Contains, slice_get}
 use Rattle.std.specs.List.{flat_map}
 use Rattle.bk_text.specs.Blanks.{is_same_text}
 use Rattle.vnode_model.specs.declared.volumes.VolumeFields.{VolumeFields}
@@ -11,6 +11,14 @@ use Rattle.archive_model.specs.Archives.{Refusal}
 use Rattle.cell_core.specs.declared.stored.Stored.{Stored}
 use Rattle.cell_core.specs.declared.stored.Taken.{Taken}
 use Rattle.cell_core.specs.Calls.{clone_at}
+use Rattle.vnode_model.specs.Limits.{AreVolume}
+use Rattle.vnode_model.specs.Increments.{selected}
+use Rattle.dump_stream.specs.Written.{written}
+use Rattle.dump_stream.specs.Allowed.{Allowed}
+use Rattle.tape_writer.specs.Filling.{Dumping}
+use Rattle.tape_scan.specs.Slots.{Slot}
+use Rattle.archive_model.specs.Turns.{GivesNext, IsClone}
+use Rattle.archive_model.specs.Clones.{IsRecordOf}
 
 -- of one name in a record the first volume alone counts
 abbrev pub firsts : List VolRecordFields → List VolRecordFields
@@ -56,3 +64,14 @@ abbrev pub IsCloneOf : (ℕ → List ℕ → Result VolumeFields Refusal) → Du
 IsCloneOf contents d now clones v =
     ((c : Taken) × Contains clones c × (v.name ≡ c.volume.header.name) × (v.clone ≡ c.time) × (contents d.id v.name ≡ Ok c.volume))
     ⊎ ((r : Refusal) × (contents d.id v.name ≡ Err r) × (v.clone ≤ now))
+
+-- ---- a dump that fills tapes
+
+-- A volume's record in a dump over these volumes: one of them has its fields, and where that one's stream is a clone's increment the
+-- dump gives the clone over the parent's contents, or the refusal that these are.
+pub record IsFilled (slots : List Slot) (d : DumpRecordFields) (volumes : List Dumping) (name : List ℕ) (v : VolRecordFields) : Type 0 where
+  pub index : ℕ
+  pub dumping : Dumping
+  pub at : slice_get volumes index ≡ Some dumping
+  pub fields : IsRecordOf v dumping
+  pub gives : (contents : ℕ → List ℕ → Result VolumeFields Refusal) (clone : VolumeFields) (time : ℕ) → dumping.stream ≡ written (selected clone v.from time) → Allowed (selected clone v.from time) → AreVolume clone.vnodes → IsClone contents d name v clone → GivesNext slots contents d name v

@@ -29,7 +29,9 @@ pub use plays::{
     what_a_dump_gives_next_is_its_contents, what_is_held_is_the_clone, what_is_made_is_a_volume,
     what_is_played_is_looked_up, what_was_written_is_given, what_was_written_plays_to_its_clone,
 };
-pub use sources::{a_dump_keeps_its_cell_fair, a_fair_cell_gives_clones};
+pub use sources::{
+    a_dump_keeps_its_cell_fair, a_fair_cell_gives_clones, a_filled_dump_gives_its_clones,
+};
 pub use steps::{
     a_cut_keeps_own_heads, a_filemark_closes_its_part_alone, a_label_is_held,
     a_put_begins_its_head_alone, a_put_keeps_own_heads, a_taken_tape_is_held,
