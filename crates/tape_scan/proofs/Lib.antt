@@ -6,3 +6,4 @@ pub mod OpenLaws
 pub mod ClosedLaws
 pub mod HeadLaws
 pub mod AnswerLaws
+pub mod OpenedLaws

@@ -1,7 +1,7 @@
 -- What a scan of one tape finds: the longest front that is a tape text, and the parts that stand in it.
-use Rattle.std.specs.Prelude.{◌≡◌, ℕ, ◌+◌, ◌<◌, ◌≤◌, Bool, nat_lt, nat_le, List, [], ◌∷◌, ◌++◌, length, take, sum_by, filter, Contains}
+use Rattle.std.specs.Prelude.{◌≡◌, ℕ, ◌+◌, ◌<◌, ◌≤◌, Bool, nat_lt, nat_le, List, [], ◌∷◌, ◌++◌, length, take, sum_by, filter, Contains, ◌⊎◌}
 use Rattle.tape_text.specs.Items.{Item}
-use Rattle.tape_text.specs.Texts.{Part, Tape, tape_items, IsTape, IsText}
+use Rattle.tape_text.specs.Texts.{Part, Tape, tape_items, IsTape, IsText, part_items}
 use Rattle.tape_text.specs.Parts.{FoundPart, part_len, part_marks, parts_of}
 
 -- The front of a tape is as long as a tape text can be: so many items are one, and no more are.
@@ -61,3 +61,19 @@ pub record IsBegunIn (items : List Item) (p : FoundPart) : Type 0 where
   pub text : IsText (take count items)
   pub there : Contains (parts_of text.whole) p
   pub begun : p.first < count
+
+-- ---- a text as far as it goes
+
+-- a part is opened by these items: they begin it and are not all of it
+pub record IsOpened (p : Part) (opened : List Item) : Type 0 where
+  pub next : Item
+  pub more : List Item
+  pub joined : part_items p ≡ opened ++ next ∷ more
+
+-- a whole tape, and behind it nothing, or what opens one more part of it
+pub record IsTapeOpened (items : List Item) : Type 0 where
+  pub tape : Tape
+  pub is : IsTape tape
+  pub opened : List Item
+  pub items_are : items ≡ tape_items tape ++ opened
+  pub part : (opened ≡ []) ⊎ ((p : Part) × IsTape (with_part tape p) × IsOpened p opened)

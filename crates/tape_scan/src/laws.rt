@@ -1,11 +1,13 @@
 //! Laws, each the contract of a function without a body.
 
-ghost use Rattle.std.specs.Prelude.{◌≡◌, ◌↔◌, ℕ, ◌+◌, List, [], ◌∷◌, ◌++◌, length, map, All, Contains};
+ghost use Rattle.std.specs.Prelude.{◌≡◌, ◌⊎◌, ◌↔◌, ℕ, ◌+◌, List, [], ◌∷◌, ◌++◌, length, map, All, Contains};
 ghost use Rattle.budb_changes.specs.declared.records.DumpRecordFields.{DumpRecordFields};
-ghost use Rattle.tape_text.specs.Items.{Item, IsFitItem};
-ghost use Rattle.tape_text.specs.Texts.{Part, Tape, part_items, tape_items, NextPart, IsPart, AgreeInUses, IsTape};
+ghost use Rattle.tape_frames.specs.declared.frame.Frame.TheVariants as frames;
+ghost use Rattle.tape_frames.specs.declared.label.LabelFields.{LabelFields};
+ghost use Rattle.tape_text.specs.Items.{Item, Says, IsFitItem};
+ghost use Rattle.tape_text.specs.Texts.{Part, Tape, part_items, tape_items, NextPart, IsPart, AgreeInUses, IsTape, IsText};
 ghost use Rattle.tape_text.specs.Parts.{FoundPart, parts_of};
-ghost use Rattle.tape_scan.specs.Scans.{Scan, begun, closed, with_part, next_found, IsClosedIn, IsBegunIn};
+ghost use Rattle.tape_scan.specs.Scans.{Scan, begun, closed, with_part, next_found, IsClosedIn, IsBegunIn, IsTapeOpened};
 ghost use Rattle.tape_scan.specs.Scanned.{Scanned, place_of};
 ghost use Rattle.tape_scan.specs.Slots.{Slot, Located, IsFound, AreHeadsOnce};
 
@@ -37,6 +39,15 @@ pub fn one_part_more_is_a_tape()
 pub fn an_open_part_is_not_closed()
     ensures { (items : List Item) (s : Scan items) (t : Tape) (opened : List Item) (p : Part) (next : Item) (more : List Item) (q : FoundPart)
         → items ≡ tape_items t ++ opened → part_items p ≡ opened ++ next ∷ more → Contains (closed s) q → Contains (parts_of t) q }
+{}
+
+/// A tape text is empty, a label alone, or a whole tape with what opens one more part of it; and each of these is a tape text.
+pub fn a_text_is_a_tape_opened()
+    ensures only { (items : List Item) → IsText items
+        → (items ≡ []) ⊎ (((l : LabelFields) × IsFitItem (Says (frames.Label l)) × (items ≡ Says (frames.Label l) ∷ [])) ⊎ IsTapeOpened items) }
+    ensures nothing { IsText [] }
+    ensures label { (l : LabelFields) → IsFitItem (Says (frames.Label l)) → IsText (Says (frames.Label l) ∷ []) }
+    ensures opened { (items : List Item) → IsTapeOpened items → IsText items }
 {}
 
 /// What is found whole of an id is one record, where no head stands twice.

@@ -6,5 +6,6 @@ mod laws;
 
 pub use laws::{
     a_dump_is_found_once, a_scanned_head_is_begun, a_scanned_part_is_closed,
-    an_open_part_is_not_closed, one_answer, one_part_more_is_a_tape, one_scan,
+    a_text_is_a_tape_opened, an_open_part_is_not_closed, one_answer, one_part_more_is_a_tape,
+    one_scan,
 };
