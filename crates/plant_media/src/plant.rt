@@ -220,10 +220,8 @@ impl<M: Media> Plant for MediaPlant<M> {
     }
 
     fn peek(&mut self, slot: u32, into: &mut Block) -> Result<Option<Kind>, Failed> {
-        match look(&mut self.media, &self.tape, slot, into) {
-            Ok(shown) => Ok(shown),
-            Err(error) => Err(error),
-        }
+        let shown = look(&mut self.media, &self.tape, slot, into)?;
+        Ok(shown)
     }
 
     fn load(&mut self, slot: u32) -> Result<(), Failed> {
