@@ -1,0 +1,22 @@
+//! Images in a folder as a cell: files `server/partition/name.vol`, each one whole dump stream. What each is, is judged at
+//! the opening. No clause says what a real folder has; the rules of lists and volumes are those of every cell.
+#![tactic(auto)]
+
+mod adapter;
+mod backing;
+mod catalog;
+mod changing;
+mod doors;
+mod folder;
+mod judging;
+mod known;
+mod listed;
+mod listing;
+mod looking;
+mod merging;
+mod outside;
+mod removing;
+mod saving;
+
+pub use adapter::DirCell;
+pub use doors::FolderDoors;

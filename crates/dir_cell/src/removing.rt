@@ -1,0 +1,61 @@
+//! Removal from a folder of images.
+
+ghost use Rattle.std.specs.Prelude.{◌≡◌, OnOk, OnErr};
+ghost use Rattle.cell_core.specs.Answers.{OnlyFromOutside};
+ghost use Rattle.dir_cell.specs.Catalogs.{IsCatalog, known_as};
+ghost use Rattle.dir_cell.specs.Calls.{after_removal, is_of_kind};
+ghost use Rattle.dir_cell.specs.Refusals.{remove_refusal, IsDue};
+
+use crate::catalog::{forget, known_as};
+use crate::changing::paths_of;
+use crate::folder::Folder;
+use crate::known::Known;
+use crate::outside::outside;
+use crate::saving::remove_images;
+use bk_text::Name;
+use cell_core::{CellFault, backup_name};
+use std::rt::Files;
+
+/// Whether what is known under a name is a volume of this type.
+fn is_of_kind(catalog: &[Known], kind: u8, name: &[u8]) -> bool
+    requires { IsCatalog catalog.now }
+    ensures { result ≡ is_of_kind kind (known_as name.now catalog.now) }
+{
+    match known_as(catalog, name) {
+        Some(known) => known.standing.has_kind(kind),
+        None => false,
+    }
+}
+
+impl<R: Files + AllocGlobal + Clone + Drop> Folder<R> {
+    /// Removes the images of a name.
+    fn remove_files(&self, name: &[u8]) -> Result<(), CellFault>
+        ensures { OnlyFromOutside result }
+    {
+        let known = known_as(self.images.as_slice(), name);
+        outside(remove_images(&self.rt, paths_of(known), ""))
+    }
+
+    /// Removes the images of a name, and with a read/write volume its backup volume.
+    pub(crate) fn remove(&mut self, name: &Name) -> Result<(), CellFault>
+        ensures due { IsDue (remove_refusal name.now self.old.images.items) result }
+        ensures removed { OnOk result (self.new.images.items ≡ after_removal name.now self.old.images.items) }
+        ensures stays { OnErr result (self.new.images.items ≡ self.old.images.items) }
+    {
+        let backup = backup_name(self.rt.alloc(), name.bytes())?;
+        let images = self.images.as_slice();
+        if known_as(images, name.bytes()).is_none() {
+            return Err(CellFault::NoVolume);
+        }
+        let both = is_of_kind(images, 0, name.bytes()) && is_of_kind(images, 2, backup.as_slice());
+        if both {
+            self.remove_files(backup.as_slice())?;
+        }
+        self.remove_files(name.bytes())?;
+        if both {
+            forget(&mut self.images, backup.as_slice());
+        }
+        forget(&mut self.images, name.bytes());
+        Ok(())
+    }
+}

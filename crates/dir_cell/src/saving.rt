@@ -1,0 +1,187 @@
+//! Writing an image: beside its place, and then moved there.
+
+ghost use Rattle.std.specs.Prelude.{◌≡◌, ◌↔◌, IsTrue, IfOk, OnOk};
+ghost use Rattle.cell_core.specs.Answers.{OnlyFromOutside};
+ghost use Rattle.dir_cell.specs.Dots.{IsDots};
+ghost use Rattle.dir_cell.specs.Catalogs.{IsKnownOf};
+
+use crate::judging::room;
+use crate::known::Known;
+use crate::listed::known_of;
+use crate::outside::outside;
+use bk_text::{Host, Part};
+use cell_core::CellFault;
+use dump_stream::Writer;
+use host_edge::{add, make_folder, path_in, sync_folder};
+use std::alloc::{AllocError, Global};
+use std::fs::{self, OpenFile};
+use std::io::{self, ErrorKind, Write};
+use std::rt::Files;
+use vnode_model::Volume;
+
+/// An image that is written beside its place, and all that moving it there needs.
+#[derive(Drop)]
+pub(crate) struct Fresh {
+    /// What is known of it once it is there.
+    pub known: Known,
+    /// The folder of its partition.
+    folder: String,
+    /// Where it is written, and its place.
+    beside: String,
+    target: String,
+}
+
+/// Whether a text names a folder itself or the one above.
+pub(crate) fn is_dots(text: &[u8]) -> bool
+    ensures { IsTrue result ↔ IsDots text.now }
+{
+    text == b".".as_slice() || text == b"..".as_slice()
+}
+
+/// The text of a name. One that would lead out of the folder is refused.
+fn text_of(bytes: &[u8]) -> io::Result<&str>
+    ensures text { IfOk result (λ text. text.now ≡ bytes.now) }
+    ensures inside { OnOk result (IsDots bytes.now → ⊥) }
+{
+    if is_dots(bytes) {
+        return Err(io::Error::from(ErrorKind::InvalidFilename));
+    }
+    match std::str::from_utf8(bytes) {
+        Ok(text) => Ok(text),
+        Err(_) => Err(io::Error::from(ErrorKind::InvalidFilename)),
+    }
+}
+
+/// Makes the folders of a partition where they are absent.
+fn make_folders<R: Files>(
+    rt: &R,
+    alloc: Global,
+    root: &str,
+    server: &Host,
+    partition: &Part,
+) -> io::Result<String> {
+    let server = path_in(alloc, root, text_of(server.bytes())?)?;
+    let partition = path_in(alloc, server.as_str(), text_of(partition.bytes())?)?;
+    make_folder(rt, server.as_str())?;
+    make_folder(rt, partition.as_str())?;
+    Ok(partition)
+}
+
+/// The path of an image in its partition's folder.
+fn image_path(alloc: Global, folder: &str, name: &[u8]) -> io::Result<String> {
+    let mut path = path_in(alloc, folder, text_of(name)?)?;
+    path.push_str(".vol")?;
+    Ok(path)
+}
+
+/// Writes a volume's whole stream to a file, which is on the disk then.
+fn write_stream<R: Files>(rt: &R, alloc: Global, path: &str, volume: Volume) -> io::Result<()> {
+    let mut buffer = room(alloc)?;
+    let until = volume.header().fields().updated;
+    let mut writer = Writer::new(volume, 0, until);
+    let mut file = fs::create(rt, path)?;
+    for _ in 0..u64::MAX {
+        let count = writer.next(&mut buffer);
+        file.write_all(&buffer[..count])?;
+        if count < buffer.len() {
+            break;
+        }
+    }
+    file.sync_all()
+}
+
+/// A list of one path.
+fn only(alloc: Global, path: &str) -> Result<Vec<String>, AllocError> {
+    let mut paths = Vec::new(alloc);
+    add(&mut paths, String::from_str(alloc, path)?)?;
+    Ok(paths)
+}
+
+/// Writes a volume's image to a file of this name beside its place.
+fn write_to_file<R: Files>(
+    rt: &R,
+    alloc: Global,
+    root: &str,
+    server: &Host,
+    partition: &Part,
+    volume: Volume,
+    beside: &str,
+) -> io::Result<Fresh>
+    ensures { IfOk result (λ fresh. IsKnownOf server.now partition.now volume fresh.known) }
+{
+    let folder = make_folders(rt, alloc, root, server, partition)?;
+    let target = image_path(
+        alloc,
+        folder.as_str(),
+        volume.header().fields().name.bytes(),
+    )?;
+    let beside = path_in(alloc, folder.as_str(), beside)?;
+    let known = known_of(server, partition, &volume, only(alloc, target.as_str())?)?;
+    write_stream(rt, alloc, beside.as_str(), volume)?;
+    Ok(Fresh {
+        known,
+        folder,
+        beside,
+        target,
+    })
+}
+
+/// Writes a volume's image beside its place, under a name that is no image's.
+pub(crate) fn write_beside<R: Files>(
+    rt: &R,
+    alloc: Global,
+    root: &str,
+    server: &Host,
+    partition: &Part,
+    volume: Volume,
+    beside: &str,
+) -> Result<Fresh, CellFault>
+    ensures known { IfOk result (λ fresh. IsKnownOf server.now partition.now volume fresh.known) }
+    ensures errors { OnlyFromOutside result }
+{
+    outside(write_to_file(rt, alloc, root, server, partition, volume, beside))
+}
+
+/// The folder that a path stands in.
+fn folder_of(path: &str) -> &str {
+    match path.rsplit_once('/') {
+        Some((folder, _)) => folder,
+        None => ".",
+    }
+}
+
+/// Removes a file that may be gone already.
+fn remove_file<R: Files>(rt: &R, path: &str) -> io::Result<()> {
+    match fs::remove_file(rt, path) {
+        Err(error) if error.kind() != ErrorKind::NotFound => Err(error),
+        _ => Ok(()),
+    }
+}
+
+/// Removes the images at these paths, but for one, and waits until that lasts.
+pub(crate) fn remove_images<R: Files>(rt: &R, paths: &[String], but: &str) -> io::Result<()> {
+    for path in paths {
+        if path.as_str() != but {
+            remove_file(rt, path.as_str())?;
+        }
+        sync_folder(rt, folder_of(path.as_str()))?;
+    }
+    Ok(())
+}
+
+/// Moves the first image of a name to its new place, where that is another one.
+fn move_old<R: Files>(rt: &R, old: &[String], target: &str) -> io::Result<()> {
+    match old.first() {
+        Some(first) if first.as_str() != target => fs::rename(rt, first.as_str(), target),
+        _ => Ok(()),
+    }
+}
+
+/// Moves a written image to its place, for those at `old`. The first of them moves there before, so that at no moment there
+/// are two images of the name where there was one, and at no moment none.
+pub(crate) fn move_in<R: Files>(rt: &R, fresh: &Fresh, old: &[String]) -> io::Result<()> {
+    move_old(rt, old, fresh.target.as_str())?;
+    fs::rename(rt, fresh.beside.as_str(), fresh.target.as_str())?;
+    sync_folder(rt, fresh.folder.as_str())?;
+    remove_images(rt, old, fresh.target.as_str())
+}
