@@ -2,7 +2,7 @@
 PROGRAM := crates/backup_cli/out/backup_cli
 SAMPLE := examples/one-file.dump
 
-.PHONY: demo test try bench
+.PHONY: demo test try bench edge-tests
 
 # Proves and builds the program, and examines a sample stream.
 demo: afsbackup
@@ -26,3 +26,9 @@ bench: afsbackup
 	bench/examine.sh ./afsbackup
 	cd crates/stream_bench && rt run > /dev/null
 	bench/stream.sh crates/stream_bench/out/stream_bench
+
+# Tests the files in a real folder by a small program: closed standard streams, refused opens, kills, what is on the disk when
+# a line is told, and images of volumes against a model.
+edge-tests:
+	cd crates/edge_probe && rt run > /dev/null && rm -r media cell
+	bench/edge/tests.py crates/edge_probe/out/edge_probe
