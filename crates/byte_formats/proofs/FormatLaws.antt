@@ -27,7 +27,7 @@ split_same a b r s long e = (
 
 -- ---- two values
 
-both_first : {X Y : Type 0} (F : Format X) (G : X → Format Y) (bytes : List ℕ) (left : ℕ) → ((x : X) → F.Is x → Has (G x)) → Sticks F bytes left → Sticks (both F G) bytes left
+pub both_first : {X Y : Type 0} (F : Format X) (G : X → Format Y) (bytes : List ℕ) (left : ℕ) → ((x : X) → F.Is x → Has (G x)) → Sticks F bytes left → Sticks (both F G) bytes left
 both_first F G bytes left some s =
     let t = some s.value s.is in
     let tail : List ℕ = (G s.value).spelled t.value in
@@ -44,7 +44,7 @@ both_first F G bytes left some s =
       here = λ b behind e p rest after is eq. s.here b behind e p.0 ((G p.0).spelled p.1 ++ rest) after is.0 (eq ∙ append_assoc (F.spelled p.0) ((G p.0).spelled p.1) rest);
     }
 
-both_second : {X Y : Type 0} (F : Format X) (G : X → Format Y) (bytes : List ℕ) (x : X) (rest : List ℕ) (left : ℕ) → Sole F → Took F bytes x rest → Sticks (G x) rest left → Sticks (both F G) bytes left
+pub both_second : {X Y : Type 0} (F : Format X) (G : X → Format Y) (bytes : List ℕ) (x : X) (rest : List ℕ) (left : ℕ) → Sole F → Took F bytes x rest → Sticks (G x) rest left → Sticks (both F G) bytes left
 both_second {X} {Y} F G bytes x rest left sole took s = record {
   good = F.spelled x ++ s.good;
   bad = s.bad;
@@ -103,7 +103,7 @@ pub record Like {X Z : Type 0} (F : Format X) (G : Format Z) : Type 0 where
   pub restored : (z : Z) → G.Is z → to (from z) ≡ z
   pub same : (z : Z) → G.Is z → G.spelled z ≡ F.spelled (from z)
 
-like_sticks : {X Z : Type 0} (F : Format X) (G : Format Z) (like : Like F G) (bytes : List ℕ) (left : ℕ) → Sticks F bytes left → Sticks G bytes left
+pub like_sticks : {X Z : Type 0} (F : Format X) (G : Format Z) (like : Like F G) (bytes : List ℕ) (left : ℕ) → Sticks F bytes left → Sticks G bytes left
 like_sticks F G like bytes left s = record {
   good = s.good;
   bad = s.bad;

@@ -5,3 +5,5 @@ pub mod Leaves
 pub mod Texts
 pub mod Filled
 pub mod Maybe
+pub mod FourWithin
+pub mod TextForms

@@ -30,7 +30,7 @@ empty_cells : text1 [] ≡ 0 ∷ []
 unfolding text1
 empty_cells = refl
 
-maybe_sticks : (Form : List ℕ → Type 0) (bytes : List ℕ) (left : ℕ) → ((r : List ℕ) → bytes ≡ 0 ∷ r → ⊥) → Sticks (text1_of Form) bytes left → Sticks (maybe Form) bytes left
+pub maybe_sticks : (Form : List ℕ → Type 0) (bytes : List ℕ) (left : ℕ) → ((r : List ℕ) → bytes ≡ 0 ∷ r → ⊥) → Sticks (text1_of Form) bytes left → Sticks (maybe Form) bytes left
 maybe_sticks Form bytes left not s = record {
   good = s.good;
   bad = s.bad;

@@ -9,9 +9,13 @@ IsTwo n = n ≤ 65535
 abbrev pub IsFour : ℕ → Type 0
 IsFour n = n ≤ 4294967295
 
+-- the greatest length of what the names of a dump's tapes begin with
+abbrev pub base_most : ℕ
+base_most = 69
+
 -- what the names of a dump's tapes begin with: a tape's name with room left for a number
 abbrev pub IsBase : List ℕ → Type 0
-IsBase = IsWord IsNameByte (λ b. ⊤) 69
+IsBase = IsWord IsNameByte (λ b. ⊤) base_most
 
 -- any, or one of a form
 abbrev pub IsAnyOr : (List ℕ → Type 0) → Option (List ℕ) → Type 0

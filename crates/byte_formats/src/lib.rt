@@ -4,6 +4,8 @@
 
 mod fault;
 mod fields;
+mod fronts;
+mod text;
 mod writing;
 
 pub use fault::ReadFault;
@@ -11,4 +13,8 @@ pub use fields::{
     read_any_host, read_any_part, read_base, read_four, read_host, read_level, read_maybe_host,
     read_maybe_tape_name, read_name, read_one, read_part, read_set, read_two, read_word_of,
 };
+pub use fronts::{
+    front_four, front_four_in, front_level, front_maybe, front_one, front_text1, front_two,
+};
+pub use text::Text;
 pub use writing::{put_any_host, put_any_part, put_four, put_text1, put_text2, put_two};

@@ -2,7 +2,7 @@ use Rattle.std.proofs.Common.{arith, drop, subst, sym}
 use Rattle.std.proofs.lemmas.Bool.{iff_false}
 use Rattle.byte_formats.specs.Formats.{Took, two_in}
 use Rattle.byte_formats.proofs.Leaves.{two_empty, two_first, two_cut, two_second, two_took}
-use Rattle.byte_formats.proofs.fields.read_two.Goals as goal
+use Rattle.byte_formats.proofs.fronts.front_two.Goals as goal
 
 pub returns-then-bytes-lt1 : goal.returns-then-bytes-lt1
 returns-then-bytes-lt1 c = two_empty c.args.low c.args.high c.args.bytes.now c.requires (omega arith)

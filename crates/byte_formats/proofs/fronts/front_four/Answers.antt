@@ -2,7 +2,7 @@ use Rattle.std.proofs.Common.{◌≤◌, length, ◌∙◌, ap, arith, drop, sub
 use Rattle.std.specs.Int.{w32, from_be_bytes}
 use Rattle.byte_formats.specs.Formats.{Took, any_four}
 use Rattle.byte_formats.proofs.Leaves.{four_cut, four_took, four_front}
-use Rattle.byte_formats.proofs.fields.read_four.Goals as goal
+use Rattle.byte_formats.proofs.fronts.front_four.Goals as goal
 
 pub returns-then-bytes-lt4 : goal.returns-then-bytes-lt4
 returns-then-bytes-lt4 c = four_cut c.args.bytes.now (omega arith) (λ i. omega (arith, c.type_inv.bytes i))

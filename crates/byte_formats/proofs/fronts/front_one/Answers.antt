@@ -1,7 +1,7 @@
 use Rattle.std.proofs.Common.{arith}
 use Rattle.std.proofs.lemmas.Bool.{iff_false}
 use Rattle.byte_formats.proofs.Leaves.{one_empty, one_stuck}
-use Rattle.byte_formats.proofs.fields.read_one.Goals as goal
+use Rattle.byte_formats.proofs.fronts.front_one.Goals as goal
 
 pub returns-then-bytes-lt1 : goal.returns-then-bytes-lt1
 returns-then-bytes-lt1 c = one_empty c.args.low c.args.high c.args.bytes.now c.requires (omega arith)

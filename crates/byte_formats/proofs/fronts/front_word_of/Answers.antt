@@ -1,7 +1,7 @@
 use Rattle.bk_text.specs.Words.{IsWordOf}
 use Rattle.std.proofs.Common.{refl}
 use Rattle.byte_formats.proofs.FormatLaws.{stated_stuck, stated_short, stated_took}
-use Rattle.byte_formats.proofs.fields.read_word_of.Goals as goal
+use Rattle.byte_formats.proofs.fronts.front_word_of.Goals as goal
 
 pub returns-in-Some : goal.returns-in-Some
 returns-in-Some c = stated_stuck c.args.count (IsWordOf c.args.alphabet c.args.most) c.split_front.result.0.now c.split_front.result.1.now c.args.bytes.now c.in-Some.at _ c.split_front.ensures.within c.in-Some.ensures.0 c.split_front.ensures.joined refl c.in-Some.ensures.1
