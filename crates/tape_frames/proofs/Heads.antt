@@ -1,9 +1,9 @@
 -- The first eight bytes.
-use Rattle.std.proofs.Common.{zero, suc, ◌≡◌, ℕ, ◌+◌, ◌<◌, ◌≤◌, List, ◌++◌, take, drop, get_or, refl, sym, ap, subst, ◌∙◌, arith, ◌⊎◌, inl, inr}
+use Rattle.std.proofs.Common.{zero, suc, ◌≡◌, ℕ, ◌+◌, ◌<◌, List, ◌++◌, take, drop, get_or, refl, sym, ap, subst, ◌∙◌, arith, ◌⊎◌, inl, inr}
 use Rattle.std.proofs.lemmas.List.{take-append-drop, take-take, get_or-take}
 use Rattle.std.proofs.lemmas.Bool.{cases_eq}
-use Rattle.tape_frames.specs.declared.row.Kind.{Kind}
-use Rattle.tape_frames.specs.Rows.{head, version, code}
+use Rattle.tape_frames.specs.declared.kind.Kind.{Kind}
+use Rattle.tape_frames.specs.Kinds.{head, version, code}
 use Rattle.tape_frames.specs.Heads.{HeadSticks, Differs}
 
 -- but for version and kind, all heads are the same
@@ -45,3 +45,6 @@ head_sticks k block at by_version by_code differs =
       before = (k, drop at (head k), sym (take-append-drop at (head k)) ∙ ap (λ (x : List ℕ). x ++ drop at (head k)) front);
       here = λ l same. sticks_here k l block at by_version by_code not same (cases_eq at 4) (cases_eq at 5);
     }
+
+pub differs_not : (a b : List ℕ) (at : ℕ) → Differs a b at → a ≡ b → ⊥
+differs_not a b at differs e = differs.2 (ap (λ (x : List ℕ). get_or x at 0) e)

@@ -1,8 +1,11 @@
 -- The block of a frame: the letters AFST, the version, the kind and two zeros, the fields from byte 8 on, and zeros to the end.
-use Rattle.std.specs.Prelude.{ℕ, List, [], ◌∷◌, ◌==◌, if◌then◌else◌}
+use Rattle.std.specs.Prelude.{ℕ, ◌-◌, List, ◌∷◌, ◌++◌, length, replicate, ◌==◌, if◌then◌else◌}
 use Rattle.tape_frames.specs.declared.dump_head.DumpHeadFields.{DumpHeadFields}
-use Rattle.tape_frames.specs.Fields.{padded}
 use Rattle.tape_frames.specs.Layouts.{plain_head_bytes, dump_head_bytes}
+
+-- bytes, and then zeros up to so many
+abbrev pub padded : ℕ → List ℕ → List ℕ
+padded count bytes = bytes ++ replicate (count - length bytes) 0
 
 abbrev pub block_of : ℕ → ℕ → List ℕ → List ℕ
 block_of version kind fields = padded 16384 (65 ∷ 70 ∷ 83 ∷ 84 ∷ version ∷ kind ∷ 0 ∷ 0 ∷ fields)

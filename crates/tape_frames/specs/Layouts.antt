@@ -1,32 +1,16 @@
 -- The table of frames: what the fields of each kind are, and their bytes one behind another.
-use Rattle.std.specs.Prelude.{◌≡◌, ◌≢◌, ◌⊎◌, ℕ, ◌-◌, ◌<◌, ◌≤◌, List, [], ◌∷◌, ◌++◌, length, drop, replicate, All}
-use Rattle.std.specs.Int.{w16, w32, to_be_bytes}
+-- `four` is a number of four bytes, the most significant one first; `text1` and `text2` are a text behind its length.
+use Rattle.std.specs.Prelude.{◌≡◌, ◌≢◌, ◌⊎◌, ◌-◌, ◌<◌, ◌≤◌, ℕ, List, [], ◌++◌, length, drop, replicate, All}
 use Rattle.bk_text.specs.Alphabets.{IsName, IsHost, IsSetName, IsTapeName}
 use Rattle.bk_text.specs.LevelPaths.{IsLevelPath}
+use Rattle.byte_formats.specs.Bytes.{four, text1, text2}
+use Rattle.byte_formats.specs.Forms.{IsFour, IsMaybe, base_most}
 use Rattle.tape_frames.specs.declared.label.LabelFields.{LabelFields}
 use Rattle.tape_frames.specs.declared.dump_head.DumpHeadFields.{DumpHeadFields}
 use Rattle.tape_frames.specs.declared.vol_head.VolHeadFields.{VolHeadFields}
 use Rattle.tape_frames.specs.declared.data.DataFields.{DataFields}
 use Rattle.tape_frames.specs.declared.vol_end.VolEndFields.{VolEndFields}
 use Rattle.tape_frames.specs.declared.dump_end.DumpEndFields.{DumpEndFields}
-
--- a number of four bytes, the most significant one first; a text behind its length in one byte, and in two
-abbrev pub four : ℕ → List ℕ
-four n = to_be_bytes w32 n
-
-abbrev pub text1 : List ℕ → List ℕ
-text1 text = length text ∷ text
-
-abbrev pub text2 : List ℕ → List ℕ
-text2 text = to_be_bytes w16 (length text) ++ text
-
--- a number that four bytes have room for
-abbrev pub IsFour : ℕ → Type 0
-IsFour n = n ≤ 4294967295
-
--- a text of a form, or nothing
-abbrev pub IsMaybe : (List ℕ → Type 0) → List ℕ → Type 0
-IsMaybe Form text = Form text ⊎ (text ≡ [])
 
 -- ---- the label of a tape: kind 1
 
@@ -61,7 +45,7 @@ pub record FitsDumpHead (a : DumpHeadFields) : Type 0 where
   pub volumes : (1 ≤ a.volumes) × IsFour a.volumes
   pub set : IsSetName a.set
   pub level : IsLevelPath a.level
-  pub base : IsTapeName a.base × (length a.base ≤ 69)
+  pub base : IsTapeName a.base × (length a.base ≤ base_most)
   pub cell : IsMaybe IsHost a.cell
   pub permanent : IsMaybe IsTapeName a.permanent
   pub uses : IsFour a.uses
@@ -131,7 +115,7 @@ pub record IsDumpHead (a : DumpHeadFields) : Type 0 where
   pub tape : 1 ≤ a.tape
   pub part : 1 ≤ a.part
   pub volumes : 1 ≤ a.volumes
-  pub base : length a.base ≤ 69
+  pub base : length a.base ≤ base_most
   pub cell : IsMaybe IsHost a.cell
   pub permanent : IsMaybe IsTapeName a.permanent
   pub plain : a.uses ≡ 0 → (a.cell ≡ []) × (a.permanent ≡ [])

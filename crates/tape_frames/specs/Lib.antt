@@ -1,14 +1,9 @@
-pub mod Fields
 pub mod Layouts
 pub mod Blocks
 pub mod Frames
 pub mod Decodes
 pub mod TapeNames
-pub mod Items
-pub mod Columns
-pub mod Rows
-pub mod Tables
-pub mod Sticks
-pub mod Rests
+pub mod Kinds
+pub mod Formats
+pub mod Views
 pub mod Heads
-pub mod Builds

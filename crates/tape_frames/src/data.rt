@@ -4,9 +4,9 @@ ghost use Rattle.std.specs.Prelude.{◌≡◌, ◌<◌, All};
 ghost use Rattle.tape_frames.specs.Blocks.{block_of};
 ghost use Rattle.tape_frames.specs.Layouts.{data_bytes, FitsData, IsData};
 
-use crate::item::Item;
-use crate::row::Kind;
-use crate::writing::{Block, write_frame};
+use crate::kind::Kind;
+use crate::page::{Block, Page};
+use crate::views::DataView;
 use std::marker::Model;
 
 /// The fields of a piece of data, in the order of its block.
@@ -47,6 +47,23 @@ fn are_bytes(bytes: &[u8])
 }
 
 impl Data {
+    ghost use Rattle.tape_frames.specs.Views.{data_seen};
+
+    /// The piece of fields that were read.
+    pub(crate) fn from_view(view: &DataView) -> Data
+        requires { FitsData (data_seen view.now) }
+        ensures { result ≡ data_seen view.now }
+    {
+        let mut bytes = [0; 16352];
+        bytes.copy_from_slice(view.bytes);
+        Data::new(DataFields {
+            dump: view.dump,
+            index: view.index,
+            used: view.used,
+            bytes,
+        })
+    }
+
     /// The piece of these fields.
     pub fn new(fields: DataFields) -> Self
         requires { IsData fields }
@@ -80,16 +97,12 @@ impl Data {
         ensures fits { FitsData self.now }
     {
         let a = &self.fields;
-        write_frame(
-            into,
-            Kind::Data,
-            &[
-                Item::Number(a.dump),
-                Item::Number(a.index),
-                Item::Number(a.used),
-                Item::Blank(12),
-                Item::Raw(&a.bytes),
-            ],
-        );
+        let mut page = Page::new(Kind::Data);
+        page.four(a.dump);
+        page.four(a.index);
+        page.four(a.used);
+        page.zeros(12);
+        page.piece(&a.bytes);
+        page.finish(into);
     }
 }

@@ -4,9 +4,8 @@ ghost use Rattle.std.specs.Prelude.{◌≡◌, ◌≤◌};
 ghost use Rattle.tape_frames.specs.Blocks.{block_of};
 ghost use Rattle.tape_frames.specs.Layouts.{dump_end_bytes, FitsDumpEnd};
 
-use crate::item::Item;
-use crate::row::Kind;
-use crate::writing::{Block, write_frame};
+use crate::kind::Kind;
+use crate::page::{Block, Page};
 use std::marker::Model;
 
 /// The fields of a part's end, in the order of its block.
@@ -69,14 +68,10 @@ impl DumpEnd {
         ensures fits { FitsDumpEnd self.now }
     {
         let a = &self.fields;
-        write_frame(
-            into,
-            Kind::DumpEnd,
-            &[
-                Item::Number(a.dump),
-                Item::Number(a.tape),
-                Item::Number(a.more),
-            ],
-        );
+        let mut page = Page::new(Kind::DumpEnd);
+        page.four(a.dump);
+        page.four(a.tape);
+        page.four(a.more);
+        page.finish(into);
     }
 }

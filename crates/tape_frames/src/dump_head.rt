@@ -1,14 +1,16 @@
 //! The head of a dump's part on a tape.
 
-ghost use Rattle.std.specs.Prelude.{◌≡◌, ◌↔◌, IsTrue};
+ghost use Rattle.std.specs.Prelude.{◌≡◌, ◌↔◌, ◌≤◌, ◌++◌, length, IsTrue, IfOk};
+ghost use Rattle.tape_frames.specs.Kinds.{head};
 ghost use Rattle.tape_frames.specs.Blocks.{dump_head_block};
-ghost use Rattle.tape_frames.specs.Layouts.{FitsDumpHead, IsDumpHead};
+ghost use Rattle.tape_frames.specs.Layouts.{plain_head_bytes, dump_head_bytes, FitsDumpHead, IsDumpHead};
 
-use crate::item::Item;
+use crate::kind::Kind;
 use crate::maybe::{is_maybe_host, is_maybe_tape_name};
-use crate::row::Kind;
-use crate::writing::{Block, write_frame};
+use crate::page::{Block, Page};
+use crate::views::HeadView;
 use bk_text::{Bytes, LevelPath, SetName, TapeName};
+use std::alloc::{AllocError, Global};
 use std::marker::Model;
 
 /// The fields of a dump's head, in the order of its block.
@@ -78,6 +80,31 @@ impl DumpHeadFields {
 }
 
 impl DumpHead {
+    ghost use Rattle.tape_frames.specs.Views.{head_seen};
+
+    /// The head of fields that were read.
+    pub(crate) fn from_view(alloc: Global, view: &HeadView) -> Result<DumpHead, AllocError>
+        requires { FitsDumpHead (head_seen view.now) }
+        ensures { IfOk result (λ a. a ≡ head_seen view.now) }
+    {
+        let fields = DumpHeadFields {
+            id: view.id,
+            initial: view.initial,
+            parent: view.parent,
+            expires: view.expires,
+            tape: view.tape,
+            part: view.part,
+            volumes: view.volumes,
+            set: SetName::from_bytes(alloc, view.set)?,
+            level: LevelPath::from_bytes(alloc, view.level)?,
+            base: TapeName::from_bytes(alloc, view.base)?,
+            cell: Bytes::from_slice(alloc, view.cell)?,
+            permanent: Bytes::from_slice(alloc, view.permanent)?,
+            uses: view.uses,
+        };
+        Ok(DumpHead::new(fields))
+    }
+
     /// The head of these fields, which `DumpHeadFields::is_dump_head` tests.
     pub fn new(fields: DumpHeadFields) -> Self
         requires { IsDumpHead fields }
@@ -113,25 +140,44 @@ impl DumpHead {
         ensures fits { FitsDumpHead self.now }
     {
         let a = &self.fields;
-        let items = [
-            Item::Number(a.id),
-            Item::Number(a.initial),
-            Item::Number(a.parent),
-            Item::Number(a.expires),
-            Item::Number(a.tape),
-            Item::Number(a.part),
-            Item::Number(a.volumes),
-            Item::Word(a.set.bytes()),
-            Item::Path(a.level.bytes()),
-            Item::Word(a.base.bytes()),
-            Item::Word(a.cell.as_slice()),
-            Item::Word(a.permanent.as_slice()),
-            Item::Number(a.uses),
-        ];
         if a.uses == 0 {
-            write_frame(into, Kind::PlainHead, &items[..10]);
+            write_plain(a, Kind::PlainHead).finish(into);
         } else {
-            write_frame(into, Kind::DumpHead, &items);
+            write_whole(a).finish(into);
         }
     }
+}
+
+/// The fields of version 1 behind a kind's head.
+fn write_plain(a: &DumpHeadFields, kind: Kind) -> Page
+    requires { length a.now.base ≤ 69 }
+    ensures value { result ≡ head kind ++ plain_head_bytes a.now }
+    ensures long { length result ≤ 500 }
+{
+    let mut page = Page::new(kind);
+    page.four(a.id);
+    page.four(a.initial);
+    page.four(a.parent);
+    page.four(a.expires);
+    page.four(a.tape);
+    page.four(a.part);
+    page.four(a.volumes);
+    page.text1(a.set.bytes());
+    page.text2(a.level.bytes());
+    page.text1(a.base.bytes());
+    page
+}
+
+/// The fields of version 2 behind its head.
+fn write_whole(a: &DumpHeadFields) -> Page
+    requires base { length a.now.base ≤ 69 }
+    requires cell { length a.now.cell ≤ 63 }
+    requires permanent { length a.now.permanent ≤ 80 }
+    ensures { result ≡ head Kind.DumpHead ++ dump_head_bytes a.now }
+{
+    let mut page = write_plain(a, Kind::DumpHead);
+    page.text1(a.cell.as_slice());
+    page.text1(a.permanent.as_slice());
+    page.four(a.uses);
+    page
 }

@@ -7,9 +7,9 @@ use crate::data::Data;
 use crate::dump_end::DumpEnd;
 use crate::dump_head::DumpHead;
 use crate::label::Label;
+use crate::page::Block;
 use crate::vol_end::VolEnd;
 use crate::vol_head::VolHead;
-use crate::writing::Block;
 
 /// A frame of a tape.
 #[derive(Debug, Drop)]

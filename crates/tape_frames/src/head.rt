@@ -1,12 +1,12 @@
 //! The first eight bytes of a block.
 
 ghost use Rattle.std.specs.Prelude.{◌≡◌, ◌↔◌, length, take, IsTrue, MatchOption, MatchResult};
-ghost use Rattle.tape_frames.specs.declared.row.Kind.{Kind as AnyKind};
-ghost use Rattle.tape_frames.specs.Rows.{version, code, head};
+ghost use Rattle.tape_frames.specs.declared.kind.Kind.{Kind as AnyKind};
+ghost use Rattle.tape_frames.specs.Kinds.{version, code, head};
 ghost use Rattle.tape_frames.specs.Heads.{HeadSticks, Differs};
 
-use crate::row::{Kind, head_of};
-use crate::writing::Block;
+use crate::kind::{Kind, head_of};
+use crate::page::Block;
 
 /// A kind whose head has as much of this version and this number as any has.
 fn likely_kind(stated: u8, number: u8) -> Kind

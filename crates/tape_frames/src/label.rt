@@ -1,14 +1,15 @@
 //! The label of a tape.
 
-ghost use Rattle.std.specs.Prelude.{◌≡◌, ◌↔◌, IsTrue};
+ghost use Rattle.std.specs.Prelude.{◌≡◌, ◌↔◌, IsTrue, IfOk};
 ghost use Rattle.tape_frames.specs.Blocks.{block_of};
 ghost use Rattle.tape_frames.specs.Layouts.{label_bytes, FitsLabel, IsLabel};
 
-use crate::item::Item;
+use crate::kind::Kind;
 use crate::maybe::is_maybe_tape_name;
-use crate::row::Kind;
-use crate::writing::{Block, write_frame};
+use crate::page::{Block, Page};
+use crate::views::LabelView;
 use bk_text::Bytes;
+use std::alloc::{AllocError, Global};
 use std::marker::Model;
 
 /// The fields of a label, in the order of its block.
@@ -54,6 +55,22 @@ impl LabelFields {
 }
 
 impl Label {
+    ghost use Rattle.tape_frames.specs.Views.{label_seen};
+
+    /// The label of fields that were read.
+    pub(crate) fn from_view(alloc: Global, view: &LabelView) -> Result<Label, AllocError>
+        requires { FitsLabel (label_seen view.now) }
+        ensures { IfOk result (λ a. a ≡ label_seen view.now) }
+    {
+        let fields = LabelFields {
+            initial: view.initial,
+            tape: view.tape,
+            afs: Bytes::from_slice(alloc, view.afs)?,
+            permanent: Bytes::from_slice(alloc, view.permanent)?,
+        };
+        Ok(Label::new(fields))
+    }
+
     /// The label of these fields, which `LabelFields::is_label` tests.
     pub fn new(fields: LabelFields) -> Self
         requires { IsLabel fields }
@@ -86,15 +103,11 @@ impl Label {
         ensures fits { FitsLabel self.now }
     {
         let a = &self.fields;
-        write_frame(
-            into,
-            Kind::Label,
-            &[
-                Item::Number(a.initial),
-                Item::Number(a.tape),
-                Item::Word(a.afs.as_slice()),
-                Item::Word(a.permanent.as_slice()),
-            ],
-        );
+        let mut page = Page::new(Kind::Label);
+        page.four(a.initial);
+        page.four(a.tape);
+        page.text1(a.afs.as_slice());
+        page.text1(a.permanent.as_slice());
+        page.finish(into);
     }
 }

@@ -2,8 +2,7 @@
 //! and a block that is no frame's is refused at its exact place. The layout is this project's own.
 #![tactic(auto)]
 
-mod build;
-mod column;
+mod blank;
 mod data;
 mod decoding;
 mod dump_end;
@@ -11,16 +10,16 @@ mod dump_head;
 mod fault;
 mod frame;
 mod head;
-mod item;
+mod kind;
 mod label;
 mod maybe;
-mod place;
+mod page;
 mod reading;
-mod row;
 mod tape_names;
+mod views;
 mod vol_end;
 mod vol_head;
-mod writing;
+mod whole;
 
 pub use data::{Data, DataFields};
 pub use decoding::{decode, one_frame, uses_of};
@@ -29,10 +28,10 @@ pub use dump_head::{DumpHead, DumpHeadFields};
 pub use fault::FrameFault;
 pub use frame::Frame;
 pub use label::{Label, LabelFields};
-pub use tape_names::{one_number, tape_name};
+pub use page::Block;
+pub use tape_names::{one_base_and_number, one_number, tape_name};
 pub use vol_end::{VolEnd, VolEndFields};
 pub use vol_head::{VolHead, VolHeadFields};
-pub use writing::Block;
 
 #[cfg(test)]
 mod tests;

@@ -2,7 +2,7 @@
 
 ghost use Rattle.std.specs.Prelude.{◌↔◌, IsTrue};
 ghost use Rattle.bk_text.specs.Alphabets.{IsHost, IsTapeName};
-ghost use Rattle.tape_frames.specs.Layouts.{IsMaybe};
+ghost use Rattle.byte_formats.specs.Forms.{IsMaybe};
 
 use bk_text::{Host, TapeName};
 

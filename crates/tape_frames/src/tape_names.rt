@@ -23,3 +23,9 @@ pub fn tape_name(alloc: Global, base: &TapeName, number: u32) -> Result<TapeName
 pub fn one_number()
     ensures { (base : AnyList ℕ) (m n : ℕ) → m ≤ 4294967295 → n ≤ 4294967295 → numbered base m ≡ numbered base n → m ≡ n }
 {}
+
+/// The name of a tape tells its base and its number: where two are the same, so are these. What stands behind the last
+/// period is the number, in decimal without a zero in front.
+pub fn one_base_and_number()
+    ensures { (a b : AnyList ℕ) (m n : ℕ) → m ≤ 4294967295 → n ≤ 4294967295 → numbered a m ≡ numbered b n → (a ≡ b) × (m ≡ n) }
+{}

@@ -4,9 +4,8 @@ ghost use Rattle.std.specs.Prelude.{◌≡◌, ◌≤◌};
 ghost use Rattle.tape_frames.specs.Blocks.{block_of};
 ghost use Rattle.tape_frames.specs.Layouts.{vol_end_bytes, FitsVolEnd};
 
-use crate::item::Item;
-use crate::row::Kind;
-use crate::writing::{Block, write_frame};
+use crate::kind::Kind;
+use crate::page::{Block, Page};
 use std::marker::Model;
 
 /// The fields of a fragment's end, in the order of its block.
@@ -73,16 +72,12 @@ impl VolEnd {
         ensures fits { FitsVolEnd self.now }
     {
         let a = &self.fields;
-        write_frame(
-            into,
-            Kind::VolEnd,
-            &[
-                Item::Number(a.dump),
-                Item::Number(a.index),
-                Item::Number(a.fragment),
-                Item::Number(a.last),
-                Item::Number(a.bytes),
-            ],
-        );
+        let mut page = Page::new(Kind::VolEnd);
+        page.four(a.dump);
+        page.four(a.index);
+        page.four(a.fragment);
+        page.four(a.last);
+        page.four(a.bytes);
+        page.finish(into);
     }
 }

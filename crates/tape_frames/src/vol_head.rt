@@ -1,13 +1,14 @@
 //! The head of a volume's fragment on a tape.
 
-ghost use Rattle.std.specs.Prelude.{◌≡◌, ◌≤◌};
+ghost use Rattle.std.specs.Prelude.{◌≡◌, ◌≤◌, IfOk};
 ghost use Rattle.tape_frames.specs.Blocks.{block_of};
 ghost use Rattle.tape_frames.specs.Layouts.{vol_head_bytes, FitsVolHead};
 
-use crate::item::Item;
-use crate::row::Kind;
-use crate::writing::{Block, write_frame};
+use crate::kind::Kind;
+use crate::page::{Block, Page};
+use crate::views::VolHeadView;
 use bk_text::{Host, Name, Part};
+use std::alloc::{AllocError, Global};
 use std::marker::Model;
 
 /// The fields of a volume's head, in the order of its block.
@@ -51,6 +52,27 @@ impl Model for VolHead {
 }
 
 impl VolHead {
+    ghost use Rattle.tape_frames.specs.Views.{vol_head_seen};
+
+    /// The head of fields that were read.
+    pub(crate) fn from_view(alloc: Global, view: &VolHeadView) -> Result<VolHead, AllocError>
+        requires { FitsVolHead (vol_head_seen view.now) }
+        ensures { IfOk result (λ a. a ≡ vol_head_seen view.now) }
+    {
+        let fields = VolHeadFields {
+            dump: view.dump,
+            index: view.index,
+            fragment: view.fragment,
+            volume: view.volume,
+            clone: view.clone,
+            from: view.from,
+            name: Name::from_bytes(alloc, view.name)?,
+            server: Host::from_bytes(alloc, view.server)?,
+            partition: Part::from_bytes(alloc, view.partition)?,
+        };
+        Ok(VolHead::new(fields))
+    }
+
     /// The head of these fields.
     pub fn new(fields: VolHeadFields) -> Self
         requires { 1 ≤ fields.fragment }
@@ -85,20 +107,16 @@ impl VolHead {
         ensures fits { FitsVolHead self.now }
     {
         let a = &self.fields;
-        write_frame(
-            into,
-            Kind::VolHead,
-            &[
-                Item::Number(a.dump),
-                Item::Number(a.index),
-                Item::Number(a.fragment),
-                Item::Number(a.volume),
-                Item::Number(a.clone),
-                Item::Number(a.from),
-                Item::Word(a.name.bytes()),
-                Item::Word(a.server.bytes()),
-                Item::Word(a.partition.bytes()),
-            ],
-        );
+        let mut page = Page::new(Kind::VolHead);
+        page.four(a.dump);
+        page.four(a.index);
+        page.four(a.fragment);
+        page.four(a.volume);
+        page.four(a.clone);
+        page.four(a.from);
+        page.text1(a.name.bytes());
+        page.text1(a.server.bytes());
+        page.text1(a.partition.bytes());
+        page.finish(into);
     }
 }

@@ -1,4 +1,4 @@
-use Rattle.tape_frames.proofs.Wholes.{same_frame}
+use Rattle.tape_frames.proofs.Places.{same_frame}
 use Rattle.tape_frames.proofs.decoding.one_frame.Goals as goal
 
 pub returns : goal.returns

@@ -1,7 +1,6 @@
-use Rattle.std.proofs.Common.{ℕ, List, take, sym, ap, subst, ◌∙◌}
+use Rattle.std.proofs.Common.{take, sym, ◌∙◌}
 use Rattle.std.proofs.lemmas.Bool.{false≢true}
-use Rattle.tape_frames.specs.Heads.{Differs}
-use Rattle.tape_frames.proofs.Uses.{differs_not}
+use Rattle.tape_frames.proofs.Heads.{differs_not}
 use Rattle.tape_frames.proofs.head.has_head.Goals as goal
 
 pub returns-in-Some : goal.returns-in-Some
