@@ -8,7 +8,6 @@ use bk_text::{Expiry, Host, LevelPath, List, Part, SetName};
 use budb_changes::{Change, DumpRecord, PatternBytes};
 use dump_levels::{LevelFault, Levels};
 use std::alloc::{AllocError, Global};
-use std::mem;
 use volume_sets::{Pattern, SetEntry, Sets, SetsFault};
 
 /// A tape host, and the port offset of its coordinator.
@@ -84,12 +83,10 @@ fn done_to_levels(answer: Result<(), LevelFault>) -> Result<(), AllocError>
 }
 
 /// Drops the tape host of a port offset.
-fn drop_host(alloc: Global, hosts: &mut List<HostPort>, port: u16)
+fn drop_host(hosts: &mut List<HostPort>, port: u16)
     ensures { hosts.new ≡ without (is_port port) hosts.old }
 {
-    let mut items = mem::replace(hosts, List::new(alloc)).into_vec();
-    items.retain(|host| !is_at_port(host, port));
-    *hosts = List::from_vec(items);
+    hosts.retain(|host| !is_at_port(host, port));
 }
 
 /// Whether a dump has this initial id.
@@ -100,21 +97,17 @@ fn is_of_initial(dump: &DumpRecord, initial: u32) -> bool
 }
 
 /// Drops each dump of an initial id.
-fn drop_set(alloc: Global, listed: &mut List<DumpRecord>, initial: u32)
+fn drop_set(listed: &mut List<DumpRecord>, initial: u32)
     ensures { listed.new ≡ without (is_initial initial) listed.old }
 {
-    let mut items = mem::replace(listed, List::new(alloc)).into_vec();
-    items.retain(|dump| !is_of_initial(dump, initial));
-    *listed = List::from_vec(items);
+    listed.retain(|dump| !is_of_initial(dump, initial));
 }
 
 /// Drops the dump of an id.
-fn drop_dump(alloc: Global, listed: &mut List<DumpRecord>, id: u32)
+fn drop_dump(listed: &mut List<DumpRecord>, id: u32)
     ensures { listed.new ≡ without (is_dump id) listed.old }
 {
-    let mut items = mem::replace(listed, List::new(alloc)).into_vec();
-    items.retain(|dump| !is_of_id(dump, id));
-    *listed = List::from_vec(items);
+    listed.retain(|dump| !is_of_id(dump, id));
 }
 
 impl Database {
@@ -271,8 +264,7 @@ impl Database {
     fn del_host(&mut self, port: u16)
         ensures { self.new ≡ after_change (Change.DelHost port) self.old }
     {
-        let alloc = self.sets.allocator();
-        drop_host(alloc, &mut self.hosts, port);
+        drop_host(&mut self.hosts, port);
     }
 
     /// A dump was begun.
@@ -286,8 +278,7 @@ impl Database {
     fn take(&mut self, initial: u32)
         ensures { self.new ≡ after_change (Change.Take initial) self.old }
     {
-        let alloc = self.sets.allocator();
-        drop_set(alloc, &mut self.listed, initial);
+        drop_set(&mut self.listed, initial);
     }
 
     /// A dump is listed, last, and its id counts as begun.
@@ -311,7 +302,6 @@ impl Database {
     fn forget(&mut self, id: u32)
         ensures { self.new ≡ after_change (Change.Forget id) self.old }
     {
-        let alloc = self.sets.allocator();
-        drop_dump(alloc, &mut self.listed, id);
+        drop_dump(&mut self.listed, id);
     }
 }

@@ -1,10 +1,8 @@
-use Rattle.std.proofs.Common.{rules, ◌∙◌, ◌≡◌, ap, not, List}
+use Rattle.std.proofs.Common.{rules, not}
 use Rattle.std.proofs.lemmas.Fn.{filter_same}
 use Rattle.budb_changes.specs.declared.records.DumpRecordFields.{DumpRecordFields}
-use Rattle.budb_fold.specs.Database.{is_initial, without}
+use Rattle.budb_fold.specs.Database.{is_initial}
 use Rattle.budb_fold.proofs.database.drop_set.Goals as goal
 
 pub returns : goal.returns
-returns c =
-    let kept : c.retain.new.self.items ≡ without (is_initial c.args.initial) c.into_vec-items.result.items = filter_same _ (λ (one : DumpRecordFields). not (is_initial c.args.initial one)) _ (λ x b f' t. search rules) c.into_vec-items.result.items c.retain.new.self.items c.retain.ensures.filtered in
-    c.from_vec.ensures ∙ kept ∙ ap (λ (l : List DumpRecordFields). without (is_initial c.args.initial) l) (c.into_vec-items.ensures ∙ c.replace.ensures.value)
+returns c = filter_same _ (λ (one : DumpRecordFields). not (is_initial c.args.initial one)) _ (λ x b f' t. search rules) c.args.listed.now c.retain.new.self c.retain.ensures
