@@ -1,11 +1,10 @@
 //! The record of a dump: where it lies on tapes, and which volumes it has.
 
 ghost use Rattle.std.specs.Prelude.{◌≡◌, ◌↔◌, IsTrue, All};
-ghost use Rattle.bk_text.specs.Alphabets.{IsHost, IsTapeName};
-ghost use Rattle.byte_formats.specs.Forms.{IsMaybe};
 ghost use Rattle.budb_changes.specs.Dumps.{IsNamed};
 
 use bk_text::{Bytes, Host, LevelPath, List, Name, Part, SetName, TapeName};
+use byte_formats::{Text, is_maybe_host, is_maybe_tape_name};
 use std::alloc::AllocError;
 use std::marker::Model;
 
@@ -224,27 +223,13 @@ impl Clone for DumpRecord {
     }
 }
 
-/// Whether a text is a server's name or empty.
-fn may_be_cell(text: &[u8]) -> bool
-    ensures { IsTrue result ↔ IsMaybe IsHost text.now }
-{
-    text.is_empty() || Host::is_host(text)
-}
-
-/// Whether a text is a tape's name or empty.
-fn may_be_permanent(text: &[u8]) -> bool
-    ensures { IsTrue result ↔ IsMaybe IsTapeName text.now }
-{
-    text.is_empty() || TapeName::is_tape_name(text)
-}
-
 /// Whether each permanent name is a tape's name or empty.
 fn are_named(tapes: &[TapePart]) -> bool
     ensures { IsTrue result ↔ All IsNamed tapes.now }
 {
     tapes
         .iter()
-        .all(|tape| may_be_permanent(tape.permanent.as_slice()))
+        .all(|tape| is_maybe_tape_name(tape.permanent.as_slice()))
 }
 
 impl DumpRecordFields {
@@ -254,11 +239,11 @@ impl DumpRecordFields {
     pub fn is_dump_record(&self) -> bool
         ensures { IsTrue result ↔ KeepsDump self.now }
     {
-        self.base.bytes().len() <= 69
+        self.base.bytes().len() <= Text::Base.most() as usize
             && self.tapes.len() <= 65535
             && are_named(self.tapes.as_slice())
             && self.volumes.len() <= 4294967295
-            && may_be_cell(self.cell.as_slice())
+            && is_maybe_host(self.cell.as_slice())
     }
 }
 

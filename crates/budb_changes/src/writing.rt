@@ -8,7 +8,7 @@ ghost use Rattle.byte_formats.specs.Bytes.{two, four, text1, text2, any_or};
 ghost use Rattle.budb_changes.specs.Bytes.{expiry_bytes, use_bytes, tape_bytes, tapes_bytes, frag_bytes, frags_bytes, volume_bytes, volumes_bytes, heading_bytes, cell_bytes, dump_bytes, encoded_change, encoded};
 ghost use Rattle.budb_changes.specs.Printable.{IsPatternBytes};
 ghost use Rattle.budb_changes.specs.Dumps.{IsNamed};
-ghost use Rattle.byte_formats.specs.Forms.{IsTwo, IsFour, IsBase, IsAnyOr};
+ghost use Rattle.byte_formats.specs.Forms.{IsTwo, IsFour, IsBase, base_most, IsAnyOr};
 ghost use Rattle.budb_changes.specs.Forms.{IsExpiry, IsTapePart, IsFrag, IsVolRecord, IsDumpRecord, IsChange, AreChanges};
 
 use crate::change::Change;
@@ -197,7 +197,7 @@ fn put_numbers(out: &mut Out, a: &DumpRecordFields) -> Result<(), AllocError>
 /// Writes what a record begins with.
 #[tactic(auto, using(byte_formats::proofs::Bases::short_base), unfolding(crate::specs::Bytes::heading_bytes))]
 fn put_heading(out: &mut Out, a: &DumpRecordFields) -> Result<(), AllocError>
-    requires { length a.now.base ≤ 69 }
+    requires { length a.now.base ≤ base_most }
     ensures bytes { OnOk result (out.new ≡ out.old ++ heading_bytes a.now) }
     ensures id { OnOk result (IsFour a.now.id) }
     ensures initial { OnOk result (IsFour a.now.initial) }

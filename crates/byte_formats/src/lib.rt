@@ -2,12 +2,14 @@
 //! the place of the first byte after which no value goes on.
 #![tactic(auto)]
 
+mod empty;
 mod fault;
 mod fields;
 mod fronts;
 mod text;
 mod writing;
 
+pub use empty::{is_maybe_host, is_maybe_tape_name};
 pub use fault::ReadFault;
 pub use fields::{
     read_any_host, read_any_part, read_base, read_four, read_host, read_level, read_maybe_host,

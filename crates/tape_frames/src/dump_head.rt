@@ -1,15 +1,16 @@
 //! The head of a dump's part on a tape.
 
 ghost use Rattle.std.specs.Prelude.{◌≡◌, ◌↔◌, ◌≤◌, ◌++◌, length, IsTrue, IfOk};
+ghost use Rattle.byte_formats.specs.Forms.{base_most};
 ghost use Rattle.tape_frames.specs.Kinds.{head};
 ghost use Rattle.tape_frames.specs.Blocks.{dump_head_block};
 ghost use Rattle.tape_frames.specs.Layouts.{plain_head_bytes, dump_head_bytes, FitsDumpHead, IsDumpHead};
 
 use crate::kind::Kind;
-use crate::maybe::{is_maybe_host, is_maybe_tape_name};
 use crate::page::{Block, Page};
 use crate::views::HeadView;
 use bk_text::{Bytes, LevelPath, SetName, TapeName};
+use byte_formats::{Text, is_maybe_host, is_maybe_tape_name};
 use std::alloc::{AllocError, Global};
 use std::marker::Model;
 
@@ -72,7 +73,7 @@ impl DumpHeadFields {
             && 1 <= self.tape
             && 1 <= self.part
             && 1 <= self.volumes
-            && self.base.bytes().len() <= 69
+            && self.base.bytes().len() <= Text::Base.most() as usize
             && is_maybe_host(self.cell.as_slice())
             && is_maybe_tape_name(self.permanent.as_slice())
             && (self.uses != 0 || (self.cell.is_empty() && self.permanent.is_empty()))
@@ -150,7 +151,7 @@ impl DumpHead {
 
 /// The fields of version 1 behind a kind's head.
 fn write_plain(a: &DumpHeadFields, kind: Kind) -> Page
-    requires { length a.now.base ≤ 69 }
+    requires { length a.now.base ≤ base_most }
     ensures value { result ≡ head kind ++ plain_head_bytes a.now }
     ensures long { length result ≤ 500 }
 {
@@ -170,7 +171,7 @@ fn write_plain(a: &DumpHeadFields, kind: Kind) -> Page
 
 /// The fields of version 2 behind its head.
 fn write_whole(a: &DumpHeadFields) -> Page
-    requires base { length a.now.base ≤ 69 }
+    requires base { length a.now.base ≤ base_most }
     requires cell { length a.now.cell ≤ 63 }
     requires permanent { length a.now.permanent ≤ 80 }
     ensures { result ≡ head Kind.DumpHead ++ dump_head_bytes a.now }

@@ -5,10 +5,10 @@ ghost use Rattle.tape_frames.specs.Blocks.{block_of};
 ghost use Rattle.tape_frames.specs.Layouts.{label_bytes, FitsLabel, IsLabel};
 
 use crate::kind::Kind;
-use crate::maybe::is_maybe_tape_name;
 use crate::page::{Block, Page};
 use crate::views::LabelView;
 use bk_text::Bytes;
+use byte_formats::is_maybe_tape_name;
 use std::alloc::{AllocError, Global};
 use std::marker::Model;
 

@@ -12,7 +12,6 @@ mod frame;
 mod head;
 mod kind;
 mod label;
-mod maybe;
 mod page;
 mod reading;
 mod tape_names;

@@ -1,6 +1,7 @@
 //! The names of a dump's tapes: what they begin with, a period, and the number of the tape.
 
 ghost use Rattle.std.specs.Prelude.{◌≡◌, ◌≤◌, ℕ, List as AnyList, length, IfOk};
+ghost use Rattle.byte_formats.specs.Forms.{base_most};
 ghost use Rattle.tape_frames.specs.TapeNames.{numbered};
 
 use bk_text::{Bytes, TapeName};
@@ -9,7 +10,7 @@ use std::alloc::{AllocError, Global};
 
 /// The name of the tape of this number: the base, a period, and the number in decimal, as `users.full.1`.
 pub fn tape_name(alloc: Global, base: &TapeName, number: u32) -> Result<TapeName, AllocError>
-    requires { length base.now ≤ 69 }
+    requires { length base.now ≤ base_most }
     ensures { IfOk result (λ name. name ≡ numbered base.now number) }
 {
     let mut buffer = Buffer::new();
