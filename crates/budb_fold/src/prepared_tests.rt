@@ -7,11 +7,13 @@ use budb_changes::{decode, encode};
 use std::alloc::Global;
 
 /// A set with an entry and one without, two levels, a tape host, an id that was begun, and a dump's record in version 1.
-const LOG: &[u8] = b"\x01\x01b\x01\x01a\x03\x01a\x03fs1\0\0\x01.\x05\0\x02/f\x01\x05\0\x04/f/m\0\x08\x02th\0\x05\x0a\0\0\0\x09\
+const LOG: &[u8] =
+    b"\x01\x01b\x01\x01a\x03\x01a\x03fs1\0\0\x01.\x05\0\x02/f\x01\x05\0\x04/f/m\0\x08\x02th\0\x05\x0a\0\0\0\x09\
 \x0c\0\0\0\x07\0\0\0\x07\0\0\0\0\0\0\0\0\x01a\0\x02/f\x01a\0\0\0\0\0\0";
 
 /// The same as a checkpoint writes it: each set with its entries, and the record in version 2, without uses and cell.
-const CHECKPOINT: &[u8] = b"\x01\x01b\x01\x01a\x03\x01a\x03fs1\0\0\x01.\x05\0\x02/f\x01\x05\0\x04/f/m\0\x08\x02th\0\x05\x0a\0\0\0\x09\
+const CHECKPOINT: &[u8] =
+    b"\x01\x01b\x01\x01a\x03\x01a\x03fs1\0\0\x01.\x05\0\x02/f\x01\x05\0\x04/f/m\0\x08\x02th\0\x05\x0a\0\0\0\x09\
 \x10\0\0\0\x07\0\0\0\x07\0\0\0\0\0\0\0\0\x01a\0\x02/f\x01a\0\0\0\0\0\0\0";
 
 /// The database of a log's bytes.
@@ -74,7 +76,10 @@ fn more_changes(rt: HostRuntime) {
 fn changes_that_fit(rt: HostRuntime) {
     let alloc = rt.alloc();
     let rows: [(&[u8], &[bool]); 8] = [
-        (b"\x01\x01a\x01\x01c\x02\x01a\x02\x01c", &[false, true, true, false]),
+        (
+            b"\x01\x01a\x01\x01c\x02\x01a\x02\x01c",
+            &[false, true, true, false],
+        ),
         (
             b"\x03\x01a\0\0\0\x01x\x03\x01c\0\0\0\x01x\x03\x01a\0\0\0\x02*a",
             &[true, false, false],
