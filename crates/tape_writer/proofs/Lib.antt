@@ -1,3 +1,4 @@
+pub mod Full
 pub mod Joined
 pub mod OneFilling
 pub mod OneFragment

@@ -11,7 +11,7 @@ use Rattle.tape_text.specs.Items.{Item, Says, Filemark, Nothing, IsFitItem}
 use Rattle.tape_text.specs.Texts.{Fragment, Part, Tape, part_items, IsPart}
 use Rattle.tape_text.specs.Parts.{FoundPart, part_len, part_marks, uses_told}
 use Rattle.tape_text.specs.Wholes.{Ends, IsWhole}
-use Rattle.tape_writer.specs.Room.{taken_by}
+use Rattle.tape_writer.specs.Room.{taken_by, Counts}
 
 -- ---- tapes on which a part begins
 
@@ -65,6 +65,10 @@ placed (s ∷ ss) (p ∷ ps) =
 -- what the tape has up to the part's end, with so many blocks and filemarks more
 abbrev pub taken_with : PortFields → Start → Part → ℕ → ℕ → ℕ
 taken_with port s p blocks marks = taken_by port (s.blocks + part_blocks p + blocks) (s.marks + part_marks p + marks)
+
+-- what stands on the tape at the part's end
+abbrev pub counted_with : PortFields → Start → Part → Counts
+counted_with port s p = record { port = port; blocks = s.blocks + part_blocks p; marks = s.marks + part_marks p }
 
 -- a part stays within the tape's capacity
 abbrev pub Stays : PortFields → Start → Part → Type 0

@@ -1,6 +1,6 @@
 //! Laws on what is put, each the contract of a function without a body.
 
-ghost use Rattle.std.specs.Prelude.{◌≡◌, ◌↔◌, ◌+◌, ◌*◌, ◌≤◌, ℕ, List as AnyList, [], ◌∷◌, ◌++◌, length, All};
+ghost use Rattle.std.specs.Prelude.{◌≡◌, ◌↔◌, ◌+◌, ◌*◌, ◌≤◌, ℕ, List as AnyList, [], ◌∷◌, ◌++◌, length, slice_get, Some, All};
 ghost use Rattle.plant_core.specs.Crashes.{State, Alike};
 ghost use Rattle.plant_core.specs.Effects.{come};
 ghost use Rattle.tape_config.specs.declared.port.PortFields.{PortFields as AnyPort};
@@ -10,8 +10,9 @@ ghost use Rattle.tape_frames.specs.declared.label.LabelFields.{LabelFields as An
 ghost use Rattle.tape_text.specs.Items.{Item, Read, IsFitItem};
 ghost use Rattle.tape_text.specs.Texts.{Fragment, Part, Tape, tape_items};
 ghost use Rattle.tape_text.specs.Parts.{parts_of};
+ghost use Rattle.tape_writer.specs.Room.{Counts, more, HasRoom, LacksRoom};
 ghost use Rattle.tape_writer.specs.Puts.{puts_on, with_items};
-ghost use Rattle.tape_writer.specs.Filling.{Start, Dumping, taken, appended, placed, Stays, TapeText};
+ghost use Rattle.tape_writer.specs.Filling.{Start, Dumping, taken, appended, placed, counted_with, Stays, HasNoRoomBehind, IsDumped, IsPut, TapeText};
 
 /// Items put one behind another are put as one list.
 pub fn puts_joined()
@@ -32,6 +33,19 @@ pub fn what_is_put_is_read()
 /// 3 filemarks.
 pub fn smallest_part()
     ensures { (port : AnyPort) (label : AnyLabel) (old : AnyList Item) (p : Part) (f : Fragment) (d : AnyData) → p.fragments ≡ f ∷ [] → f.pieces ≡ d ∷ [] → Stays port (taken label old) p ↔ (6 * 16384 + 3 * port.filemark ≤ port.capacity) }
+{}
+
+/// What a writer ends where it has room stays within the capacity. Where it refuses a piece, or the head of a further volume, and
+/// the part is ended then, the tape is full.
+pub fn a_refused_frame_leaves_a_full_tape()
+    ensures stays { (port : AnyPort) (s : Start) (p : Part) → HasRoom 0 0 (counted_with port s p) ↔ Stays port s p }
+    ensures piece { (port : AnyPort) (s : Start) (p : Part) (f : Fragment) (c : Counts) → more 2 2 c ≡ counted_with port s p → f.end.last ≡ 0 → (LacksRoom 3 2 c ↔ HasNoRoomBehind port s p f) }
+    ensures volume { (port : AnyPort) (s : Start) (p : Part) (f : Fragment) (c : Counts) → more 1 1 c ≡ counted_with port s p → f.end.last ≡ 1 → (LacksRoom 4 2 c ↔ HasNoRoomBehind port s p f) }
+{}
+
+/// A part that ends its dump on the tape on which it begins is a filling.
+pub fn a_dump_on_one_tape_is_a_filling()
+    ensures { (port : AnyPort) (cell : AnyList ℕ) (volumes : AnyList Dumping) (s : Start) (p : Part) → IsPut port cell s p → p.head.part ≡ 1 → p.end.more ≡ 0 → p.head.volumes ≡ length volumes → ((index : ℕ) (v : Dumping) → slice_get volumes index ≡ Some v → IsDumped p.head.id index p.fragments v) → TapeText port cell p.head volumes (s ∷ []) (p ∷ []) }
 {}
 
 /// What a dump puts on its tapes is one thing, to the byte: the port, the cell, the first head, the volumes with their streams, and

@@ -9,7 +9,8 @@ mod writer;
 
 pub use fault::WriteFault;
 pub use laws::{
-    a_part_of_a_taken_tape_is_found, an_appended_part_is_found, one_filling, puts_joined,
+    a_dump_on_one_tape_is_a_filling, a_part_of_a_taken_tape_is_found,
+    a_refused_frame_leaves_a_full_tape, an_appended_part_is_found, one_filling, puts_joined,
     smallest_part, what_is_put_is_read, what_is_put_stands,
 };
 pub use writer::Writer;
