@@ -19,10 +19,15 @@ use Rattle.backup_session.specs.declared.verdict.Verdict.{Verdict}
 use Rattle.backup_session.specs.declared.verdict.Verdict.TheVariants.{Refuses, Makes, Shows}
 use Rattle.backup_session.specs.Views.{SessionView, ReplyView}
 use Rattle.backup_session.specs.Worlds.{World, Turn, at_moment, last_cell}
-use Rattle.backup_session.specs.Asks.{asks_cell, is_built, first_word}
+use Rattle.backup_session.specs.Asks.{asks_cell, asks_tape, is_built, first_word}
 use Rattle.backup_session.specs.Cells.{CellAnswer, cell_answer, IsAnswer}
 use Rattle.backup_session.specs.Verdicts.{verdict}
-use Rattle.backup_session.specs.Machine.{said, committed, length_with, carried, on_cell, done, turn}
+use Rattle.backup_session.specs.Turns.{said, length_with}
+use Rattle.tape_frames.specs.declared.label.LabelFields.{LabelFields}
+use Rattle.backup_words.specs.declared.command.Command.TheVariants.{Labeltape, Readlabel}
+use Rattle.backup_session.specs.Labels.{label_of}
+use Rattle.backup_session.specs.Tapes.{slot_of, new_label, taken, labeled, label_turn, read_turn, tape_turn}
+use Rattle.backup_session.specs.Machine.{committed, carried, on_cell, on_plant, done, turn}
 use Rattle.backup_session.specs.Fitting.{Fits, Turned, OnTheWay, FitsPlant, TurnedPlant}
 
 full_true : (a b : ℕ) → a < b → nat_lt a b ≡ true
@@ -58,11 +63,11 @@ turn_done w now command is = ap (λ (b : Bool). if b then done (at_moment w now)
 
 pub turn_cell : (w : World) (now : ℕ) (command : Command) → is_built command ≡ true → asks_cell command ≡ true → turn w now command ≡ on_cell (at_moment w now) (cell_answer w.cell (at_moment w now).time command)
 turn_cell w now command built is = turn_done w now command built
-    ∙ ap (λ (b : Bool). if b then on_cell (at_moment w now) (cell_answer w.cell (at_moment w now).time command) else carried (at_moment w now) (verdict (after w.log) command)) is
+    ∙ ap (λ (b : Bool). if b then on_cell (at_moment w now) (cell_answer w.cell (at_moment w now).time command) else on_plant (at_moment w now) command) is
 
-pub turn_database : (w : World) (now : ℕ) (command : Command) → is_built command ≡ true → asks_cell command ≡ false → turn w now command ≡ carried (at_moment w now) (verdict (after w.log) command)
-turn_database w now command built is = turn_done w now command built
-    ∙ ap (λ (b : Bool). if b then on_cell (at_moment w now) (cell_answer w.cell (at_moment w now).time command) else carried (at_moment w now) (verdict (after w.log) command)) is
+pub turn_plant : (w : World) (now : ℕ) (command : Command) → is_built command ≡ true → asks_cell command ≡ false → turn w now command ≡ on_plant (at_moment w now) command
+turn_plant w now command built is = turn_done w now command built
+    ∙ ap (λ (b : Bool). if b then on_cell (at_moment w now) (cell_answer w.cell (at_moment w now).time command) else on_plant (at_moment w now) command) is
 
 -- a verdict leaves the cell alone
 pub carried_cells : (w : World) (v : Verdict) → (carried w v).cells ≡ []
@@ -73,6 +78,35 @@ carried_cells w (Makes changes) = go (nat_lt 268435456 (length_with w changes))
     go : (b : Bool) → (if b then said w (refused_number LogFull (length_with w changes)) else committed w changes).cells ≡ []
     go true = refl
     go false = refl
+
+-- neither does a command on a label
+pub tape_cells : (w : World) (command : Command) → (tape_turn w command).cells ≡ []
+tape_cells w (Labeltape name pname offset slot) = go (slot_of w.setting (after w.log).hosts offset slot)
+  where
+    full : (b : Bool) (x y : Turn) → x.cells ≡ [] → y.cells ≡ [] → (if b then x else y).cells ≡ []
+    full true x y p q = p
+    full false x y p q = q
+
+    lists : (slot : ℕ) (a : LabelFields) (changes : List Change) → (labeled w slot a changes).cells ≡ []
+    lists slot a [] = refl
+    lists slot a (c ∷ cs) = full (nat_lt 268435456 (length_with w (c ∷ cs))) _ _ refl refl
+
+    go : (r : Result ℕ (List ℕ)) → (label_turn w name pname r).cells ≡ []
+    go (Err text) = refl
+    go (Ok k) = lists k (new_label (label_of (w.state.tape k)) name pname) (taken (after w.log).listed (label_of (w.state.tape k)))
+tape_cells w (Readlabel offset slot) = go (slot_of w.setting (after w.log).hosts offset slot)
+  where
+    go : (r : Result ℕ (List ℕ)) → (read_turn w r).cells ≡ []
+    go (Err text) = refl
+    go (Ok k) = refl
+tape_cells w command = refl
+
+pub plant_cells : (w : World) (command : Command) → (on_plant w command).cells ≡ []
+plant_cells w command = go (asks_tape command)
+  where
+    go : (b : Bool) → (if b then tape_turn w command else carried w (verdict (after w.log) command)).cells ≡ []
+    go true = tape_cells w command
+    go false = carried_cells w (verdict (after w.log) command)
 
 -- ---- what fits
 

@@ -3,3 +3,5 @@ pub mod Lists
 pub mod Entries
 pub mod CellLaws
 pub mod Carrying
+pub mod LabelLaws
+pub mod Taking

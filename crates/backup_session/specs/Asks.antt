@@ -29,9 +29,15 @@ asks_cell (VosRemove volume) = true
 asks_cell VosListvol = true
 asks_cell command = false
 
+-- a command on the label of a tape
+abbrev pub asks_tape : Command → Bool
+asks_tape (Labeltape name pname portoffset slot) = true
+asks_tape (Readlabel portoffset slot) = true
+asks_tape command = false
+
 -- a command that has a body
 abbrev pub is_built : Command → Bool
-is_built command = asks_database command || asks_cell command
+is_built command = asks_database command || (asks_cell command || asks_tape command)
 
 -- the first word of a command's line
 abbrev pub first_word : Command → List ℕ

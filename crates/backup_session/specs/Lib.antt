@@ -3,6 +3,9 @@ pub mod Levels
 pub mod Verdicts
 pub mod Cells
 pub mod Asks
+pub mod Labels
+pub mod Turns
+pub mod Tapes
 pub mod Machine
 pub mod Views
 pub mod Fitting

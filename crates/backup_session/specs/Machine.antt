@@ -1,5 +1,5 @@
 -- THE MACHINE: what a command makes of a world.
-use Rattle.std.specs.Prelude.{ℕ, ◌+◌, List, [], ◌∷◌, ◌++◌, length, nat_lt, if◌then◌else◌}
+use Rattle.std.specs.Prelude.{ℕ, List, [], ◌∷◌, ◌++◌, nat_lt, if◌then◌else◌}
 use Rattle.plant_core.specs.Effects.{commits}
 use Rattle.budb_changes.specs.declared.change.Change.{Change}
 use Rattle.budb_changes.specs.Bytes.{encoded}
@@ -9,22 +9,16 @@ use Rattle.backup_replies.specs.declared.refusals.Refusal.TheVariants.{NoSuchCom
 use Rattle.backup_replies.specs.Texts.{refused_word, refused_number, ok_line}
 use Rattle.backup_session.specs.declared.verdict.Verdict.{Verdict}
 use Rattle.backup_session.specs.declared.verdict.Verdict.TheVariants.{Refuses, Makes, Shows}
-use Rattle.backup_session.specs.Asks.{asks_cell, is_built, first_word}
+use Rattle.backup_session.specs.Asks.{asks_cell, asks_tape, is_built, first_word}
 use Rattle.backup_session.specs.Cells.{CellAnswer, cell_answer}
 use Rattle.backup_session.specs.Verdicts.{verdict}
 use Rattle.backup_session.specs.Worlds.{World, Turn, at_moment}
-
--- nothing but a reply
-abbrev pub said : World → List ℕ → Turn
-said w text = record { effects = []; reply = text; log = w.log; time = w.time; cells = []; loaded = w.loaded }
+use Rattle.backup_session.specs.Turns.{said, length_with}
+use Rattle.backup_session.specs.Tapes.{tape_turn}
 
 -- changes are made by one commit
 abbrev pub committed : World → List Change → Turn
 committed w changes = record { effects = commits (encoded changes) ∷ []; reply = ok_line; log = w.log ++ changes; time = w.time; cells = []; loaded = w.loaded }
-
--- how long the log is with these changes behind it
-abbrev pub length_with : World → List Change → ℕ
-length_with w changes = length (encoded w.log) + length (encoded changes)
 
 -- A verdict carried out: changes are one commit, where the log has room for them.
 abbrev pub carried : World → Verdict → Turn
@@ -36,9 +30,13 @@ carried w (Makes changes) = if nat_lt 268435456 (length_with w changes) then sai
 abbrev pub on_cell : World → CellAnswer → Turn
 on_cell w answer = record { effects = []; reply = answer.reply; log = w.log; time = w.time; cells = answer.cells; loaded = w.loaded }
 
+-- what a command on a label or on the database makes of it
+abbrev pub on_plant : World → Command → Turn
+on_plant w command = if asks_tape command then tape_turn w command else carried w (verdict (after w.log) command)
+
 -- a command that has a body, at the session's time
 abbrev pub done : World → Command → Turn
-done w command = if asks_cell command then on_cell w (cell_answer w.cell w.time command) else carried w (verdict (after w.log) command)
+done w command = if asks_cell command then on_cell w (cell_answer w.cell w.time command) else on_plant w command
 
 -- ONE COMMAND at a moment of the clock. A command without a body yet is refused as none, in this one place, and isn't one: the
 -- session's time stays.

@@ -1,7 +1,7 @@
 //! Which commands have a body, and what each asks.
 
 ghost use Rattle.std.specs.Prelude.{◌≡◌};
-ghost use Rattle.backup_session.specs.Asks.{asks_database, asks_cell, is_built, first_word};
+ghost use Rattle.backup_session.specs.Asks.{asks_database, asks_cell, asks_tape, is_built, first_word};
 
 use backup_words::Command;
 
@@ -79,11 +79,48 @@ pub(crate) fn asks_cell(command: &Command) -> bool
     }
 }
 
+/// Whether a command is one on the label of a tape.
+pub(crate) fn asks_tape(command: &Command) -> bool
+    ensures { result ≡ asks_tape command.now }
+{
+    match command {
+        Command::Addvolset { .. } => false,
+        Command::Delvolset { .. } => false,
+        Command::Addvolentry { .. } => false,
+        Command::Delvolentry { .. } => false,
+        Command::Listvolsets { .. } => false,
+        Command::Adddump { .. } => false,
+        Command::Setexp { .. } => false,
+        Command::Deldump { .. } => false,
+        Command::Listdumps => false,
+        Command::Listhosts => false,
+        Command::Checkpoint => false,
+        Command::Addhost { .. } => false,
+        Command::Delhost { .. } => false,
+        Command::Labeltape { .. } => true,
+        Command::Readlabel { .. } => true,
+        Command::Scantape { .. } => false,
+        Command::Dump { .. } => false,
+        Command::Deletedump { .. } => false,
+        Command::Dumpinfo { .. } => false,
+        Command::Volinfo { .. } => false,
+        Command::Volrestore { .. } => false,
+        Command::Diskrestore { .. } => false,
+        Command::Volsetrestore { .. } => false,
+        Command::VosCreate { .. } => false,
+        Command::VosWrite { .. } => false,
+        Command::VosRmvnode { .. } => false,
+        Command::VosBackup { .. } => false,
+        Command::VosRemove { .. } => false,
+        Command::VosListvol => false,
+    }
+}
+
 /// Whether a command has a body.
 pub(crate) fn is_built(command: &Command) -> bool
     ensures { result ≡ is_built command.now }
 {
-    asks_database(command) || asks_cell(command)
+    asks_database(command) || (asks_cell(command) || asks_tape(command))
 }
 
 /// The first word of a command's line.

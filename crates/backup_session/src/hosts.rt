@@ -14,7 +14,7 @@ use budb_journal::{Change, HostPort};
 use std::alloc::{AllocError, Global};
 
 /// Whether some tape host stands at a port.
-fn any_at_port(hosts: &[HostPort], port: u16) -> bool
+pub(crate) fn any_at_port(hosts: &[HostPort], port: u16) -> bool
     ensures { result ≡ has_port hosts.now port }
 {
     for host in hosts {

@@ -4,12 +4,15 @@
 mod asks;
 mod decide;
 mod hosts;
+mod labeling;
+mod labels;
 mod levels;
 mod opening;
 mod reply;
 mod session;
 mod sets;
 mod stops;
+mod tapes;
 mod verdict;
 mod vos;
 
@@ -17,3 +20,6 @@ pub use reply::Reply;
 pub use session::Session;
 pub use stops::{OpenStop, Stop};
 pub use verdict::Verdict;
+
+#[cfg(test)]
+mod tests;

@@ -11,9 +11,9 @@ ghost use Rattle.plant_effects.specs.Runs.{state_of, loaded_of, Done, Leaves, Sa
 ghost use Rattle.backup_session.specs.declared.verdict.Verdict.TheVariants.{Makes};
 ghost use Rattle.backup_session.specs.Worlds.{World, Setting};
 ghost use Rattle.backup_session.specs.Verdicts.{verdict};
-ghost use Rattle.backup_session.specs.Machine.{said, carried, turn};
+ghost use Rattle.backup_session.specs.Machine.{carried, on_plant, turn};
 
-use crate::asks::{asks_cell, first_word, is_built};
+use crate::asks::{asks_cell, asks_tape, first_word, is_built};
 use crate::decide::decide;
 use crate::opening::{first_time, open_database};
 use crate::reply::Reply;
@@ -33,9 +33,9 @@ use tape_config::Config;
 /// The service between two commands. Contracts see it as the configuration, the database and the time.
 #[derive(Drop)]
 pub struct Session {
-    config: Config,
-    budb: Budb,
-    time: u32,
+    pub(crate) config: Config,
+    pub(crate) budb: Budb,
+    pub(crate) time: u32,
 }
 
 impl Model for Session {
@@ -145,6 +145,28 @@ impl Session {
         self.carry(alloc, plant, verdict)
     }
 
+    /// A command on the label of a tape or on the database, at the session's time.
+    fn on_plant<P: Plant>(
+        &mut self,
+        alloc: Global,
+        plant: &mut P,
+        command: &Command,
+    ) -> Result<Reply, Stop>
+        requires { P.sound plant.old }
+        ensures sound { OnOk result (P.sound plant.new) }
+        ensures turned { P.tells → (w : World) → FitsPlant P.Plant w plant.old self.old → IfOk result (λ reply. TurnedPlant P.Plant w (on_plant w command.now) plant.old plant.new self.new reply) }
+        ensures leaves { P.tells → (w : World) → FitsPlant P.Plant w plant.old self.old → Leaves P.Plant (on_plant w command.now).effects plant.old plant.new }
+        ensures stays { StaysQuiet P.Plant plant.old plant.new }
+        ensures cause { HasCauseAt Stop.Plant (P.view plant.old).faults (P.view plant.new).faults result }
+        ensures never { result ≢ Err Stop.Cell }
+    {
+        if asks_tape(command) {
+            self.on_tape(alloc, plant, command)
+        } else {
+            self.on_database(alloc, plant, command)
+        }
+    }
+
     /// Executes a command at a moment of the clock. What it tells is handed back and not told.
     pub fn exec<P: Plant, C: Cell>(
         &mut self,
@@ -171,7 +193,7 @@ impl Session {
         if asks_cell(command) {
             on_cell(alloc, cell, command, self.time)
         } else {
-            self.on_database(alloc, plant, command)
+            self.on_plant(alloc, plant, command)
         }
     }
 }

@@ -3,6 +3,7 @@
 ghost use Rattle.std.specs.Prelude.{◌≡◌};
 ghost use Rattle.backup_session.specs.declared.stops.Stop.TheVariants as stop;
 
+use plant_core::Failed;
 use std::alloc::AllocError;
 use thiserror::Error;
 
@@ -43,5 +44,13 @@ impl From<AllocError> for Stop {
 
     fn from(_e: AllocError) -> Stop {
         Stop::Memory
+    }
+}
+
+impl From<Failed> for Stop {
+    ghost from_gives = { λ _ e. e ≡ stop.Plant };
+
+    fn from(_e: Failed) -> Stop {
+        Stop::Plant
     }
 }

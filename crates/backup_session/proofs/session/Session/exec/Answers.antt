@@ -2,16 +2,14 @@ use Rattle.std.proofs.Common.{◌≡◌, ℕ, sym, ◌∙◌, ap, subst, arith, 
 use Rattle.std.specs.Prelude.{min, max}
 use Rattle.plant_effects.specs.Runs.{Leaves}
 use Rattle.plant_effects.proofs.Joining.{nothing_left}
-use Rattle.budb_fold.specs.Database.{after}
 use Rattle.backup_replies.specs.declared.refusals.Refusal.TheVariants.{NoSuchCommand}
 use Rattle.backup_replies.specs.Texts.{refused_word}
 use Rattle.backup_session.specs.Asks.{first_word}
 use Rattle.backup_session.specs.Views.{SessionView}
 use Rattle.backup_session.specs.Worlds.{World, Turn, at_moment}
-use Rattle.backup_session.specs.Verdicts.{verdict}
-use Rattle.backup_session.specs.Machine.{carried, turn}
+use Rattle.backup_session.specs.Machine.{on_plant, turn}
 use Rattle.backup_session.specs.Fitting.{Turned, OnTheWay}
-use Rattle.backup_session.proofs.Carrying.{turn_unbuilt, turn_cell, turn_database, carried_cells, fits_at, turned_by, turned_cell, cell_way, said_turned, in_ok}
+use Rattle.backup_session.proofs.Carrying.{turn_unbuilt, turn_cell, turn_plant, plant_cells, fits_at, turned_by, turned_cell, cell_way, said_turned, in_ok}
 use Rattle.backup_session.proofs.session.Session.exec.Goals as goal
 
 pub returns-then-not-is_built-clause-turned : goal.returns-then-not-is_built-clause-turned
@@ -55,26 +53,25 @@ returns-else-asks_cell-clause-turned g c = λ told ctold w fits.
     let P = g.P.Plant in
     let C = g.C.Cell in
     let old = c.args.plant.now in
-    let new = c.on_database.new.plant in
+    let new = c.on_plant.new.plant in
     let later : SessionView = record { config = c.self.inside.config; budb = c.self.inside.budb; time = c.max-self-inside.result } in
-    let is = turn_database w c.args.now c.args.command.now (sym c.is_built.ensures ∙ c.if-not-is_built.false) (sym c.asks_cell.ensures ∙ c.if-asks_cell.false) in
+    let is = turn_plant w c.args.now c.args.command.now (sym c.is_built.ensures ∙ c.if-not-is_built.false) (sym c.asks_cell.ensures ∙ c.if-asks_cell.false) in
     let was = ap (λ (s : SessionView). s.time) c.self.view_is in
     let time : c.max-self-inside.result ≡ max c.args.self.now.time (min c.args.now 4294967295) = omega (arith, c.max-self-inside.ensures, c.min.ensures, was) in
     let moment = at_moment w c.args.now in
-    let decided = verdict (after w.log) c.args.command.now in
-    subst (λ (t : Turn). IfOk c.on_database.result (λ reply. Turned P C w t old new c.args.cell.now c.on_database.new.self reply)) (sym is)
-    (in_ok c.on_database.result _ _ (λ reply turned. turned_by P C w old c.args.cell.now c.args.self.now fits c.args.now (carried moment decided) new c.on_database.new.self reply (carried_cells moment decided) turned)
-    (c.on_database.ensures.turned told moment (fits_at P C w old c.args.cell.now c.args.self.now fits c.args.now later (ap (λ (s : SessionView). s.budb) c.self.view_is) (ap (λ (s : SessionView). s.config) c.self.view_is) time)))
+    subst (λ (t : Turn). IfOk c.on_plant.result (λ reply. Turned P C w t old new c.args.cell.now c.on_plant.new.self reply)) (sym is)
+    (in_ok c.on_plant.result _ _ (λ reply turned. turned_by P C w old c.args.cell.now c.args.self.now fits c.args.now (on_plant moment c.args.command.now) new c.on_plant.new.self reply (plant_cells moment c.args.command.now) turned)
+    (c.on_plant.ensures.turned told moment (fits_at P C w old c.args.cell.now c.args.self.now fits c.args.now later (ap (λ (s : SessionView). s.budb) c.self.view_is) (ap (λ (s : SessionView). s.config) c.self.view_is) time)))
 
 pub returns-else-asks_cell-clause-leaves : goal.returns-else-asks_cell-clause-leaves
 returns-else-asks_cell-clause-leaves g c = λ told ctold w fits.
     let P = g.P.Plant in
     let C = g.C.Cell in
     let old = c.args.plant.now in
-    let new = c.on_database.new.plant in
+    let new = c.on_plant.new.plant in
     let later : SessionView = record { config = c.self.inside.config; budb = c.self.inside.budb; time = c.max-self-inside.result } in
-    let is = turn_database w c.args.now c.args.command.now (sym c.is_built.ensures ∙ c.if-not-is_built.false) (sym c.asks_cell.ensures ∙ c.if-asks_cell.false) in
+    let is = turn_plant w c.args.now c.args.command.now (sym c.is_built.ensures ∙ c.if-not-is_built.false) (sym c.asks_cell.ensures ∙ c.if-asks_cell.false) in
     let was = ap (λ (s : SessionView). s.time) c.self.view_is in
     let time : c.max-self-inside.result ≡ max c.args.self.now.time (min c.args.now 4294967295) = omega (arith, c.max-self-inside.ensures, c.min.ensures, was) in
     subst (λ (t : Turn). Leaves P t.effects old new) (sym is)
-    (c.on_database.ensures.leaves told (at_moment w c.args.now) (fits_at P C w old c.args.cell.now c.args.self.now fits c.args.now later (ap (λ (s : SessionView). s.budb) c.self.view_is) (ap (λ (s : SessionView). s.config) c.self.view_is) time))
+    (c.on_plant.ensures.leaves told (at_moment w c.args.now) (fits_at P C w old c.args.cell.now c.args.self.now fits c.args.now later (ap (λ (s : SessionView). s.budb) c.self.view_is) (ap (λ (s : SessionView). s.config) c.self.view_is) time))

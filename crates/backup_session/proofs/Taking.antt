@@ -1,0 +1,170 @@
+-- How a tape is labeled, behind a commit where there is one.
+use Rattle.std.proofs.Common.{◌≡◌, ⊎_elim, ℕ, ◌+◌, ◌<◌, ◌≤◌, Bool, true, false, List, [], ◌∷◌, ◌++◌, length, refl, sym, ◌∙◌, ap, subst, arith}
+use Rattle.std.specs.Prelude.{nat_lt, ◌==◌, if◌then◌else◌, Option, Some, None, Result, Ok, Err}
+use Rattle.std.specs.Option.{unwrap_or}
+use Rattle.std.proofs.lemmas.Bool.Decides.{nat_tests}
+use Rattle.std.proofs.lemmas.Bool.{cases_lt}
+use Rattle.tape_config.specs.declared.port.PortFields.{PortFields}
+use Rattle.tape_config.specs.Configs.{Settings, port_in}
+use Rattle.plant_core.specs.declared.plant.Plant.{Ghosts as Plant}
+use Rattle.plant_core.specs.Crashes.{State, Alike}
+use Rattle.plant_core.specs.Effects.{commits, settles, come}
+use Rattle.plant_effects.specs.Runs.{state_of, loaded_of, Done, Leaves, SameNumbers}
+use Rattle.plant_effects.proofs.States.{alike_both, alike_come}
+use Rattle.plant_effects.proofs.Joining.{Fits as FitsImages, nothing_done, nothing_left, done_both, leaves_both, leaves_more}
+use Rattle.budb_changes.specs.declared.change.Change.{Change}
+use Rattle.budb_changes.specs.Bytes.{encoded}
+use Rattle.budb_fold.specs.declared.database.HostPort.{HostPort}
+use Rattle.budb_changes.specs.declared.records.DumpRecordFields.{DumpRecordFields}
+use Rattle.budb_fold.specs.declared.database.Database.{Database}
+use Rattle.budb_fold.specs.Database.{after, has_port}
+use Rattle.backup_session.specs.Labels.{label_of}
+use Rattle.budb.specs.Kept.{Keeps}
+use Rattle.budb.specs.Views.{BudbView}
+use Rattle.tape_frames.specs.declared.label.LabelFields.{LabelFields}
+use Rattle.backup_replies.specs.declared.refusals.Refusal.TheVariants.{NoSuchPort, LogFull}
+use Rattle.backup_replies.specs.Texts.{refused_number}
+use Rattle.backup_replies.specs.Labels.{labeled_lines}
+use Rattle.backup_session.specs.Views.{SessionView, ReplyView}
+use Rattle.backup_session.specs.Worlds.{Setting, World, Turn}
+use Rattle.backup_session.specs.Turns.{said, length_with}
+use Rattle.backup_session.specs.Tapes.{slot_in, slot_at, slot_of, putting_label, labeling, labeled, new_label, taken, label_turn}
+use Rattle.backup_session.specs.Fitting.{FitsPlant, TurnedPlant}
+
+full_true : (a b : ℕ) → a < b → nat_lt a b ≡ true
+full_true a b lt = grind (arith, nat_tests)
+
+room_false : (a b : ℕ) → b ≤ a → nat_lt a b ≡ false
+room_false a b le = grind (arith, nat_tests)
+
+-- labeling leaves the log
+log_stays : (loaded : Option ℕ) (slot : ℕ) (a : LabelFields) (s : State) → (come (labeling loaded slot a) s).log ≡ s.log
+log_stays None slot a s = refl
+log_stays (Some k) slot a s = go (k == slot)
+  where
+    go : (b : Bool) → (come ((if b then [] else (settles k ∷ [])) ++ putting_label slot a) s).log ≡ s.log
+    go true = refl
+    go false = refl
+
+-- calls that only read
+pub still_fits : {D : Type 0} (P : Plant D) (w : World) (old new : D) (session : SessionView) → P.tells → FitsPlant P w old session → Done P [] old new → SameNumbers P old new → (P.view new).present ≡ (P.view old).present → FitsPlant P w new session
+still_fits P w old new session told fits done numbers present = record {
+  keeps = fits.keeps;
+  time = fits.time;
+  config = fits.config;
+  state = alike_both w.state (state_of P old) (state_of P new) fits.state (done.state told);
+  loaded = numbers.tape.loaded ∙ fits.loaded;
+  present = λ k. ap (λ (p : ℕ → Bool). p k) present ∙ fits.present k;
+}
+
+module _ {D : Type 0} (P : Plant D) (w : World) (old : D) (session : SessionView) (fits : FitsPlant P w old session) (size : (P.view old).log_size ≡ length (state_of P old).log) (slot : ℕ) (a : LabelFields) (c : Change) where
+  full_turn : Turn
+  full_turn = said w (refused_number LogFull (length_with w (c ∷ [])))
+
+  made_turn : Turn
+  made_turn = record { effects = commits (encoded (c ∷ [])) ∷ labeling w.loaded slot a; reply = labeled_lines a.afs a.permanent slot; log = w.log ++ c ∷ []; time = w.time; cells = []; loaded = Some slot }
+
+  size_is : (P.view old).log_size ≡ length (encoded w.log)
+  size_is = size ∙ ap length (fits.state.log ∙ fits.keeps.is)
+
+  when_full : 268435456 < length_with w (c ∷ []) → labeled w slot a (c ∷ []) ≡ full_turn
+  unfolding full_turn made_turn
+  when_full full = ap (λ (b : Bool). if b then full_turn else made_turn) (full_true 268435456 (length_with w (c ∷ [])) full)
+
+  with_room : length_with w (c ∷ []) ≤ 268435456 → labeled w slot a (c ∷ []) ≡ made_turn
+  unfolding full_turn made_turn
+  with_room room = ap (λ (b : Bool). if b then full_turn else made_turn) (room_false 268435456 (length_with w (c ∷ [])) room)
+
+  roomy : (268435456 < (P.view old).log_size + length (encoded (c ∷ [])) → ⊥) → length_with w (c ∷ []) ≤ 268435456
+  roomy never = ⊎_elim (λ (full : 268435456 < length_with w (c ∷ [])). absurd (never (omega (arith, size_is, full)))) (λ (le : length_with w (c ∷ []) ≤ 268435456). le) (cases_lt 268435456 (length_with w (c ∷ [])))
+
+  -- the commit alone
+  pub commit_leaves : (mid : D) → FitsImages P old → (268435456 < (P.view old).log_size + length (encoded (c ∷ [])) → mid ≡ old) → Leaves P (commits (encoded (c ∷ [])) ∷ []) old mid → Leaves P (labeled w slot a (c ∷ [])).effects old mid
+  unfolding full_turn made_turn
+  commit_leaves mid images over leaves = ⊎_elim
+      (λ (full : 268435456 < length_with w (c ∷ [])). subst (λ (t : Turn). Leaves P t.effects old mid) (sym (when_full full))
+      (subst (λ s. Leaves P [] old s) (sym (over (omega (arith, size_is, full)))) (nothing_left P [] old images)))
+      (λ (room : length_with w (c ∷ []) ≤ 268435456). subst (λ (t : Turn). Leaves P t.effects old mid) (sym (with_room room)) (leaves_more P (commits (encoded (c ∷ [])) ∷ []) (labeling w.loaded slot a) old mid leaves))
+      (cases_lt 268435456 (length_with w (c ∷ [])))
+
+  -- the log had no room
+  pub full_turned : (mid : D) (later : SessionView) (reply : ReplyView) → P.sound old → 268435456 < (P.view old).log_size + length (encoded (c ∷ [])) → mid ≡ old → later ≡ session
+      → reply.text ≡ refused_number LogFull ((P.view old).log_size + length (encoded (c ∷ []))) → TurnedPlant P w (labeled w slot a (c ∷ [])) old mid later reply
+  unfolding full_turn made_turn
+  full_turned mid later reply sound over same stays text =
+      subst (λ (t : Turn). TurnedPlant P w t old mid later reply) (sym (when_full (omega (arith, size_is, over))))
+      (subst (λ s. TurnedPlant P w full_turn old s later reply) (sym same)
+      (subst (λ (v : SessionView). TurnedPlant P w full_turn old old v reply) (sym stays) (record {
+        done = nothing_done P old sound;
+        text = text ∙ ap (λ (n : ℕ). refused_number LogFull (n + length (encoded (c ∷ [])))) size_is;
+        fits = fits;
+      })))
+
+  module _ (mid new : D) (never : 268435456 < (P.view old).log_size + length (encoded (c ∷ [])) → ⊥) (done : Done P (commits (encoded (c ∷ [])) ∷ []) old mid) (same : loaded_of P mid ≡ loaded_of P old) where
+    loaded_is : loaded_of P mid ≡ w.loaded
+    loaded_is = same ∙ fits.loaded
+
+    -- and the label
+    pub both_leave : Leaves P (commits (encoded (c ∷ [])) ∷ []) old mid → Leaves P (labeling (loaded_of P mid) slot a) mid new → Leaves P (labeled w slot a (c ∷ [])).effects old new
+    unfolding full_turn made_turn
+    both_leave first second = subst (λ (t : Turn). Leaves P t.effects old new) (sym (with_room (roomy never)))
+        (leaves_both P (commits (encoded (c ∷ [])) ∷ []) (labeling w.loaded slot a) old mid new done first (subst (λ (l : Option ℕ). Leaves P (labeling l slot a) mid new) loaded_is second))
+
+    pub both_turned : (later : SessionView) (reply : ReplyView) → P.tells → Done P (labeling (loaded_of P mid) slot a) mid new → loaded_of P new ≡ Some slot → ((k : ℕ) → (P.view new).present k ≡ (P.view old).present k)
+        → Keeps (w.log ++ c ∷ []) (state_of P mid).log later.budb → later.time ≡ session.time → later.config ≡ session.config → reply.text ≡ labeled_lines a.afs a.permanent slot → TurnedPlant P w (labeled w slot a (c ∷ [])) old new later reply
+    unfolding full_turn made_turn
+    both_turned later reply told labels loaded present keeps time config text =
+        let second = subst (λ (l : Option ℕ). Done P (labeling l slot a) mid new) loaded_is labels in
+        let all = done_both P (commits (encoded (c ∷ [])) ∷ []) (labeling w.loaded slot a) old mid new done second in
+        let here = alike_both (come (commits (encoded (c ∷ [])) ∷ []) w.state) (come (commits (encoded (c ∷ [])) ∷ []) (state_of P old)) (state_of P mid) (alike_come (commits (encoded (c ∷ [])) ∷ []) w.state (state_of P old) fits.state) (done.state told) in
+        let log_is : (come (commits (encoded (c ∷ [])) ∷ labeling w.loaded slot a) w.state).log ≡ (state_of P mid).log = log_stays w.loaded slot a (come (commits (encoded (c ∷ [])) ∷ []) w.state) ∙ sym here.log in
+        subst (λ (t : Turn). TurnedPlant P w t old new later reply) (sym (with_room (roomy never))) (record {
+          done = all;
+          text = text;
+          fits = record {
+            keeps = subst (λ (l : List ℕ). Keeps (w.log ++ c ∷ []) l later.budb) (sym log_is) keeps;
+            time = time ∙ fits.time;
+            config = config ∙ fits.config;
+            state = alike_both (come (commits (encoded (c ∷ [])) ∷ labeling w.loaded slot a) w.state) (come (commits (encoded (c ∷ [])) ∷ labeling w.loaded slot a) (state_of P old)) (state_of P new) (alike_come (commits (encoded (c ∷ [])) ∷ labeling w.loaded slot a) w.state (state_of P old) fits.state) (all.state told);
+            loaded = loaded;
+            present = λ k. present k ∙ fits.present k;
+          };
+        })
+
+-- ---- where a tape is
+
+-- only the slot itself is looked at
+pub slot_same : (config : Settings) (p q : ℕ → Bool) (hosts : List HostPort) (offset : ℕ) (slot : Option ℕ) → ((k : ℕ) → p k ≡ q k) → slot_of (record { config = config; present = p }) hosts offset slot ≡ slot_of (record { config = config; present = q }) hosts offset slot
+slot_same config p q hosts offset slot same = ap (λ (r : Result ℕ (List ℕ)). if has_port hosts offset then r else Err (refused_number NoSuchPort offset)) (at_port (port_in offset config.entries))
+  where
+    in_port : (port : PortFields) (k : ℕ) → slot_in p port k ≡ slot_in q port k
+    in_port port k = ap (λ (b : Bool). slot_in (λ j. b) port k) (same k)
+
+    at_port : (o : Option PortFields) → slot_at p offset o slot ≡ slot_at q offset o slot
+    at_port None = refl
+    at_port (Some port) = in_port port (unwrap_or slot port.first)
+
+-- ---- one after the other
+
+pub front_turned : {D : Type 0} (P : Plant D) (w : World) (t : Turn) (old mid new : D) (later : SessionView) (reply : ReplyView) → Done P [] old mid → TurnedPlant P w t mid new later reply → TurnedPlant P w t old new later reply
+front_turned P w t old mid new later reply first turned = record { done = done_both P [] t.effects old mid new first turned.done; text = turned.text; fits = turned.fits }
+
+-- the turn of a tape whose label was read
+pub labels_are : {D : Type 0} (P : Plant D) (w : World) (old : D) (session : SessionView) → FitsPlant P w old session → (slot : ℕ) (name pname : Option (List ℕ)) (label : Option LabelFields) (l : LabelFields) (listed : List DumpRecordFields) (changes : List Change)
+    → label ≡ label_of ((state_of P old).tape slot) → l ≡ new_label label name pname → listed ≡ session.budb.database.listed → taken listed label ≡ changes → labeled w slot l changes ≡ label_turn w name pname (Ok slot)
+labels_are P w old session fits slot name pname label l listed changes label_is l_is listed_is changes_are =
+    let here : label ≡ label_of (w.state.tape slot) = label_is ∙ ap label_of (fits.state.tape slot) in
+    let all : listed ≡ (after w.log).listed = listed_is ∙ ap (λ (d : Database). d.listed) fits.keeps.fold in
+    (λ i. labeled w slot (l_is i) (sym changes_are i)) ∙ (λ i. labeled w slot (new_label (here i) name pname) (taken (all i) (here i)))
+
+-- the slot that a command names is that of the world
+pub slot_is : {D : Type 0} (P : Plant D) (w : World) (old : D) (session : SessionView) → FitsPlant P w old session → (config : Settings) (hosts : List HostPort) (offset : ℕ) (slot : Option ℕ) (found : Result ℕ (List ℕ)) → config ≡ session.config → hosts ≡ session.budb.database.hosts
+    → found ≡ slot_of (record { config = config; present = (P.view old).present }) hosts offset slot → found ≡ slot_of w.setting (after w.log).hosts offset slot
+slot_is P w old session fits config hosts offset slot found config_is hosts_are is =
+    is ∙ slot_same config (P.view old).present w.setting.present hosts offset slot fits.present
+    ∙ ap (λ (c : Settings). slot_of (record { config = c; present = w.setting.present }) hosts offset slot) (config_is ∙ fits.config)
+    ∙ ap (λ (h : List HostPort). slot_of w.setting h offset slot) (hosts_are ∙ ap (λ (d : Database). d.hosts) fits.keeps.fold)
+
+-- nothing but a reply
+pub only_said : {D : Type 0} (P : Plant D) (w : World) (old : D) (session : SessionView) → FitsPlant P w old session → (reply : ReplyView) (text : List ℕ) → P.sound old → reply.text ≡ text → TurnedPlant P w (said w text) old old session reply
+only_said P w old session fits reply text sound is = record { done = nothing_done P old sound; text = is; fits = fits }

@@ -1,0 +1,73 @@
+use Rattle.std.proofs.Common.{[], ◌∷◌, ◌∙◌, ap, subst, IfOk}
+use Rattle.std.specs.Prelude.{Ok}
+use Rattle.plant_effects.specs.Runs.{Leaves}
+use Rattle.plant_effects.proofs.Joining.{leaves_both, leaves_more}
+use Rattle.budb_changes.specs.declared.change.Change.TheVariants.{Take}
+use Rattle.budb_fold.specs.declared.database.Database.{Database}
+use Rattle.backup_session.specs.Views.{SessionView}
+use Rattle.backup_session.specs.Worlds.{Turn}
+use Rattle.backup_session.specs.Tapes.{labeled, label_turn}
+use Rattle.backup_session.specs.Fitting.{TurnedPlant}
+use Rattle.backup_session.proofs.Carrying.{in_ok}
+use Rattle.backup_session.proofs.Taking.{still_fits, front_turned, labels_are}
+use Rattle.backup_session.proofs.session.Session.label_tape.Goals as goal
+
+pub returns-in_err-label-clause-leaves : goal.returns-in_err-label-clause-leaves
+returns-in_err-label-clause-leaves g c = λ told w fits.
+    leaves_more g.P.Plant [] (label_turn w c.args.name.now c.args.pname.now (Ok c.args.slot)).effects c.args.plant.now c.label_of.new.plant c.label_of.ensures.leaves
+
+pub returns-in_err-done-clause-leaves : goal.returns-in_err-done-clause-leaves
+returns-in_err-done-clause-leaves g c = λ told w fits.
+    leaves_more g.P.Plant [] (label_turn w c.args.name.now c.args.pname.now (Ok c.args.slot)).effects c.args.plant.now c.label_of.new.plant c.label_of.ensures.leaves
+
+pub returns-in-None-clause-turned : goal.returns-in-None-clause-turned
+returns-in-None-clause-turned g c = λ told w fits.
+    let P = g.P.Plant in
+    let old = c.args.plant.now in
+    let mid = c.label_of.new.plant in
+    let new = c.label_only.new.plant in
+    let e = c.in_ok-old.ensures in
+    let here = still_fits P w old mid c.args.self.now told fits e.done e.numbers e.stays.stays.present in
+    let listed = c.as_slice-3.ensures ∙ ap (λ (d : Database). d.listed) (c.database.ensures ∙ ap (λ (s : SessionView). s.budb.database) c.self.view_is) in
+    let is = labels_are P w old c.args.self.now fits c.args.slot c.args.name.now c.args.pname.now c.in_ok-old.old c.in_ok-label.label c.as_slice-3.result.now [] (e.label told) c.in_ok-label.ensures listed c.in-None.ensures in
+    subst (λ (t : Turn). IfOk c.label_only.result (λ reply. TurnedPlant P w t old new c.label_only.new.self reply)) is
+    (in_ok c.label_only.result _ _ (λ reply turned. front_turned P w (labeled w c.args.slot c.in_ok-label.label []) old mid new c.label_only.new.self reply e.done turned) (c.label_only.ensures.turned told w here))
+
+pub returns-in-None-clause-leaves : goal.returns-in-None-clause-leaves
+returns-in-None-clause-leaves g c = λ told w fits.
+    let P = g.P.Plant in
+    let old = c.args.plant.now in
+    let mid = c.label_of.new.plant in
+    let new = c.label_only.new.plant in
+    let e = c.in_ok-old.ensures in
+    let here = still_fits P w old mid c.args.self.now told fits e.done e.numbers e.stays.stays.present in
+    let listed = c.as_slice-3.ensures ∙ ap (λ (d : Database). d.listed) (c.database.ensures ∙ ap (λ (s : SessionView). s.budb.database) c.self.view_is) in
+    let is = labels_are P w old c.args.self.now fits c.args.slot c.args.name.now c.args.pname.now c.in_ok-old.old c.in_ok-label.label c.as_slice-3.result.now [] (e.label told) c.in_ok-label.ensures listed c.in-None.ensures in
+    subst (λ (t : Turn). Leaves P t.effects old new) is
+    (leaves_both P [] (labeled w c.args.slot c.in_ok-label.label []).effects old mid new e.done c.label_of.ensures.leaves (c.label_only.ensures.leaves told w here))
+
+pub returns-clause-turned : goal.returns-clause-turned
+returns-clause-turned g c = λ told w fits.
+    let P = g.P.Plant in
+    let old = c.args.plant.now in
+    let mid = c.label_of.new.plant in
+    let new = c.take_and_label.new.plant in
+    let e = c.in_ok-old.ensures in
+    let here = still_fits P w old mid c.args.self.now told fits e.done e.numbers e.stays.stays.present in
+    let listed = c.as_slice-3.ensures ∙ ap (λ (d : Database). d.listed) (c.database.ensures ∙ ap (λ (s : SessionView). s.budb.database) c.self.view_is) in
+    let is = labels_are P w old c.args.self.now fits c.args.slot c.args.name.now c.args.pname.now c.in_ok-old.old c.in_ok-label.label c.as_slice-3.result.now (Take c.in-Some.initial ∷ []) (e.label told) c.in_ok-label.ensures listed c.in-Some.ensures in
+    subst (λ (t : Turn). IfOk c.take_and_label.result (λ reply. TurnedPlant P w t old new c.take_and_label.new.self reply)) is
+    (in_ok c.take_and_label.result _ _ (λ reply turned. front_turned P w (labeled w c.args.slot c.in_ok-label.label (Take c.in-Some.initial ∷ [])) old mid new c.take_and_label.new.self reply e.done turned) (c.take_and_label.ensures.turned told w here))
+
+pub returns-clause-leaves : goal.returns-clause-leaves
+returns-clause-leaves g c = λ told w fits.
+    let P = g.P.Plant in
+    let old = c.args.plant.now in
+    let mid = c.label_of.new.plant in
+    let new = c.take_and_label.new.plant in
+    let e = c.in_ok-old.ensures in
+    let here = still_fits P w old mid c.args.self.now told fits e.done e.numbers e.stays.stays.present in
+    let listed = c.as_slice-3.ensures ∙ ap (λ (d : Database). d.listed) (c.database.ensures ∙ ap (λ (s : SessionView). s.budb.database) c.self.view_is) in
+    let is = labels_are P w old c.args.self.now fits c.args.slot c.args.name.now c.args.pname.now c.in_ok-old.old c.in_ok-label.label c.as_slice-3.result.now (Take c.in-Some.initial ∷ []) (e.label told) c.in_ok-label.ensures listed c.in-Some.ensures in
+    subst (λ (t : Turn). Leaves P t.effects old new) is
+    (leaves_both P [] (labeled w c.args.slot c.in_ok-label.label (Take c.in-Some.initial ∷ [])).effects old mid new e.done c.label_of.ensures.leaves (c.take_and_label.ensures.leaves told w here))

@@ -1,0 +1,28 @@
+use Rattle.std.proofs.Common.{ℕ, List, sym, ◌∙◌, ap, subst}
+use Rattle.std.specs.Prelude.{Result}
+use Rattle.plant_effects.proofs.Joining.{nothing_left}
+use Rattle.budb_fold.specs.declared.database.Database.{Database}
+use Rattle.budb_fold.specs.Database.{after}
+use Rattle.backup_session.specs.Views.{SessionView}
+use Rattle.backup_session.specs.Tapes.{slot_of, read_turn}
+use Rattle.backup_session.specs.Fitting.{TurnedPlant}
+use Rattle.backup_session.proofs.Taking.{slot_is, only_said}
+use Rattle.backup_session.proofs.session.Session.read.Goals as goal
+
+pub returns-in_err-slot-clause-leaves : goal.returns-in_err-slot-clause-leaves
+returns-in_err-slot-clause-leaves g c = λ told w fits.
+    let old = c.args.plant.now in
+    nothing_left g.P.Plant (read_turn w (slot_of w.setting (after w.log).hosts c.args.offset c.args.slot)).effects old (λ told survives image left. g.met.P.Plant.left old image told c.requires survives left)
+
+pub returns-in-Err-clause-leaves : goal.returns-in-Err-clause-leaves
+returns-in-Err-clause-leaves g c = λ told w fits.
+    let old = c.args.plant.now in
+    nothing_left g.P.Plant (read_turn w (slot_of w.setting (after w.log).hosts c.args.offset c.args.slot)).effects old (λ told survives image left. g.met.P.Plant.left old image told c.requires survives left)
+
+pub returns-in-Err-clause-turned : goal.returns-in-Err-clause-turned
+returns-in-Err-clause-turned g c = λ told w fits.
+    let P = g.P.Plant in
+    let old = c.args.plant.now in
+    let hosts = c.hosts.ensures ∙ ap (λ (s : SessionView). s.budb.database.hosts) c.self.view_is in
+    let is = sym c.in-Err.is ∙ slot_is P w old c.args.self.now fits c.self.inside.config c.hosts.result.now c.args.offset c.args.slot c.in_ok-slot.field-0 (ap (λ (s : SessionView). s.config) c.self.view_is) hosts c.in_ok-slot.ensures.is in
+    subst (λ (r : Result ℕ (List ℕ)). TurnedPlant P w (read_turn w r) old old c.args.self.now c.new.result) is (only_said P w old c.args.self.now fits c.new.result c.in-Err.text c.requires c.new.ensures)

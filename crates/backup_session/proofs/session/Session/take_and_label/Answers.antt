@@ -1,0 +1,114 @@
+use Rattle.std.proofs.Common.{◌≡◌, ℕ, ◌+◌, ◌<◌, Bool, List, [], ◌∷◌, ◌++◌, length, ⊎_elim, ◌∙◌, ap, subst, arith}
+use Rattle.std.specs.Prelude.{Err}
+use Rattle.plant_core.specs.Effects.{commits}
+use Rattle.plant_effects.specs.Runs.{state_of, Done, Leaves}
+use Rattle.budb_changes.specs.declared.change.Change.{Change}
+use Rattle.budb_changes.specs.declared.change.Change.TheVariants.{Take}
+use Rattle.budb_changes.specs.Bytes.{encoded}
+use Rattle.budb.specs.Kept.{Keeps}
+use Rattle.budb.specs.Views.{BudbView}
+use Rattle.budb.specs.declared.fault.CommitFault.{CommitFault}
+use Rattle.backup_replies.specs.declared.refusals.Refusal.TheVariants.{LogFull}
+use Rattle.backup_replies.specs.Texts.{refused_number}
+use Rattle.backup_session.specs.Views.{SessionView}
+use Rattle.backup_session.proofs.Taking.{commit_leaves, full_turned, both_leave, both_turned}
+use Rattle.backup_session.proofs.session.Session.take_and_label.Goals as goal
+
+pub returns-in_err-refused_number-in-Err-LogFull-clause-leaves : goal.returns-in_err-refused_number-in-Err-LogFull-clause-leaves
+returns-in_err-refused_number-in-Err-LogFull-clause-leaves g c = λ told w fits.
+    let P = g.P.Plant in
+    let old = c.args.plant.now in
+    let mid = c.commit.new.plant in
+    let is : c.as_slice.result.now ≡ Take c.args.initial ∷ [] = c.as_slice.ensures ∙ c.in_ok-changes.ensures in
+    commit_leaves P w old c.args.self.now fits (g.met.P.Plant.log_told old told c.requires.sound) c.args.slot c.args.label.now (Take c.args.initial) mid (λ told survives image left. g.met.P.Plant.left old image told c.requires.sound survives left)
+    (subst (λ (l : List Change). 268435456 < (P.view old).log_size + length (encoded l) → mid ≡ old) is c.commit.ensures.over_same)
+    (subst (λ (l : List Change). Leaves P (commits (encoded l) ∷ []) old mid) is c.commit.ensures.leaves)
+
+pub returns-in-Err-LogFull-clause-leaves : goal.returns-in-Err-LogFull-clause-leaves
+returns-in-Err-LogFull-clause-leaves g c = λ told w fits.
+    let P = g.P.Plant in
+    let old = c.args.plant.now in
+    let mid = c.commit.new.plant in
+    let is : c.as_slice.result.now ≡ Take c.args.initial ∷ [] = c.as_slice.ensures ∙ c.in_ok-changes.ensures in
+    commit_leaves P w old c.args.self.now fits (g.met.P.Plant.log_told old told c.requires.sound) c.args.slot c.args.label.now (Take c.args.initial) mid (λ told survives image left. g.met.P.Plant.left old image told c.requires.sound survives left)
+    (subst (λ (l : List Change). 268435456 < (P.view old).log_size + length (encoded l) → mid ≡ old) is c.commit.ensures.over_same)
+    (subst (λ (l : List Change). Leaves P (commits (encoded l) ∷ []) old mid) is c.commit.ensures.leaves)
+
+pub returns-in-Err-Failed-clause-leaves : goal.returns-in-Err-Failed-clause-leaves
+returns-in-Err-Failed-clause-leaves g c = λ told w fits.
+    let P = g.P.Plant in
+    let old = c.args.plant.now in
+    let mid = c.commit.new.plant in
+    let is : c.as_slice.result.now ≡ Take c.args.initial ∷ [] = c.as_slice.ensures ∙ c.in_ok-changes.ensures in
+    commit_leaves P w old c.args.self.now fits (g.met.P.Plant.log_told old told c.requires.sound) c.args.slot c.args.label.now (Take c.args.initial) mid (λ told survives image left. g.met.P.Plant.left old image told c.requires.sound survives left)
+    (subst (λ (l : List Change). 268435456 < (P.view old).log_size + length (encoded l) → mid ≡ old) is c.commit.ensures.over_same)
+    (subst (λ (l : List Change). Leaves P (commits (encoded l) ∷ []) old mid) is c.commit.ensures.leaves)
+
+pub returns-clause-leaves : goal.returns-clause-leaves
+returns-clause-leaves g c = λ told w fits.
+    let P = g.P.Plant in
+    let old = c.args.plant.now in
+    let mid = c.commit.new.plant in
+    let is : c.as_slice.result.now ≡ Take c.args.initial ∷ [] = c.as_slice.ensures ∙ c.in_ok-changes.ensures in
+    commit_leaves P w old c.args.self.now fits (g.met.P.Plant.log_told old told c.requires.sound) c.args.slot c.args.label.now (Take c.args.initial) mid (λ told survives image left. g.met.P.Plant.left old image told c.requires.sound survives left)
+    (subst (λ (l : List Change). 268435456 < (P.view old).log_size + length (encoded l) → mid ≡ old) is c.commit.ensures.over_same)
+    (subst (λ (l : List Change). Leaves P (commits (encoded l) ∷ []) old mid) is c.commit.ensures.leaves)
+
+pub returns-in-Err-LogFull-clause-turned : goal.returns-in-Err-LogFull-clause-turned
+returns-in-Err-LogFull-clause-turned g c = λ told w fits.
+    let P = g.P.Plant in
+    let old = c.args.plant.now in
+    let mid = c.commit.new.plant in
+    let arm = c.in-Err-LogFull in
+    let is : c.as_slice.result.now ≡ Take c.args.initial ∷ [] = c.as_slice.ensures ∙ c.in_ok-changes.ensures in
+    let full = arm.ensures.full arm.length (ap (λ (f : CommitFault). Err f) arm.field-0-is) in
+    let over : 268435456 < (P.view old).log_size + length (encoded c.as_slice.result.now) = omega (arith, full.0, full.1) in
+    let later : SessionView = record { config = c.self.inside.config; budb = c.commit.new.self; time = c.self.inside.time } in
+    full_turned P w old c.args.self.now fits (g.met.P.Plant.log_told old told c.requires.sound) c.args.slot c.args.label.now (Take c.args.initial) mid later c.new-in-Err-LogFull.result c.requires.sound
+    (subst (λ (l : List Change). 268435456 < (P.view old).log_size + length (encoded l)) is over) (c.commit.ensures.over_same over)
+    (ap (λ (b : BudbView). record { config = c.self.inside.config; budb = b; time = c.self.inside.time }) arm.ensures.same ∙ c.self.view_is)
+    (c.new-in-Err-LogFull.ensures ∙ c.in_ok-refused_number-in-Err-LogFull.ensures ∙ ap (refused_number LogFull) (full.1 ∙ ap (λ (l : List Change). (P.view old).log_size + length (encoded l)) is))
+
+pub returns-in_err-write_label-in-Ok-clause-leaves : goal.returns-in_err-write_label-in-Ok-clause-leaves
+returns-in_err-write_label-in-Ok-clause-leaves g c = λ told w fits.
+    let P = g.P.Plant in
+    let old = c.args.plant.now in
+    let mid = c.commit.new.plant in
+    let new = c.write_label.new.plant in
+    let e = c.in-Ok.ensures in
+    let is : c.as_slice.result.now ≡ Take c.args.initial ∷ [] = c.as_slice.ensures ∙ c.in_ok-changes.ensures in
+    let never : 268435456 < (P.view old).log_size + length (encoded (Take c.args.initial ∷ [])) → ⊥ = subst (λ (l : List Change). 268435456 < (P.view old).log_size + length (encoded l) → ⊥) is (λ over. ⊎_elim (λ f. cc) (λ f. cc) (e.only_full over)) in
+    both_leave P w old c.args.self.now fits (g.met.P.Plant.log_told old told c.requires.sound) c.args.slot c.args.label.now (Take c.args.initial) mid new never
+    (subst (λ (l : List Change). Done P (commits (encoded l) ∷ []) old mid) is e.done) e.tape.loaded
+    (subst (λ (l : List Change). Leaves P (commits (encoded l) ∷ []) old mid) is c.commit.ensures.leaves) c.write_label.ensures.leaves
+
+pub returns-in-Ok-clause-leaves : goal.returns-in-Ok-clause-leaves
+returns-in-Ok-clause-leaves g c = λ told w fits.
+    let P = g.P.Plant in
+    let old = c.args.plant.now in
+    let mid = c.commit.new.plant in
+    let new = c.write_label.new.plant in
+    let e = c.in-Ok.ensures in
+    let is : c.as_slice.result.now ≡ Take c.args.initial ∷ [] = c.as_slice.ensures ∙ c.in_ok-changes.ensures in
+    let never : 268435456 < (P.view old).log_size + length (encoded (Take c.args.initial ∷ [])) → ⊥ = subst (λ (l : List Change). 268435456 < (P.view old).log_size + length (encoded l) → ⊥) is (λ over. ⊎_elim (λ f. cc) (λ f. cc) (e.only_full over)) in
+    both_leave P w old c.args.self.now fits (g.met.P.Plant.log_told old told c.requires.sound) c.args.slot c.args.label.now (Take c.args.initial) mid new never
+    (subst (λ (l : List Change). Done P (commits (encoded l) ∷ []) old mid) is e.done) e.tape.loaded
+    (subst (λ (l : List Change). Leaves P (commits (encoded l) ∷ []) old mid) is c.commit.ensures.leaves) c.write_label.ensures.leaves
+
+pub returns-in-Ok-clause-turned : goal.returns-in-Ok-clause-turned
+returns-in-Ok-clause-turned g c = λ told w fits.
+    let P = g.P.Plant in
+    let old = c.args.plant.now in
+    let mid = c.commit.new.plant in
+    let new = c.write_label.new.plant in
+    let e = c.in-Ok.ensures in
+    let f = c.in_ok-write_label-in-Ok.ensures in
+    let is : c.as_slice.result.now ≡ Take c.args.initial ∷ [] = c.as_slice.ensures ∙ c.in_ok-changes.ensures in
+    let never : 268435456 < (P.view old).log_size + length (encoded (Take c.args.initial ∷ [])) → ⊥ = subst (λ (l : List Change). 268435456 < (P.view old).log_size + length (encoded l) → ⊥) is (λ over. ⊎_elim (λ f. cc) (λ f. cc) (e.only_full over)) in
+    let later : SessionView = record { config = c.self.inside.config; budb = c.commit.new.self; time = c.self.inside.time } in
+    let kept : Keeps w.log (state_of P old).log c.self.inside.budb = record { form = fits.keeps.form; is = fits.state.log ∙ fits.keeps.is; fold = ap (λ (s : SessionView). s.budb.database) c.self.view_is ∙ fits.keeps.fold } in
+    both_turned P w old c.args.self.now fits (g.met.P.Plant.log_told old told c.requires.sound) c.args.slot c.args.label.now (Take c.args.initial) mid new never
+    (subst (λ (l : List Change). Done P (commits (encoded l) ∷ []) old mid) is e.done) e.tape.loaded later c.new.result told f.done f.loaded
+    (λ k. ap (λ (p : ℕ → Bool). p k) (c.write_label.ensures.stays.stays.present ∙ c.commit.ensures.stays.stays.present))
+    (subst (λ (l : List Change). Keeps (w.log ++ l) (state_of P mid).log c.commit.new.self) is (e.keeps told w.log kept))
+    (ap (λ (s : SessionView). s.time) c.self.view_is) (ap (λ (s : SessionView). s.config) c.self.view_is) (c.new.ensures ∙ c.requires.reply)
