@@ -5,3 +5,10 @@ pub mod Columns
 pub mod Growing
 pub mod Families
 pub mod Walking
+pub mod Storing
+pub mod Keeping
+pub mod Removing
+pub mod Room
+pub mod Walks
+pub mod Inserting
+pub mod Unlinking

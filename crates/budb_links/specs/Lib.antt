@@ -1,2 +1,4 @@
 pub mod Stands
 pub mod Chained
+pub mod Entries
+pub mod Stored

@@ -71,8 +71,8 @@ impl Ends {
 }
 
 ghost use Rattle.budb_links.specs.declared.arena.Link.{Link};
-ghost use Rattle.budb_links.specs.Stands.{first_place, Apart, Among, place_behind, place_of, without_place};
-ghost use Rattle.budb_links.specs.Chained.{chain_of, stand_at, links_of, link_at, with_link, with_after, with_before, with_first, with_last};
+ghost use Rattle.budb_links.specs.Stands.{first_place, Apart, Among, Distinct, place_behind, place_of, without_place};
+ghost use Rattle.budb_links.specs.Chained.{chain_of, stand_at, no_link, links_of, link_at, with_link, with_after, with_before, with_first, with_last};
 
 /// Makes a vector at least so long, with a blank value at each new place.
 fn grow<T: Copy>(items: &mut Vec<T>, count: usize, blank: T) -> Result<(), AllocError>
@@ -214,6 +214,7 @@ impl Arena {
     ) -> Option<usize>
         requires { family < FAMILIES }
         ensures behind { (head : ℕ) → Among place (chain_of self.now family head) → result ≡ place_behind place (chain_of self.now family head) }
+        ensures distinct { (head : ℕ) → Distinct (chain_of self.now family head) }
         ensures cost { steps.new ≤ steps.old + 1 }
     {
         if place < self.rows.len() {
@@ -227,7 +228,8 @@ impl Arena {
     /// The links of a place.
     pub fn look<L: Ledger>(&self, place: usize, steps: &mut Steps<L>) -> Row
         requires { place < length self.now.rows }
-        ensures row { result ≡ slice_index_or self.now.rows place result }
+        ensures links { (family : ℕ) → slice_index_or result family no_link ≡ link_at (links_of family self.now.rows) place }
+        ensures heads { (family head : ℕ) → Among place (chain_of self.now family head) → (slice_index_or result family no_link).head ≡ head }
         ensures cost { steps.new ≡ steps.old + 1 }
     {
         steps.tick();

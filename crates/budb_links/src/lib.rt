@@ -2,6 +2,9 @@
 #![tactic(auto)]
 
 mod arena;
+mod links;
+mod shelf;
 mod steps;
 
+pub use links::Links;
 pub use steps::Steps;

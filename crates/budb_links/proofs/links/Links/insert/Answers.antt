@@ -1,0 +1,94 @@
+use Rattle.std.proofs.Common.{◌%◌, ◌++◌, ◌∷◌, [], ℕ, List, Option, Some, length, sym, ◌∙◌, ap, subst, arith}
+use Rattle.std.proofs.lemmas.List.{length-set}
+use Rattle.budb_changes.specs.declared.records.DumpRecordFields.{DumpRecordFields}
+use Rattle.budb_links.specs.Stands.{Apart}
+use Rattle.budb_links.specs.Chained.{chain_of}
+use Rattle.budb_links.specs.Entries.{Linked, entry_at, listed, record_of}
+use Rattle.budb_links.specs.Stored.{entries_of, Stores}
+use Rattle.budb_links.proofs.Inserting.{Pushed, slot_in, row_in, heads_in, fresh_in, short_in, insert_stores, insert_is}
+use Rattle.budb_links.proofs.links.Links.insert.Given as given
+use Rattle.budb_links.proofs.links.Links.insert.Goals as goal
+
+pub push-requires-clause-place_in : goal.push-requires-clause-place_in
+push-requires-clause-place_in g c = row_in c.self.inside.arena c.self.inside.shelf c.self.inside.free.items c.take_last-place.new.self.items c.take_last-place.result (entries_of c.self.inside.shelf (chain_of c.self.inside.arena 0 0)) c.self.invariant.0 c.take_last-place.ensures.items
+
+pub push-requires-clause-head_in : goal.push-requires-clause-head_in
+push-requires-clause-head_in g c =
+    let heads = heads_in c.self.inside.arena c.self.inside.shelf c.self.inside.free.items c.take_last-place.new.self.items c.take_last-place.result (entries_of c.self.inside.shelf (chain_of c.self.inside.arena 0 0)) c.self.invariant.0 c.take_last-place.ensures.items in
+    omega (arith, heads)
+
+pub push-requires-clause-fresh : goal.push-requires-clause-fresh
+push-requires-clause-fresh g c = λ other. fresh_in c.self.inside.arena c.self.inside.shelf c.self.inside.free.items c.take_last-place.new.self.items c.take_last-place.result (entries_of c.self.inside.shelf (chain_of c.self.inside.arena 0 0)) c.self.invariant.0 c.take_last-place.ensures.items 0 other (omega arith)
+
+pub push-requires-clause-few : goal.push-requires-clause-few
+push-requires-clause-few g c = short_in c.self.inside.arena c.self.inside.shelf c.self.inside.free.items c.take_last-place.new.self.items c.take_last-place.result (entries_of c.self.inside.shelf (chain_of c.self.inside.arena 0 0)) c.self.invariant.0 c.take_last-place.ensures.items 0 0 (omega arith)
+
+pub push-requires-2-clause-place_in : goal.push-requires-2-clause-place_in
+push-requires-2-clause-place_in g c =
+    let within = row_in c.self.inside.arena c.self.inside.shelf c.self.inside.free.items c.take_last-place.new.self.items c.take_last-place.result (entries_of c.self.inside.shelf (chain_of c.self.inside.arena 0 0)) c.self.invariant.0 c.take_last-place.ensures.items in
+    omega (arith, within, c.push.ensures.places)
+
+pub push-requires-2-clause-head_in : goal.push-requires-2-clause-head_in
+push-requires-2-clause-head_in g c =
+    let heads = heads_in c.self.inside.arena c.self.inside.shelf c.self.inside.free.items c.take_last-place.new.self.items c.take_last-place.result (entries_of c.self.inside.shelf (chain_of c.self.inside.arena 0 0)) c.self.invariant.0 c.take_last-place.ensures.items in
+    omega (arith, heads, c.push.ensures.heads, c.bucket_of.ensures)
+
+pub push-requires-2-clause-fresh : goal.push-requires-2-clause-fresh
+push-requires-2-clause-fresh g c = λ other.
+    subst (Apart c.take_last-place.result) (sym (c.push.ensures.families 1 other (λ e. cc))) (fresh_in c.self.inside.arena c.self.inside.shelf c.self.inside.free.items c.take_last-place.new.self.items c.take_last-place.result (entries_of c.self.inside.shelf (chain_of c.self.inside.arena 0 0)) c.self.invariant.0 c.take_last-place.ensures.items 1 other (omega arith))
+
+pub push-requires-2-clause-few : goal.push-requires-2-clause-few
+push-requires-2-clause-few g c =
+    let short = short_in c.self.inside.arena c.self.inside.shelf c.self.inside.free.items c.take_last-place.new.self.items c.take_last-place.result (entries_of c.self.inside.shelf (chain_of c.self.inside.arena 0 0)) c.self.invariant.0 c.take_last-place.ensures.items 1 c.bucket_of.result (omega arith) in
+    let same = ap length (c.push.ensures.families 1 c.bucket_of.result (λ e. cc)) in
+    omega (arith, short, same, c.push.ensures.places)
+
+pub put-requires : goal.put-requires
+put-requires g c = slot_in c.self.inside.arena c.self.inside.shelf c.self.inside.free.items c.take_last-place.new.self.items c.take_last-place.result (entries_of c.self.inside.shelf (chain_of c.self.inside.arena 0 0)) c.self.invariant.0 c.take_last-place.ensures.items
+
+first : (g : given.Over) (c : goal.After-put g) → Pushed c.self.inside.arena c.push.new.self 0 0 c.take_last-place.result c.args.dump.id
+first g c =
+    let same = ap (λ (d : DumpRecordFields). d.id) c.fields.ensures.value in
+    subst
+    (Pushed c.self.inside.arena c.push.new.self 0 0 c.take_last-place.result)
+    same
+    (record {
+      chain = c.push.ensures.chain;
+      others = c.push.ensures.others;
+      families = c.push.ensures.families;
+      places = c.push.ensures.places;
+      heads = c.push.ensures.heads;
+    })
+
+second : (g : given.Over) (c : goal.After-put g) → Pushed c.push.new.self c.push-2.new.self 1 (c.args.dump.id % 1024) c.take_last-place.result c.args.dump.id
+second g c =
+    let same = ap (λ (d : DumpRecordFields). d.id) c.fields.ensures.value in
+    let bucket = c.bucket_of.ensures ∙ ap (λ (n : ℕ). n % 1024) same in
+    subst
+    (λ (n : ℕ). Pushed c.push.new.self c.push-2.new.self 1 n c.take_last-place.result c.args.dump.id)
+    bucket
+    (subst
+    (Pushed c.push.new.self c.push-2.new.self 1 c.bucket_of.result c.take_last-place.result)
+    same
+    (record {
+      chain = c.push-2.ensures.chain;
+      others = c.push-2.ensures.others;
+      families = c.push-2.ensures.families;
+      places = c.push-2.ensures.places;
+      heads = c.push-2.ensures.heads;
+    }))
+
+pub invariant_of-self : goal.invariant_of-self
+invariant_of-self g c =
+    let fresh = ap (λ (l : Linked). record_of c.args.dump.id (listed l)) c.self.view_is ∙ c.requires.fresh in
+    let made = insert_stores c.self.inside.arena c.push.new.self c.push-2.new.self c.self.inside.shelf c.self.inside.free.items c.take_last-place.new.self.items c.take_last-place.result (entries_of c.self.inside.shelf (chain_of c.self.inside.arena 0 0)) c.self.invariant.0 c.take_last-place.ensures.items c.args.dump fresh (first g c) (second g c) in
+    let stores = subst (λ (t : List (Option DumpRecordFields)). Stores c.push-2.new.self t c.take_last-place.new.self.items (entries_of t (chain_of c.push-2.new.self 0 0))) (sym c.put.ensures.slots) made in
+    let long = ap length c.put.ensures.slots ∙ length-set c.self.inside.shelf c.take_last-place.result (Some c.args.dump) in
+    (stores, omega (arith, long, c.take_last-place.ensures.capacity, c.self.invariant.1))
+
+pub returns-clause-entries : goal.returns-clause-entries
+returns-clause-entries g c =
+    let fresh = ap (λ (l : Linked). record_of c.args.dump.id (listed l)) c.self.view_is ∙ c.requires.fresh in
+    let made = insert_is c.self.inside.arena c.push.new.self c.push-2.new.self c.self.inside.shelf c.self.inside.free.items c.take_last-place.new.self.items c.take_last-place.result (entries_of c.self.inside.shelf (chain_of c.self.inside.arena 0 0)) c.self.invariant.0 c.take_last-place.ensures.items c.args.dump fresh (first g c) (second g c) in
+    let here = ap (λ (t : List (Option DumpRecordFields)). entries_of t (chain_of c.push-2.new.self 0 0)) c.put.ensures.slots ∙ made in
+    (c.take_last-place.result, here ∙ ap (λ (l : Linked). l.entries ++ entry_at c.take_last-place.result c.args.dump ∷ []) c.self.view_is)

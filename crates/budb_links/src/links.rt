@@ -1,0 +1,166 @@
+//! The records of dumps, linked by index: all of them in the order of recording, and those of each bucket of ids.
+
+ghost use Rattle.std.specs.Prelude.{◌≡◌, ◌≢◌, ℕ, ◌+◌, ◌%◌, ◌^◌, ◌<◌, ◌≤◌, [], ◌∷◌, ◌++◌, length, slice_get, Some, None, OnOk, OnErr, is_some, if◌then◌else◌, vec_len, vec_capacity};
+ghost use Rattle.std.specs.Option.{option_copied};
+ghost use Rattle.budb_links.specs.Entries.{entry_at, listed, places, record_of, record_at, without_id, of_bucket};
+
+use crate::arena::Arena;
+use crate::shelf::Shelf;
+use crate::steps::Steps;
+use budb_changes::DumpRecord;
+use std::alloc::{AllocError, Global};
+use std::marker::Model;
+use std::sync::ledger::Ledger;
+
+/// The family of the one chain of all records.
+const ALL: usize = 0;
+
+/// The family of the chains by the remainder of the id.
+const BY_ID: usize = 1;
+
+/// How many remainders there are.
+const BUCKETS: usize = 1024;
+
+/// Records of dumps, linked by index. Contracts see the records in the order of recording, each with its place, and how
+/// many more have room.
+#[derive(Drop)]
+pub struct Links {
+    arena: Arena,
+    shelf: Shelf,
+    free: Vec<usize>,
+}
+
+impl Model for Links {
+    ghost use Rattle.std.specs.Prelude.{◌≤◌, length, vec_capacity};
+    ghost use Rattle.budb_links.specs.Entries.{Linked};
+
+    ghost Value = { Linked };
+
+    ghost use Rattle.budb_links.specs.Chained.{chain_of};
+    ghost use Rattle.budb_links.specs.Stored.{Stores, entries_of};
+
+    ghost view = { λ a. record { entries = entries_of a.shelf (chain_of a.arena 0 0); spare_records = length a.free.items } };
+
+    ghost invariant = { λ a. Stores a.arena a.shelf a.free.items (entries_of a.shelf (chain_of a.arena 0 0)) × (length a.shelf ≤ vec_capacity a.free) };
+}
+
+ghost use Rattle.budb_links.specs.Stored.{numbers_from};
+
+/// The remainder of an id.
+fn bucket_of(id: u32) -> usize
+    ensures { result ≡ id % 1024 }
+{
+    id as usize % BUCKETS
+}
+
+/// Counts new places among the free ones.
+fn add_free(free: &mut Vec<usize>, first: usize, count: usize)
+    requires room { vec_len free.old + count ≤ vec_capacity free.old }
+    requires small { first + count < 2 ^ 64 }
+    ensures items { free.new.items ≡ free.old.items ++ numbers_from first count }
+    ensures capacity { vec_capacity free.new ≡ vec_capacity free.old }
+{
+    for more in 0..count {
+        free.push_reserved(first + more);
+    }
+}
+
+impl Links {
+    /// No record, and no room. It takes no memory.
+    pub fn new(alloc: Global) -> Links
+        ensures entries { result.entries ≡ [] }
+        ensures spare { result.spare_records ≡ 0 }
+    {
+        Links {
+            arena: Arena::new(alloc),
+            shelf: Shelf::new(alloc),
+            free: Vec::new(alloc),
+        }
+    }
+
+    /// Makes room for so many more records. Where memory is refused nothing has changed.
+    pub fn reserve(&mut self, records: usize) -> Result<(), AllocError>
+        ensures entries { self.new.entries ≡ self.old.entries }
+        ensures ok { OnOk result (records ≤ self.new.spare_records) }
+        ensures kept { self.old.spare_records ≤ self.new.spare_records }
+        ensures err { OnErr result (self.new ≡ self.old) }
+    {
+        let spare = self.free.len();
+        if records <= spare {
+            return Ok(());
+        }
+        let count = records - spare;
+        let first = self.shelf.places();
+        let total = first.checked_add(count).ok_or(AllocError)?;
+        self.arena.reserve(BUCKETS, total)?;
+        self.free.reserve(total)?;
+        self.shelf.grow(count)?;
+        add_free(&mut self.free, first, count);
+        Ok(())
+    }
+
+    /// Puts a record behind all others. It takes no memory.
+    pub fn insert<L: Ledger>(&mut self, dump: DumpRecord, steps: &mut Steps<L>)
+        requires room { 0 < self.old.spare_records }
+        requires fresh { record_of dump.id (listed self.old) ≡ None }
+        ensures entries { (place : ℕ) × (self.new.entries ≡ self.old.entries ++ entry_at place dump ∷ []) }
+        ensures spare { self.new.spare_records + 1 ≡ self.old.spare_records }
+        ensures cost { steps.new ≤ steps.old + 10 }
+    {
+        let id = dump.fields().id;
+        let place = self.free.take_last();
+        self.arena.push(ALL, 0, place, id, steps);
+        self.arena.push(BY_ID, bucket_of(id), place, id, steps);
+        self.shelf.put(place, dump, steps);
+    }
+
+    /// Takes the record of an id out; `None` where there is none. It takes no memory.
+    pub fn unlink<L: Ledger>(&mut self, id: u32, steps: &mut Steps<L>) -> Option<DumpRecord>
+        ensures record { result ≡ record_of id (listed self.old) }
+        ensures entries { self.new.entries ≡ without_id id self.old.entries }
+        ensures spare { self.new.spare_records ≡ (if is_some result then self.old.spare_records + 1 else self.old.spare_records) }
+        ensures cost { steps.new ≤ steps.old + of_bucket id (listed self.old) + 10 }
+    {
+        match self.arena.find(BY_ID, bucket_of(id), id, steps) {
+            None => None,
+            Some(place) => {
+                let row = self.arena.look(place, steps);
+                self.arena.cut(ALL, place, row[ALL], steps);
+                self.arena.cut(BY_ID, place, row[BY_ID], steps);
+                self.free.push_reserved(place);
+                self.shelf.take(place, steps)
+            }
+        }
+    }
+
+    /// The record of an id; `None` where there is none.
+    pub fn find<L: Ledger>(&self, id: u32, steps: &mut Steps<L>) -> Option<&DumpRecord>
+        ensures record { option_copied result ≡ record_of id (listed self.now) }
+        ensures cost { steps.new ≤ steps.old + of_bucket id (listed self.now) + 1 }
+    {
+        match self.arena.find(BY_ID, bucket_of(id), id, steps) {
+            None => None,
+            Some(place) => self.shelf.get(place, steps),
+        }
+    }
+
+    /// The first place in the chain of all records, or the one behind a place in it.
+    pub fn walk_all<L: Ledger>(&self, at: Option<usize>, steps: &mut Steps<L>) -> Option<usize>
+        ensures first { at ≡ None → result ≡ slice_get (places self.now) 0 }
+        ensures behind { (index place : ℕ) → at ≡ Some place → slice_get (places self.now) index ≡ Some place → result ≡ slice_get (places self.now) (index + 1) }
+        ensures cost { steps.new ≤ steps.old + 1 }
+    {
+        match at {
+            None => self.arena.first(ALL, 0),
+            Some(place) => self.arena.after(ALL, place, steps),
+        }
+    }
+
+    /// The record at a place; `None` where none stands there.
+    pub fn record_at<L: Ledger>(&self, at: usize, steps: &mut Steps<L>) -> Option<&DumpRecord>
+        ensures record { option_copied result ≡ record_at at self.now.entries }
+        ensures cost { steps.new ≤ steps.old + 1 }
+    {
+        self.shelf.get(at, steps)
+    }
+}
