@@ -1,0 +1,45 @@
+-- What items do to a script.
+use Rattle.std.proofs.Common.{◌≡◌, inr, ℕ, Bool, true, false, not, List, [], ◌∷◌, Some, slice_get, refl}
+use Rattle.std.specs.Prelude.{if◌then◌else◌, Result, Ok, Err}
+use Rattle.plant_core.specs.declared.plant.Plant.{Ghosts as Plant}
+use Rattle.plant_core.specs.Effects.{tells}
+use Rattle.plant_effects.specs.Runs.{Leaves}
+use Rattle.cell_core.specs.declared.cell.Cell.{Ghosts as Cell}
+use Rattle.backup_words.specs.declared.command.Command.{Command}
+use Rattle.backup_words.specs.declared.faults.WordFault.{WordFault}
+use Rattle.backup_words.specs.Commands.{command_of}
+use Rattle.backup_session.specs.Worlds.{World, with_told}
+use Rattle.backup_session.specs.Views.{SessionView}
+use Rattle.backup_session.specs.Fitting.{Fits}
+use Rattle.backup_script.specs.declared.item.Item.TheVariants.{Silent, Quit, Refused}
+use Rattle.backup_script.specs.Lines.{is_quit}
+use Rattle.backup_script.specs.Items.{is_silent, said, item_of}
+use Rattle.backup_script.specs.Scripts.{first_of, between}
+use Rattle.backup_script.specs.Running.{LineLeft, goes_behind}
+
+pub first_is : (ms : List ℕ) (m : ℕ) → slice_get ms 0 ≡ Some m → first_of ms ≡ m
+first_is [] m is = cc
+first_is (x ∷ ms) m is = cc
+
+said_goes : (r : Result Command WordFault) → goes_behind (said r) ≡ true
+said_goes (Ok command) = refl
+said_goes (Err fault) = refl
+
+-- a script goes on behind each line but `quit`
+goes_by : (quits silent : Bool) (r : Result Command WordFault) → goes_behind (if quits then Quit else if silent then Silent else said r) ≡ not quits
+goes_by true silent r = refl
+goes_by false true r = refl
+goes_by false false r = said_goes r
+
+pub item_goes : (line : List ℕ) → goes_behind (item_of line) ≡ not (is_quit line)
+unfolding item_of
+item_goes line = goes_by (is_quit line) (is_silent line) (command_of line)
+
+-- a refusal was told in part
+pub refusal_left : {D E : Type 0} (P : Plant D) (C : Cell E) (w : World) (ms text : List ℕ) (plant old new : D) (site : E) (session : SessionView) → Fits P C w plant site session → Leaves P (tells text ∷ []) old new → LineLeft P C w ms (Refused text) old new site
+refusal_left P C w ms text plant old new site session fits leaves = record {
+  stage = between (tells text ∷ []) (with_told w text);
+  on_line = inr (inr refl);
+  cell = fits.cell;
+  leaves = leaves;
+}

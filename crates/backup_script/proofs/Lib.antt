@@ -1,0 +1,9 @@
+pub mod LineLaws
+pub mod ScriptLaws
+pub mod StageLaws
+pub mod ItemLaws
+pub mod TellingLaws
+pub mod ServingLaws
+pub mod AnswerLaws
+pub mod LoopLaws
+pub mod RunLaws

@@ -1,0 +1,57 @@
+-- How a session is opened and runs a script.
+use Rattle.std.proofs.Common.{◌≡◌, ℕ, List, [], sym, ◌∙◌, subst}
+use Rattle.std.specs.Str.Lines.{lines}
+use Rattle.plant_core.specs.declared.plant.Plant.{Ghosts as Plant}
+use Rattle.plant_effects.specs.Runs.{state_of, Done, Leaves}
+use Rattle.plant_effects.proofs.Joining.{done_both, leaves_both}
+use Rattle.cell_core.specs.declared.cell.Cell.{Ghosts as Cell}
+use Rattle.tape_config.specs.Configs.{Settings}
+use Rattle.budb_changes.specs.declared.change.Change.{Change}
+use Rattle.budb_changes.specs.Bytes.{encoded}
+use Rattle.budb_changes.specs.Forms.{AreChanges}
+use Rattle.budb_changes.proofs.Logs.{same_changes}
+use Rattle.backup_session.specs.Worlds.{World}
+use Rattle.backup_session.specs.Views.{SessionView}
+use Rattle.backup_session.specs.Fitting.{Fits}
+use Rattle.backup_script.specs.Lines.{ended}
+use Rattle.backup_script.specs.Scripts.{Outcome, between, script}
+use Rattle.backup_script.specs.Running.{Went, Left, WentShort}
+use Rattle.backup_script.specs.Ended.{world_on, Ends, EndsShort}
+use Rattle.backup_script.proofs.StageLaws.{stage_front}
+
+module _ {D E : Type 0} (P : Plant D) (C : Cell E) where
+  -- the session was opened, and fits the world of the log's changes
+  pub opened_fits : (config : Settings) (log : List Change) (old new : D) (site site2 : E) (session : SessionView) → AreChanges log → (state_of P old).log ≡ encoded log
+      → (other : List Change) → AreChanges other → (state_of P old).log ≡ encoded other → Fits P C (world_on P C config other old site) new site2 session → Fits P C (world_on P C config log old site) new site2 session
+  opened_fits config log old new site site2 session form is other form2 is2 = subst (λ (l : List Change). Fits P C (world_on P C config l old site) new site2 session) (same_changes other log form2 form (sym is2 ∙ is))
+
+  module _ (w : World) (ms : List ℕ) (old mid new : D) (site : E) (first : Done P [] old mid) (first_leaves : Leaves P [] old mid) where
+    pub went_ends : (s : Outcome) (session : SessionView) (left : List ℕ) → Went P C s mid new site session left → Ends P C s old new site left
+    went_ends s session left went = record {
+      done = done_both P [] s.effects old mid new first went.done;
+      state = went.fits.state;
+      form = went.fits.keeps.form;
+      log = went.fits.keeps.is;
+      cell = went.fits.cell;
+      moments = went.moments;
+    }
+
+    pub short_ends : (input rest : List ℕ) (session : SessionView) (left : List ℕ) → WentShort P C w ms input rest mid new site session left → EndsShort P C w ms input rest old new site left
+    short_ends input rest session left short = record { took = short.took; ends = went_ends (script w ms (lines (ended short.took.taken))) session left short.went }
+
+    pub left_after : (these : List (List ℕ)) → Left P C w ms these mid new site → Left P C w ms these old new site
+    left_after these left = record {
+      stage = left.stage;
+      on_the_way = left.on_the_way;
+      cell = left.cell;
+      leaves = leaves_both P [] left.stage.effects old mid new first first_leaves left.leaves;
+    }
+
+  -- it wasn't opened
+  pub not_opened : (w : World) (ms : List ℕ) (these : List (List ℕ)) (old new : D) (site : E) → C.list site ≡ w.cell → Leaves P [] old new → Left P C w ms these old new site
+  not_opened w ms these old new site same leaves = record {
+    stage = between [] w;
+    on_the_way = stage_front [] w ms these;
+    cell = same;
+    leaves = leaves;
+  }

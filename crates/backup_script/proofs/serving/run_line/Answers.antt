@@ -1,0 +1,20 @@
+use Rattle.std.proofs.Common.{Bool, inl, [], refl, ◌≡◌, ◌∙◌, ap, subst, IfOk}
+use Rattle.plant_effects.proofs.Joining.{nothing_left}
+use Rattle.backup_script.specs.Scripts.{between}
+use Rattle.backup_script.specs.Running.{goes_behind}
+use Rattle.backup_script.proofs.ItemLaws.{item_goes}
+use Rattle.backup_script.proofs.serving.run_line.Goals as goal
+
+pub returns-in-Ok-clause-goes : goal.returns-in-Ok-clause-goes
+returns-in-Ok-clause-goes g c = subst (λ (b : Bool). IfOk c.run_item.result (λ passed. passed.goes ≡ b)) (ap goes_behind c.in-Ok.ensures ∙ item_goes c.args.line.now) c.run_item.ensures.goes
+
+pub returns-in-Err-clause-left : goal.returns-in-Err-clause-left
+returns-in-Err-clause-left g c = λ told tells_cell tells_clock w fits.
+    let P = g.P.Plant in
+    let old = c.args.plant.now in
+    record {
+      stage = between [] w;
+      on_line = inl refl;
+      cell = fits.cell;
+      leaves = nothing_left P [] old (λ told survives image left. g.met.P.Plant.left old image told c.requires survives left);
+    }

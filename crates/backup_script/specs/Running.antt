@@ -1,0 +1,133 @@
+-- What running a script leaves of a plant, a cell, a clock and a source.
+use Rattle.std.specs.Prelude.{◌≡◌, ◌⊎◌, ℕ, ◌≤◌, List, [], ◌∷◌, ◌++◌, length, Bool, true, false, All, Result, Ok, Err}
+use Rattle.std.specs.Str.Lines.{lines, strip_carriage_return}
+use Rattle.plant_core.specs.declared.plant.Plant.{Ghosts as Plant}
+use Rattle.plant_core.specs.Effects.{Effect, tells}
+use Rattle.plant_effects.specs.Runs.{Done, Leaves}
+use Rattle.cell_core.specs.declared.cell.Cell.{Ghosts as Cell}
+use Rattle.backup_session.specs.Worlds.{World}
+use Rattle.backup_session.specs.Views.{SessionView}
+use Rattle.backup_session.specs.Fitting.{Fits}
+use Rattle.backup_script.specs.declared.serving.ServeStop.{ServeStop}
+use Rattle.backup_script.specs.declared.serving.ServeStop.TheVariants.{Read, Plant as PlantStop, Cell as CellStop, Output, TooLong, Memory}
+use Rattle.backup_script.specs.Lines.{is_feed, ended, is_quit, has_quit, most_script, TookPiece}
+use Rattle.backup_session.specs.Worlds.{Turn, after_turn}
+use Rattle.backup_script.specs.declared.item.Item.{Item}
+use Rattle.backup_script.specs.declared.item.Item.TheVariants.{Silent, Quit, Runs, Refused}
+use Rattle.backup_script.specs.declared.serving.Passed.{Passed}
+use Rattle.backup_script.specs.Scripts.{Outcome, script, between, Stage, InsideTurn, OnLine, IsStage}
+
+-- These effects were done, and plant, cell, session and clock are as they are behind them.
+pub record Went {D E : Type 0} (P : Plant D) (C : Cell E) (s : Outcome) (old new : D) (site : E) (session : SessionView) (left : List ℕ) : Type 0 where
+  pub done : Done P s.effects old new
+  pub fits : Fits P C s.world new site session
+  pub moments : left ≡ s.moments
+
+-- However it ended: the cell has a list of some stage of the script, and each image since the start is one of the crash model after the first
+-- of the effects that may be done by then.
+pub record Left {D E : Type 0} (P : Plant D) (C : Cell E) (w : World) (ms : List ℕ) (lines : List (List ℕ)) (old new : D) (site : E) : Type 0 where
+  pub stage : Stage
+  pub on_the_way : IsStage [] w ms lines stage
+  pub cell : C.list site ≡ stage.cell
+  pub leaves : Leaves P stage.effects old new
+
+-- The last of these lines is `quit`, and no other one.
+pub record EndsAtQuit (these : List (List ℕ)) : Type 0 where
+  pub before : List (List ℕ)
+  pub line : List ℕ
+  pub is : these ≡ before ++ line ∷ []
+  pub quit : is_quit line ≡ true
+  pub first : has_quit before ≡ false
+
+-- so many bytes were taken, at most one more than a script may have
+pub record Took (old new : List ℕ) : Type 0 where
+  pub taken : List ℕ
+  pub is : old ≡ taken ++ new
+  pub few : length taken ≤ 16777217
+
+-- THE BYTES THAT ARE TAKEN: all, of which there are no more than a script may have; or those up to the line `quit`; at TooLong one more than
+-- a script may have, and no line that was ended among them is `quit`.
+pub record TookAll (old new : List ℕ) : Type 0 where
+  pub none_left : new ≡ []
+  pub few : length old ≤ most_script
+
+pub record TookToQuit (old new : List ℕ) : Type 0 where
+  pub took : Took old new
+  pub quit : EndsAtQuit (lines took.taken)
+
+pub record TookTooMany (old new : List ℕ) : Type 0 where
+  pub took : Took old new
+  pub many : length took.taken ≡ 16777217
+  pub no_quit : has_quit (lines (ended took.taken)) ≡ false
+
+abbrev pub Takes : List ℕ → List ℕ → Result Bool ServeStop → Type 0
+Takes old new (Ok refused) = TookAll old new ⊎ TookToQuit old new
+Takes old new (Err TooLong) = TookTooMany old new
+Takes old new (Err Read) = Took old new
+Takes old new (Err PlantStop) = Took old new
+Takes old new (Err CellStop) = Took old new
+Takes old new (Err Output) = Took old new
+Takes old new (Err Memory) = Took old new
+
+-- Cut short: the lines that were ended were run, and no other one.
+pub record WentShort {D E : Type 0} (P : Plant D) (C : Cell E) (w : World) (ms input rest : List ℕ) (old new : D) (site : E) (session : SessionView) (left : List ℕ) : Type 0 where
+  pub took : Took input rest
+  pub went : Went P C (script w ms (lines (ended took.taken))) old new site session left
+
+-- ---- inside the crate
+
+-- All of a line was done, and this was said of it: whether the script goes on, and whether a line of its reply begins with `refused`.
+pub record LineRan {D E : Type 0} (P : Plant D) (C : Cell E) (s : Outcome) (old new : D) (site : E) (session : SessionView) (left : List ℕ) (goes refused : Bool) : Type 0 where
+  pub went : Went P C s old new site session left
+  pub leaves : Leaves P s.effects old new
+  pub goes_is : goes ≡ s.goes
+  pub refused_is : refused ≡ s.refused
+
+-- a line was begun
+pub record LineLeft {D E : Type 0} (P : Plant D) (C : Cell E) (w : World) (ms : List ℕ) (item : Item) (old new : D) (site : E) : Type 0 where
+  pub stage : Stage
+  pub on_line : OnLine [] w ms item stage
+  pub cell : C.list site ≡ stage.cell
+  pub leaves : Leaves P stage.effects old new
+
+-- in a command, or behind it
+abbrev pub OnTurn : List Effect → World → Turn → Stage → Type 0
+OnTurn before w t stage = InsideTurn before w t stage ⊎ (stage ≡ between (before ++ (t.effects ++ tells t.reply ∷ [])) (after_turn w t))
+
+pub record TurnLeft {D E : Type 0} (P : Plant D) (C : Cell E) (w : World) (t : Turn) (old new : D) (site : E) : Type 0 where
+  pub stage : Stage
+  pub on_turn : OnTurn [] w t stage
+  pub cell : C.list site ≡ stage.cell
+  pub leaves : Leaves P stage.effects old new
+
+-- whether the script goes on behind a line
+abbrev pub goes_behind : Item → Bool
+goes_behind Silent = true
+goes_behind Quit = false
+goes_behind (Refused text) = true
+goes_behind (Runs command) = true
+
+-- Lines were run whole, and this was said of them.
+pub record ScriptRan {D E : Type 0} (P : Plant D) (C : Cell E) (s : Outcome) (old new : D) (site : E) (session : SessionView) (left : List ℕ) (refused : Bool) : Type 0 where
+  pub went : Went P C s old new site session left
+  pub leaves : Leaves P s.effects old new
+  pub refused_is : refused ≡ s.refused
+
+-- a line that was ended was run, and the script goes on behind it
+pub record LinePassed {D E : Type 0} (P : Plant D) (C : Cell E) (w : World) (ms input rest : List ℕ) (old new : D) (site : E) (session : SessionView) (left : List ℕ) (refused : Bool) : Type 0 where
+  pub line : List ℕ
+  pub took : TookPiece input (10 ∷ rest) line
+  pub not_quit : is_quit (strip_carriage_return line) ≡ false
+  pub goes : (script w ms (strip_carriage_return line ∷ [])).goes ≡ true
+  pub ran : ScriptRan P C (script w ms (strip_carriage_return line ∷ [])) old new site session left refused
+
+-- what was taken of a source, by what is known of it
+abbrev pub TookOn : List ℕ → List ℕ → Type 0
+TookOn old new = (line : List ℕ) × TookPiece old (10 ∷ new) line × (is_quit (strip_carriage_return line) ≡ false)
+
+abbrev pub TookEnd : List ℕ → List ℕ → ℕ → Type 0
+TookEnd old new taken = ((new ≡ []) × (taken ≤ 16777216)) ⊎ ((line : List ℕ) × TookPiece old (10 ∷ new) line × (is_quit (strip_carriage_return line) ≡ true))
+
+abbrev pub TakesNext : List ℕ → List ℕ → ℕ → Result Passed ServeStop → Type 0
+TakesNext old new taken (Ok passed) = ((passed.goes ≡ true) → TookOn old new) × ((passed.goes ≡ false) → TookEnd old new taken)
+TakesNext old new taken (Err stop) = (piece : List ℕ) × (old ≡ piece ++ new) × ((stop ≡ TooLong) ⊎ (stop ≡ Read) → All (λ b. is_feed b ≡ false) piece)

@@ -1,0 +1,228 @@
+//! Running a script: each line is run as soon as it is complete, and its whole reply is told before the next one.
+
+ghost use Rattle.std.specs.Prelude.{◌≡◌, ◌≢◌, [], ◌∷◌, ℕ, List as AnyList, not, true, Err, IfOk, OnOk, OnErr};
+ghost use Rattle.std.specs.Str.Lines.{strip_carriage_return};
+ghost use Rattle.crash_moments.specs.Moments.{HasCause, HasCauseAt};
+ghost use Rattle.media_core.specs.Later.{later};
+ghost use Rattle.plant_core.specs.Effects.{tells};
+ghost use Rattle.plant_effects.specs.Runs.{Done, Leaves, SameNumbers, Stays, StaysTelling};
+ghost use Rattle.backup_replies.specs.Texts.{has_refusal as text_has_refusal};
+ghost use Rattle.backup_session.specs.Worlds.{World};
+ghost use Rattle.backup_session.specs.Machine.{turn};
+ghost use Rattle.backup_session.specs.Fitting.{Fits};
+ghost use Rattle.backup_script.specs.Lines.{is_quit};
+ghost use Rattle.backup_script.specs.Items.{item_of};
+ghost use Rattle.backup_script.specs.Scripts.{first_of, one_line, command_told};
+ghost use Rattle.backup_script.specs.Running.{LineRan, LineLeft, TurnLeft, goes_behind};
+
+use crate::item::{Item, read_item};
+use backup_replies::has_refusal;
+use backup_session::{Session, Stop};
+use backup_words::Command;
+use cell_core::Cell;
+use media_core::Clock;
+use plant_core::Plant;
+use plant_effects::tell_whole;
+use std::alloc::Global;
+use thiserror::Error;
+
+/// Why a script wasn't run to its end.
+#[derive(Clone, Copy, Debug, PartialEq, Eq, Drop, Error)]
+pub enum ServeStop {
+    /// A read of the script failed.
+    #[error("a read of the script failed")]
+    Read,
+    /// A call on the journal or a tape failed.
+    #[error("a call on the journal or a tape failed")]
+    Plant,
+    /// A call on the cell failed.
+    #[error("a call on the cell failed")]
+    Cell,
+    /// The output took no more.
+    #[error("the output took no more")]
+    Output,
+    /// The script is too long.
+    #[error("the script is too long")]
+    TooLong,
+    /// Memory was refused.
+    #[error("memory was refused")]
+    Memory,
+}
+
+/// What is known of a line that was run.
+#[derive(Clone, Copy, Debug, Drop)]
+pub struct Passed {
+    /// Whether the script goes on.
+    pub goes: bool,
+    /// Whether a line of its reply begins with `refused`.
+    pub refused: bool,
+}
+
+fn stop_of(stop: Stop) -> ServeStop
+    ensures plant { result ≡ ServeStop.Plant → stop ≡ Stop.Plant }
+    ensures plant_back { stop ≡ Stop.Plant → result ≡ ServeStop.Plant }
+    ensures cell { result ≡ ServeStop.Cell → stop ≡ Stop.Cell }
+    ensures cell_back { stop ≡ Stop.Cell → result ≡ ServeStop.Cell }
+    ensures output { result ≢ ServeStop.Output }
+    ensures read { result ≢ ServeStop.Read }
+    ensures long { result ≢ ServeStop.TooLong }
+{
+    match stop {
+        Stop::Plant => ServeStop::Plant,
+        Stop::Cell => ServeStop::Cell,
+        Stop::Memory => ServeStop::Memory,
+    }
+}
+
+/// Executes a command and tells its reply. True where a line of the reply begins with `refused`.
+fn run_command<P: Plant, C: Cell>(
+    session: &mut Session,
+    alloc: Global,
+    plant: &mut P,
+    cell: &mut C,
+    now: u64,
+    command: &Command,
+) -> Result<bool, ServeStop>
+    requires { P.sound plant.old }
+    ensures sound { OnOk result (P.sound plant.new) }
+    ensures went { P.tells → C.tells → (w : World) → Fits P.Plant C.Cell w plant.old cell.old session.old
+        → (ms : AnyList ℕ) → IfOk result (λ refused. LineRan P.Plant C.Cell (command_told w ms (turn w now command.now)) plant.old plant.new cell.new session.new (later ms) true refused) }
+    ensures left { P.tells → C.tells → (w : World) → Fits P.Plant C.Cell w plant.old cell.old session.old → OnErr result (TurnLeft P.Plant C.Cell w (turn w now command.now) plant.old plant.new cell.new) }
+    ensures stays { Stays P.Plant plant.old plant.new }
+    ensures plant_cause { HasCauseAt ServeStop.Plant (P.view plant.old).faults (P.view plant.new).faults result }
+    ensures cell_cause { HasCauseAt ServeStop.Cell (C.faults cell.old) (C.faults cell.new) result }
+    ensures output_cause { HasCauseAt ServeStop.Output (P.view plant.old).tell_faults (P.view plant.new).tell_faults result }
+    ensures no_read { result ≢ Err ServeStop.Read }
+    ensures no_long { result ≢ Err ServeStop.TooLong }
+{
+    match session.exec(alloc, plant, cell, now, command) {
+        Ok(reply) => match tell_whole(plant, reply.text()) {
+            Ok(()) => Ok(reply.refused()),
+            Err(_) => Err(ServeStop::Output),
+        },
+        Err(stop) => Err(stop_of(stop)),
+    }
+}
+
+/// Tells the reply to a line that is refused for its words. It uses a moment of the clock.
+fn tell_refusal<P: Plant, K: Clock>(
+    plant: &mut P,
+    clock: &mut K,
+    text: &[u8],
+) -> Result<Passed, ServeStop>
+    requires { P.sound plant.old }
+    ensures done { OnOk result (Done P.Plant (tells text.now ∷ []) plant.old plant.new) }
+    ensures leaves { Leaves P.Plant (tells text.now ∷ []) plant.old plant.new }
+    ensures numbers { OnOk result (SameNumbers P.Plant plant.old plant.new) }
+    ensures clock { K.tells → K.moments clock.new ≡ later (K.moments clock.old) }
+    ensures passed { IfOk result (λ passed. (passed.goes ≡ true) × (passed.refused ≡ text_has_refusal text.now)) }
+    ensures stays { StaysTelling P.Plant plant.old plant.new }
+    ensures output_cause { HasCauseAt ServeStop.Output (P.view plant.old).tell_faults (P.view plant.new).tell_faults result }
+    ensures only { OnErr result (result ≡ Err ServeStop.Output) }
+{
+    let _now = clock.now();
+    match tell_whole(plant, text) {
+        Ok(()) => Ok(Passed {
+            goes: true,
+            refused: has_refusal(text),
+        }),
+        Err(_) => Err(ServeStop::Output),
+    }
+}
+
+/// Executes a command at the next moment of the clock.
+fn run_next<P: Plant, C: Cell, K: Clock>(
+    session: &mut Session,
+    alloc: Global,
+    plant: &mut P,
+    cell: &mut C,
+    clock: &mut K,
+    command: &Command,
+) -> Result<Passed, ServeStop>
+    requires { P.sound plant.old }
+    ensures sound { OnOk result (P.sound plant.new) }
+    ensures went { P.tells → C.tells → K.tells → (w : World) → Fits P.Plant C.Cell w plant.old cell.old session.old
+        → IfOk result (λ passed. LineRan P.Plant C.Cell (command_told w (K.moments clock.old) (turn w (first_of (K.moments clock.old)) command.now)) plant.old plant.new cell.new session.new (K.moments clock.new) passed.goes passed.refused) }
+    ensures left { P.tells → C.tells → K.tells → (w : World) → Fits P.Plant C.Cell w plant.old cell.old session.old
+        → OnErr result (TurnLeft P.Plant C.Cell w (turn w (first_of (K.moments clock.old)) command.now) plant.old plant.new cell.new) }
+    ensures goes { IfOk result (λ passed. passed.goes ≡ true) }
+    ensures stays { Stays P.Plant plant.old plant.new }
+    ensures plant_cause { HasCauseAt ServeStop.Plant (P.view plant.old).faults (P.view plant.new).faults result }
+    ensures cell_cause { HasCauseAt ServeStop.Cell (C.faults cell.old) (C.faults cell.new) result }
+    ensures output_cause { HasCauseAt ServeStop.Output (P.view plant.old).tell_faults (P.view plant.new).tell_faults result }
+    ensures no_read { result ≢ Err ServeStop.Read }
+    ensures no_long { result ≢ Err ServeStop.TooLong }
+{
+    let now = clock.now();
+    match run_command(session, alloc, plant, cell, now, command) {
+        Ok(refused) => Ok(Passed {
+            goes: true,
+            refused,
+        }),
+        Err(stop) => Err(stop),
+    }
+}
+
+/// Runs what a line says.
+fn run_item<P: Plant, C: Cell, K: Clock>(
+    session: &mut Session,
+    alloc: Global,
+    plant: &mut P,
+    cell: &mut C,
+    clock: &mut K,
+    item: Item,
+) -> Result<Passed, ServeStop>
+    requires { P.sound plant.old }
+    ensures sound { OnOk result (P.sound plant.new) }
+    ensures went { P.tells → C.tells → K.tells → (w : World) → Fits P.Plant C.Cell w plant.old cell.old session.old
+        → IfOk result (λ passed. LineRan P.Plant C.Cell (one_line w (K.moments clock.old) item) plant.old plant.new cell.new session.new (K.moments clock.new) passed.goes passed.refused) }
+    ensures left { P.tells → C.tells → K.tells → (w : World) → Fits P.Plant C.Cell w plant.old cell.old session.old → OnErr result (LineLeft P.Plant C.Cell w (K.moments clock.old) item plant.old plant.new cell.new) }
+    ensures goes { IfOk result (λ passed. passed.goes ≡ goes_behind item) }
+    ensures stays { Stays P.Plant plant.old plant.new }
+    ensures plant_cause { HasCauseAt ServeStop.Plant (P.view plant.old).faults (P.view plant.new).faults result }
+    ensures cell_cause { HasCauseAt ServeStop.Cell (C.faults cell.old) (C.faults cell.new) result }
+    ensures output_cause { HasCauseAt ServeStop.Output (P.view plant.old).tell_faults (P.view plant.new).tell_faults result }
+    ensures no_read { result ≢ Err ServeStop.Read }
+    ensures no_long { result ≢ Err ServeStop.TooLong }
+{
+    match item {
+        Item::Silent => Ok(Passed {
+            goes: true,
+            refused: false,
+        }),
+        Item::Quit => Ok(Passed {
+            goes: false,
+            refused: false,
+        }),
+        Item::Refused(text) => tell_refusal(plant, clock, text.as_slice()),
+        Item::Runs(command) => run_next(session, alloc, plant, cell, clock, &command),
+    }
+}
+
+/// Runs a line, without its end.
+pub fn run_line<P: Plant, C: Cell, K: Clock>(
+    session: &mut Session,
+    alloc: Global,
+    plant: &mut P,
+    cell: &mut C,
+    clock: &mut K,
+    line: &[u8],
+) -> Result<Passed, ServeStop>
+    requires { P.sound plant.old }
+    ensures sound { OnOk result (P.sound plant.new) }
+    ensures went { P.tells → C.tells → K.tells → (w : World) → Fits P.Plant C.Cell w plant.old cell.old session.old
+        → IfOk result (λ passed. LineRan P.Plant C.Cell (one_line w (K.moments clock.old) (item_of line.now)) plant.old plant.new cell.new session.new (K.moments clock.new) passed.goes passed.refused) }
+    ensures left { P.tells → C.tells → K.tells → (w : World) → Fits P.Plant C.Cell w plant.old cell.old session.old → OnErr result (LineLeft P.Plant C.Cell w (K.moments clock.old) (item_of line.now) plant.old plant.new cell.new) }
+    ensures goes { IfOk result (λ passed. passed.goes ≡ not (is_quit line.now)) }
+    ensures stays { Stays P.Plant plant.old plant.new }
+    ensures plant_cause { HasCauseAt ServeStop.Plant (P.view plant.old).faults (P.view plant.new).faults result }
+    ensures cell_cause { HasCauseAt ServeStop.Cell (C.faults cell.old) (C.faults cell.new) result }
+    ensures output_cause { HasCauseAt ServeStop.Output (P.view plant.old).tell_faults (P.view plant.new).tell_faults result }
+    ensures no_read { result ≢ Err ServeStop.Read }
+    ensures no_long { result ≢ Err ServeStop.TooLong }
+{
+    match read_item(alloc, line) {
+        Ok(item) => run_item(session, alloc, plant, cell, clock, item),
+        Err(_) => Err(ServeStop::Memory),
+    }
+}
