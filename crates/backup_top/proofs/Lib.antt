@@ -1,3 +1,5 @@
 mod TellLaws
 mod InputLaws
 pub mod ImageLaws
+mod Lowering
+mod CourseLaws

@@ -5,3 +5,6 @@ pub mod Tells
 pub mod Inputs
 pub mod Intakes
 pub mod Runs
+pub mod Words
+pub mod Courses
+pub mod Answers

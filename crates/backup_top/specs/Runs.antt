@@ -1,8 +1,6 @@
 -- What a run does.
-use Rattle.std.specs.Prelude.{◌≡◌, ◌⊎◌, ℕ, ◌+◌, ◌<◌, ◌≤◌, List, [], ◌∷◌, ◌++◌, length, map, codes, String, Option}
+use Rattle.std.specs.Prelude.{◌≡◌, ◌⊎◌, ℕ, ◌+◌, ◌<◌, ◌≤◌, List, [], ◌++◌, length, Option}
 use Rattle.std.specs.Io.KnownBytes.{Appends}
-use Rattle.std.specs.String.{string_bytes}
-use Rattle.std.specs.declared.alloc.Global.{Global}
 use Rattle.crash_moments.specs.Moments.{Moments, Leads}
 use Rattle.media_core.specs.Media.{Image}
 use Rattle.dump_stream.specs.declared.input.Input.{Input}
@@ -17,10 +15,6 @@ use Rattle.backup_top.specs.Tells.{ToldFront, TellsOn}
 -- What an output holds has only grown, where that is known.
 abbrev pub Grows : Option (List ℕ) → Option (List ℕ) → Type 0
 Grows old new = (more : List ℕ) × Appends old new more
-
--- the words are examine alone
-abbrev pub IsExamine : List (String Global) → Type 0
-IsExamine words = map string_bytes words ≡ codes "examine" ∷ []
 
 -- a stream is told whole, and any other input is refused by its one line
 abbrev pub told_status : Input → Status
@@ -80,6 +74,10 @@ Examines p statuses.Usage = ⊥
 Examines p statuses.ReadFault = ToldNothing p
 Examines p statuses.Memory = ToldNothing p ⊎ ToldInPart p
 Examines p statuses.OutputFault = ToldInPart p
+Examines p statuses.MediaFault = ⊥
+Examines p statuses.CellFault = ⊥
+Examines p (statuses.BadConfig line) = ⊥
+Examines p (statuses.BadLog at) = ⊥
 Examines p statuses.ScriptTooLong = (most_input < length p.input) × ToldNothing p
 
 -- the usage line was told, or a front of it

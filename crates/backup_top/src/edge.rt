@@ -5,19 +5,28 @@ ghost use Rattle.std.specs.Io.KnownBytes.{Keeps, Appends};
 ghost use Rattle.crash_moments.specs.Moments.{Rose};
 ghost use Rattle.backup_top.specs.Statuses.{line_of_status};
 ghost use Rattle.backup_top.specs.Replies.{usage_line};
-ghost use Rattle.backup_top.specs.Runs.{IsExamine, Grows};
+ghost use Rattle.backup_top.specs.Runs.{Grows};
+ghost use Rattle.backup_top.specs.Words.{asked};
+ghost use Rattle.backup_top.specs.declared.words.Asked.TheVariants.{Nothing};
 ghost use Rattle.backup_top.specs.declared.status.Status.TheVariants.{Usage, ReadFault, Memory, OutputFault};
 
 use crate::status::Status;
 use crate::stdin::StdSource;
 use crate::top::run;
-use media_core::MemMedia;
+use cell_core::CellMem;
+use media_core::{ClockMem, MemMedia};
 use std::alloc::{AllocError, Global};
 use std::env::{self, Env};
 use std::io::{self, ErrorKind, Read, Write};
 
 /// How many files the media in memory have: the journal and four tapes.
 const FILES: u32 = 5;
+
+/// Their configuration.
+const CONFIG: &[u8] = b"slots:0-3 0\n";
+
+/// The one moment of their clock.
+const MOMENT: u64 = 1_000_000;
 
 /// The words after the program's name; none where some word is not text. The toolchain names no words of an environment, so
 /// that no clause can say which they are: the tests over fakes do.
@@ -63,8 +72,8 @@ fn run_over<I: Read + Drop, O: Write>(
     source: &mut StdSource<I>,
     output: &mut O,
 ) -> Status
-    ensures usage { result ≡ Usage → IsExamine words.now.items → ⊥ }
-    ensures other_words { (IsExamine words.now.items → ⊥) → ((result ≡ Usage) ⊎ (result ≡ OutputFault) ⊎ (result ≡ Memory)) × (source.new ≡ source.old) }
+    ensures usage { result ≡ Usage → asked words.now.items ≡ Nothing }
+    ensures other_words { asked words.now.items ≡ Nothing → ((result ≡ Usage) ⊎ ((result ≡ OutputFault) ⊎ (result ≡ Memory))) × (source.new ≡ source.old) }
     ensures usage_line { result ≡ Usage → Appends (O.contents output.old) (O.contents output.new) usage_line }
     ensures grows { result ≢ OutputFault → Grows (O.contents output.old) (O.contents output.new) }
     ensures read_fault { result ≡ ReadFault → Rose source.old.faults source.new.faults }
@@ -73,7 +82,11 @@ fn run_over<I: Read + Drop, O: Write>(
     let Ok(media) = MemMedia::new(alloc, FILES) else {
         return Status::Memory;
     };
-    let (status, media) = run(alloc, words, media, source);
+    let Ok(mut clock) = ClockMem::new(alloc, &[MOMENT]) else {
+        return Status::Memory;
+    };
+    let mut cell = CellMem::new(alloc);
+    let (status, media) = run(alloc, words, CONFIG, media, &mut cell, &mut clock, source);
     print_told(output, media.told(), status)
 }
 

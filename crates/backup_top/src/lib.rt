@@ -5,10 +5,14 @@ mod edge;
 mod input;
 mod lines;
 mod refusals;
+mod run_mode;
+mod running;
 mod status;
+mod statuses;
 mod stdin;
 mod telling;
 mod top;
+mod words;
 
 pub use edge::program;
 pub use status::Status;

@@ -13,8 +13,16 @@ pub enum Status {
     Usage,
     /// A read of the source failed.
     ReadFault,
+    /// A call on the journal or a tape failed.
+    MediaFault,
+    /// A call on the cell failed.
+    CellFault,
     /// Memory was refused.
     Memory,
+    /// The configuration is refused at this line.
+    BadConfig { line: u32 },
+    /// The journal is no list of changes from this byte on; 0 where its file is damaged.
+    BadLog { at: u64 },
     /// The output took no more.
     OutputFault,
     /// The source gave more bytes than a run reads, with no end.
@@ -33,7 +41,11 @@ impl Status {
             Status::SomeRefused => 1,
             Status::Usage => 2,
             Status::ReadFault => 3,
+            Status::MediaFault => 4,
+            Status::CellFault => 5,
             Status::Memory => 6,
+            Status::BadConfig { .. } => 7,
+            Status::BadLog { .. } => 8,
             Status::OutputFault => 9,
             Status::ScriptTooLong => 10,
         }
@@ -46,9 +58,13 @@ impl Status {
         match self {
             Status::Done | Status::SomeRefused | Status::Usage => None,
             Status::ReadFault => Some(b"the input could not be read\n"),
+            Status::MediaFault => Some(b"a call on the journal or a tape failed\n"),
+            Status::CellFault => Some(b"a call on the cell failed\n"),
             Status::Memory => Some(b"memory was refused\n"),
+            Status::BadConfig { .. } => Some(b"the configuration has no known form\n"),
+            Status::BadLog { .. } => Some(b"the journal is no list of changes\n"),
             Status::OutputFault => Some(b"the output took no more\n"),
-            Status::ScriptTooLong => Some(b"the input is longer than 536870912 bytes\n"),
+            Status::ScriptTooLong => Some(b"the input is longer than it may be\n"),
         }
     }
 }

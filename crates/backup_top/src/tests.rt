@@ -3,8 +3,9 @@
 use crate::status::Status;
 use crate::top::run;
 use bk_text::Bytes;
+use cell_core::CellMem;
 use crash_moments::raised;
-use media_core::{Failed, Media, MemMedia, Source, SourceMem};
+use media_core::{ClockMem, Failed, Media, MemMedia, Source, SourceMem};
 use std::alloc::{AllocError, Global};
 
 /// A volume with one directory, of which the server modify time alone is told.
@@ -48,7 +49,17 @@ fn ran(
     media.fail_at(call)?;
     let mut source = SourceMem::new(alloc, bytes)?;
     source.fail_at(read)?;
-    let (status, media) = run(alloc, &words, media, &mut source);
+    let mut cell = CellMem::new(alloc);
+    let mut clock = ClockMem::new(alloc, &[1])?;
+    let (status, media) = run(
+        alloc,
+        &words,
+        b"",
+        media,
+        &mut cell,
+        &mut clock,
+        &mut source,
+    );
     Ok((status, Bytes::from_slice(alloc, media.told())?))
 }
 
@@ -161,7 +172,17 @@ fn status_of_zeros(alloc: Global, count: usize) -> Result<Status, AllocError> {
     let words = words_of(alloc, "examine")?;
     let media = MemMedia::new(alloc, 5)?;
     let mut source = Zeros { left: count };
-    let (status, _) = run(alloc, &words, media, &mut source);
+    let mut cell = CellMem::new(alloc);
+    let mut clock = ClockMem::new(alloc, &[1])?;
+    let (status, _) = run(
+        alloc,
+        &words,
+        b"",
+        media,
+        &mut cell,
+        &mut clock,
+        &mut source,
+    );
     Ok(status)
 }
 
@@ -261,7 +282,17 @@ fn told_slowly(alloc: Global, left: u32) -> Result<(Status, Bytes), AllocError> 
         faults: 0,
     };
     let mut source = SourceMem::new(alloc, &ONE_DIRECTORY)?;
-    let (status, output) = run(alloc, &words, output, &mut source);
+    let mut cell = CellMem::new(alloc);
+    let mut clock = ClockMem::new(alloc, &[1])?;
+    let (status, output) = run(
+        alloc,
+        &words,
+        b"",
+        output,
+        &mut cell,
+        &mut clock,
+        &mut source,
+    );
     let SlowOutput { told, .. } = output;
     Ok((status, told))
 }

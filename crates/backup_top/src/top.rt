@@ -1,38 +1,32 @@
 //! The top call.
 
-ghost use Rattle.std.specs.Prelude.{◌≡◌, ◌≢◌, ◌⊎◌, ◌↔◌, ◌≤◌, IsTrue, codes};
-ghost use Rattle.std.specs.String.{string_bytes};
+ghost use Rattle.std.specs.Prelude.{◌≡◌, ◌≢◌, ◌⊎◌, ◌≤◌, ℕ, Ok, Err};
 ghost use Rattle.crash_moments.specs.Moments.{Leads, Rose};
+ghost use Rattle.media_core.specs.Still.{AreStill};
+ghost use Rattle.plant_media.specs.Stock.{stock_of};
+ghost use Rattle.tape_config.specs.Configs.{Settings, config_of};
+ghost use Rattle.tape_config.specs.declared.fault.ConfigFault.{ConfigFault as AnyFault};
 ghost use Rattle.backup_top.specs.Tells.{TellsOn, OnlyTells};
 ghost use Rattle.backup_top.specs.Replies.{usage_line};
-ghost use Rattle.backup_top.specs.Runs.{IsExamine, passage, Examines, TellsUsage, told_status};
-ghost use Rattle.backup_top.specs.declared.status.Status.TheVariants.{Usage, ReadFault, OutputFault};
+ghost use Rattle.backup_top.specs.Runs.{passage, Examines, TellsUsage, told_status};
+ghost use Rattle.backup_top.specs.Words.{asked};
+ghost use Rattle.backup_top.specs.Answers.{config_status};
+ghost use Rattle.backup_top.specs.Courses.{course_of, Entry, Journal, IsBadLog, IsRefusedAt, RefusesJournal, IsExamineStatus, Runs, TakesBy, EndsAt, LeavesImages, outcome, HasCauseAs, IsWithin, IsComplete};
+ghost use Rattle.backup_top.specs.declared.words.Asked.TheVariants.{Run, Examine, Nothing};
+ghost use Rattle.backup_top.specs.declared.status.Status.TheVariants.{Usage, ReadFault, MediaFault, CellFault, Memory, BadConfig, BadLog, OutputFault};
 
 use crate::input::{ReadStop, read_input};
+use crate::run_mode::run_mode;
 use crate::status::Status;
 use crate::telling::{TellStop, tell_all, tell_input};
+use crate::words::{Asked, asked_by};
+use cell_core::Cell;
 use dump_stream::Input;
-use media_core::{Media, Source};
+use media_core::{Clock, Media, Source};
 use std::alloc::Global;
 
 /// What is told where the words are not those of a mode.
 const USAGE: &[u8] = b"usage: afsbackup run | examine | rehearse N\n";
-
-fn is_word_examine(word: &String) -> bool
-    ensures { IsTrue result ↔ (string_bytes word.now ≡ codes "examine") }
-{
-    word.as_bytes() == b"examine".as_slice()
-}
-
-/// Whether these are the words of `examine`.
-fn is_examine(words: &Vec<String>) -> bool
-    ensures { IsTrue result ↔ IsExamine words.now.items }
-{
-    match words.as_slice() {
-        [word] => is_word_examine(word),
-        _ => false,
-    }
-}
 
 /// The status of an input that was told.
 fn status_of(input: &Input) -> Status
@@ -53,7 +47,7 @@ fn examine<M: Media, S: Source>(alloc: Global, media: &mut M, source: &mut S) ->
     ensures output_fault { result ≡ OutputFault → Rose (M.tell_faults media.old) (M.tell_faults media.new) }
     ensures no_output_fault { result ≢ OutputFault → M.tell_faults media.new ≡ M.tell_faults media.old }
     ensures later { S.faults source.old ≤ S.faults source.new }
-    ensures no_usage { result ≢ Usage }
+    ensures statuses { IsExamineStatus result }
 {
     match read_input(alloc, source) {
         Err(ReadStop::Failed) => Status::ReadFault,
@@ -82,39 +76,105 @@ fn tell_usage<M: Media>(media: &mut M) -> Status
     }
 }
 
-/// Runs the program on these words, which are those after its name: `examine` alone, for now.
-///
-/// `examine` reads the source to its end as one dump stream and tells it line by line, or the one line by which it is
-/// refused. The media are handed back as the run leaves them, whatever the status is. At `ReadFault` and
-/// `ScriptTooLong` nothing was told, at `OutputFault` and `Memory` a front of the lines. Want of memory may come at any
-/// point. These are this project's own rules.
-pub fn run<M: Media, S: Source>(
-    alloc: Global,
-    words: &Vec<String>,
-    media: M,
-    source: &mut S,
-) -> (Status, M)
-    // The words that aren't those of a mode are answered by the usage line, and nothing is read.
-    ensures usage { (result.0 ≡ Usage) → IsExamine words.now.items → ⊥ }
-    ensures other_words { (IsExamine words.now.items → ⊥) → ((result.0 ≡ Usage) ⊎ (result.0 ≡ OutputFault)) × (M.tells → TellsUsage (M.seen media).told (M.seen result.1).told result.0) × (source.new ≡ source.old) }
-    ensures other_images { (IsExamine words.now.items → ⊥) → M.tells → Leads M.time media result.1 (TellsOn usage_line (M.seen media).told) }
-    // An input is told by its lines.
-    ensures examine { IsExamine words.now.items → S.tells → M.tells → Examines (passage S.left M.seen M.time source.old source.new media result.1) result.0 }
-    // The files stay, and no count of faults falls.
+/// The examination of media that are handed back.
+fn run_examine<M: Media, S: Source>(alloc: Global, media: M, source: &mut S) -> (Status, M)
+    ensures told { S.tells → M.tells → Examines (passage S.left M.seen M.time source.old source.new media result.1) result.0 }
     ensures only { OnlyTells M.tells M.seen M.time M.count M.present M.faults M.tell_faults media result.1 }
-    ensures source_faults { S.faults source.old ≤ S.faults source.new }
-    // Each fault has its cause, and no count rises at another status.
     ensures read_fault { result.0 ≡ ReadFault → Rose (S.faults source.old) (S.faults source.new) }
     ensures no_read_fault { result.0 ≢ ReadFault → S.faults source.new ≡ S.faults source.old }
     ensures output_fault { result.0 ≡ OutputFault → Rose (M.tell_faults media) (M.tell_faults result.1) }
     ensures no_output_fault { result.0 ≢ OutputFault → M.tell_faults result.1 ≡ M.tell_faults media }
+    ensures later { S.faults source.old ≤ S.faults source.new }
+    ensures statuses { IsExamineStatus result.0 }
 {
     let mut media = media;
-    if is_examine(words) {
-        let status = examine(alloc, &mut media, source);
-        (status, media)
-    } else {
-        let status = tell_usage(&mut media);
-        (status, media)
+    let status = examine(alloc, &mut media, source);
+    (status, media)
+}
+
+/// The usage line on media that are handed back.
+fn run_usage<M: Media>(media: M) -> (Status, M)
+    ensures told { M.tells → TellsUsage (M.seen media).told (M.seen result.1).told result.0 }
+    ensures images { M.tells → Leads M.time media result.1 (TellsOn usage_line (M.seen media).told) }
+    ensures only { OnlyTells M.tells M.seen M.time M.count M.present M.faults M.tell_faults media result.1 }
+    ensures output_fault { result.0 ≡ OutputFault → Rose (M.tell_faults media) (M.tell_faults result.1) }
+    ensures no_output_fault { result.0 ≢ OutputFault → M.tell_faults result.1 ≡ M.tell_faults media }
+    ensures usage { (result.0 ≡ Usage) ⊎ (result.0 ≡ OutputFault) }
+{
+    let mut media = media;
+    let status = tell_usage(&mut media);
+    (status, media)
+}
+
+/// Runs the program on these words, which are those after its name: `run` or `examine`; one first `--` is left out. The media are handed
+/// back as the run leaves them, whatever the status is. Want of memory may come at any point. These are this project's own rules.
+///
+/// `run` opens the journal of the media by the configuration and runs the source as a script, line by line. `examine` reads the
+/// source to its end as one dump stream and tells it line by line, or the one line by which it is refused; at `ReadFault` and
+/// `ScriptTooLong` it has told nothing, at `OutputFault` and `Memory` a front of the lines.
+pub fn run<M: Media, C: Cell, K: Clock, S: Source>(
+    alloc: Global,
+    words: &Vec<String>,
+    config: &[u8],
+    media: M,
+    cell: &mut C,
+    clock: &mut K,
+    source: &mut S,
+) -> (Status, M)
+    // The words that aren't those of a mode are answered by the usage line, and nothing is read.
+    ensures usage { result.0 ≡ Usage → asked words.now.items ≡ Nothing }
+    ensures other_words { asked words.now.items ≡ Nothing → ((result.0 ≡ Usage) ⊎ ((result.0 ≡ OutputFault) ⊎ (result.0 ≡ Memory))) × (M.tells → TellsUsage (M.seen media).told (M.seen result.1).told result.0) × (source.new ≡ source.old) }
+    ensures other_images { asked words.now.items ≡ Nothing → M.tells → Leads M.time media result.1 (TellsOn usage_line (M.seen media).told) }
+
+    // An input is told by its lines.
+    ensures examine { asked words.now.items ≡ Examine → S.tells → M.tells → Examines (passage S.left M.seen M.time source.old source.new media result.1) result.0 }
+    // But for a script, the files stay, the cell and the clock too, whatever the configuration and the journal are.
+    ensures only { (asked words.now.items ≡ Run → ⊥) → OnlyTells M.tells M.seen M.time M.count M.present M.faults M.tell_faults media result.1 }
+    ensures same { (asked words.now.items ≡ Run → ⊥) → (cell.new ≡ cell.old) × (clock.new ≡ clock.old) }
+
+    // A script, over media whose journal is a list of changes, and by a configuration of the form: what was done, by the status.
+    ensures runs { asked words.now.items ≡ Run → M.tells → C.tells → K.tells → S.tells → (entry : Entry config.now (stock_of (M.seen media)))
+        → Runs (course_of M.seen M.present media entry result.1 (C.list cell.old) (C.list cell.new) (K.moments clock.old) (K.moments clock.new) (S.left source.old) (S.left source.new)) result.0 }
+    // Each image since the entry, where no write of before waits for a sync.
+    ensures images { asked words.now.items ≡ Run → M.tells → C.tells → K.tells → S.tells → AreStill M.time M.seen media → (entry : Entry config.now (stock_of (M.seen media)))
+        → let c = course_of M.seen M.present media entry result.1 (C.list cell.old) (C.list cell.new) (K.moments clock.old) (K.moments clock.new) (S.left source.old) (S.left source.new) in
+        LeavesImages M.time media result.1 c.world.state (outcome c).effects }
+    // However it ended.
+    ensures ends { asked words.now.items ≡ Run → M.tells → C.tells → K.tells → S.tells → AreStill M.time M.seen media → (entry : Entry config.now (stock_of (M.seen media)))
+        → EndsAt M.time M.seen media result.1 (course_of M.seen M.present media entry result.1 (C.list cell.old) (C.list cell.new) (K.moments clock.old) (K.moments clock.new) (S.left source.old) (S.left source.new)) }
+    // What is taken of the source. A script is too long exactly where more came than it may have, with no end and no `quit`.
+    ensures takes { asked words.now.items ≡ Run → S.tells → TakesBy (S.left source.old) (S.left source.new) result.0 }
+    // Where no call is refused, all of a script within its bound is run, unless memory runs out.
+    ensures complete { asked words.now.items ≡ Run → M.tells → C.tells → K.tells → S.tells → Entry config.now (stock_of (M.seen media)) → IsWithin (S.left source.old)
+        → (Rose (M.faults media) (M.faults result.1) → ⊥) → (Rose (C.faults cell.old) (C.faults cell.new) → ⊥) → (Rose (M.tell_faults media) (M.tell_faults result.1) → ⊥) → (Rose (S.faults source.old) (S.faults source.new) → ⊥) → IsComplete result.0 }
+
+    // A configuration is refused exactly at the line where it stops being of the form, before anything is touched.
+    ensures bad_config { (line : ℕ) → result.0 ≡ BadConfig line → (asked words.now.items ≡ Run) × IsRefusedAt config.now line }
+    ensures only_bad_config { asked words.now.items ≡ Run → (fault : AnyFault) → config_of config.now ≡ Err fault → (result.0 ≡ config_status fault) ⊎ (result.0 ≡ Memory) }
+    ensures bad_config_same { (line : ℕ) → result.0 ≡ BadConfig line → (result.1 ≡ media) × (cell.new ≡ cell.old) × (clock.new ≡ clock.old) × (source.new ≡ source.old) }
+    // A journal is refused exactly where its log stops being a list of changes, before a line is read; nothing is told, and nothing changes.
+    ensures bad_log { M.tells → (at : ℕ) → result.0 ≡ BadLog at → IsBadLog (stock_of (M.seen media)).log at }
+    ensures bad_log_config { (at : ℕ) → result.0 ≡ BadLog at → (asked words.now.items ≡ Run) × ((settings : Settings) × (config_of config.now ≡ Ok settings)) }
+    ensures only_bad_log { asked words.now.items ≡ Run → M.tells → C.tells → (settings : Settings) → config_of config.now ≡ Ok settings → (Journal (stock_of (M.seen media)) → ⊥) → RefusesJournal result.0 }
+    ensures bad_log_media { M.tells → (at : ℕ) → result.0 ≡ BadLog at → stock_of (M.seen result.1) ≡ stock_of (M.seen media) }
+    ensures bad_log_cell { C.tells → (at : ℕ) → result.0 ≡ BadLog at → C.list cell.new ≡ C.list cell.old }
+    ensures bad_log_clock { (at : ℕ) → result.0 ≡ BadLog at → (clock.new ≡ clock.old) × (source.new ≡ source.old) }
+
+    // Each fault has its cause, and no count rises at another status.
+    ensures media_cause { HasCauseAs MediaFault (M.faults media) (M.faults result.1) result.0 }
+    ensures cell_cause { HasCauseAs CellFault (C.faults cell.old) (C.faults cell.new) result.0 }
+    ensures output_fault { result.0 ≡ OutputFault → Rose (M.tell_faults media) (M.tell_faults result.1) }
+    ensures no_output_fault { result.0 ≢ OutputFault → M.tell_faults result.1 ≡ M.tell_faults media }
+    ensures read_fault { result.0 ≡ ReadFault → Rose (S.faults source.old) (S.faults source.new) }
+    ensures no_read_fault { result.0 ≢ ReadFault → S.faults source.new ≡ S.faults source.old }
+    ensures cell_later { C.faults cell.old ≤ C.faults cell.new }
+    ensures output_later { M.tell_faults media ≤ M.tell_faults result.1 }
+    ensures read_later { S.faults source.old ≤ S.faults source.new }
+{
+    match asked_by(alloc, words) {
+        Err(_) => (Status::Memory, media),
+        Ok(Asked::Run) => run_mode(alloc, config, media, cell, clock, source),
+        Ok(Asked::Examine) => run_examine(alloc, media, source),
+        Ok(Asked::Nothing) => run_usage(media),
     }
 }

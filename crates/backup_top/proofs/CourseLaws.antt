@@ -1,0 +1,208 @@
+-- What a run over a plant and a cell says of its course.
+use Rattle.std.proofs.Common.{◌≡◌, ◌≢◌, inl, inr, ℕ, ◌+◌, ◌<◌, ◌≤◌, Bool, true, false, List, [], ◌∷◌, ◌++◌, length, take, drop, append_assoc, Option, Some, None, refl, sym, ◌∙◌, ap, subst, arith, length-append, Result, Ok, Err, IfOk}
+use Rattle.std.specs.Str.Lines.{lines}
+use Rattle.std.proofs.lemmas.Bool.{cases_lt}
+use Rattle.std.proofs.lemmas.List.{take-append-le, take-append-drop, take_at}
+use Rattle.bk_text.specs.Places.{FailsAt}
+use Rattle.crash_moments.specs.Moments.{Moments, Stepped, LeavesSince, Rose, HasCauseAt}
+use Rattle.media_core.specs.Media.{Image}
+use Rattle.plant_core.specs.declared.plant.Plant.{Ghosts as Plant}
+use Rattle.plant_core.specs.Crashes.{State, Alike, settled_part}
+use Rattle.plant_core.specs.Effects.{Effect, commits, replaces, tells, puts, settles, cuts, come, told_by, Joint}
+use Rattle.plant_core.specs.Stock.{Stock}
+use Rattle.plant_effects.specs.Runs.{Leaves as LeavesPlant}
+use Rattle.plant_effects.proofs.States.{told_is}
+use Rattle.plant_effects.proofs.Joining.{leaves_more}
+use Rattle.plant_media.specs.Stock.{stock_of}
+use Rattle.plant_media.specs.Opening.{HasCauseIn}
+use Rattle.plant_media.specs.declared.open.OpenFault.{OpenFault}
+use Rattle.plant_media.specs.declared.open.OpenFault.TheVariants as opening
+use Rattle.cell_core.specs.declared.cell.Cell.{Ghosts as Cell}
+use Rattle.cell_core.specs.declared.stored.Stored.{Stored}
+use Rattle.tape_config.specs.Configs.{Settings, config_of}
+use Rattle.budb_changes.specs.declared.change.Change.{Change}
+use Rattle.budb_changes.specs.Bytes.{encoded}
+use Rattle.budb_changes.specs.Forms.{AreChanges, IsLog}
+use Rattle.backup_session.specs.Worlds.{World}
+use Rattle.backup_script.specs.declared.running.RunStop.{RunStop}
+use Rattle.backup_script.specs.declared.running.RunStop.TheVariants as stop
+use Rattle.backup_script.specs.Lines.{ended, has_quit}
+use Rattle.backup_script.specs.Scripts.{Outcome, script, Stage, IsStage}
+use Rattle.backup_script.specs.Running.{Took, TookTooMany, Left}
+use Rattle.backup_script.specs.Ended.{Ends, EndsShort, TakesBytes, IsRefusedLog}
+use Rattle.backup_script.proofs.StageLaws.{stage_whole}
+use Rattle.backup_top.specs.declared.status.Status.{Status}
+use Rattle.backup_top.specs.declared.status.Status.TheVariants.{Done, SomeRefused, Usage, ReadFault, MediaFault, CellFault, Memory, BadConfig, BadLog, OutputFault, ScriptTooLong}
+use Rattle.backup_top.specs.Answers.{run_status, opening_status}
+use Rattle.backup_top.specs.Courses.{Course, IsWithin, IsComplete, outcome, Leaves, LeavesShort, Runs, TakesBy, Journal, IsBadLog, RefusesJournal, LeftImage, LeavesImages, EndsAt, HasCauseAs}
+use Rattle.backup_top.proofs.Lowering.{alike_same, log_come, log_whole}
+
+-- ---- what was done
+
+-- the effects were done, and the media were handed back
+pub leaves_media : (c : Course) (s : Outcome) (first last : State) → c.world.state ≡ first → c.world.state.log_settled ≡ length c.world.state.log → c.world.state.told ≡ c.before.told → c.after ≡ settled_part last
+    → Alike (come s.effects first) last → Alike s.world.state last → AreChanges s.world.log → s.world.state.log ≡ encoded s.world.log → c.cell ≡ s.world.cell → c.left ≡ s.moments → Leaves c s
+leaves_media c s first last rests settled told_at back done state form log cell clock =
+    let end : come s.effects c.world.state ≡ last = ap (come s.effects) rests ∙ alike_same (come s.effects first) last done in
+    let archive : c.after ≡ settled_part (come s.effects c.world.state) = back ∙ ap settled_part (sym end) in
+    let same : (come s.effects c.world.state).log ≡ encoded s.world.log = ap (λ (x : State). x.log) end ∙ state.log ∙ log in
+    record {
+      told = ap (λ (x : Stock). x.told) archive ∙ told_is s.effects c.world.state ∙ ap (λ (l : List ℕ). l ++ told_by s.effects) told_at;
+      archive = archive;
+      journal = ap (λ (x : Stock). x.log) archive ∙ ap (λ (l : List ℕ). Some l) (log_whole (come s.effects c.world.state) (log_come s.effects c.world.state settled) ∙ same);
+      form = form;
+      cell = cell;
+      clock = clock;
+    }
+
+module _ {D E : Type 0} (P : Plant D) (C : Cell E) (c : Course) (w : World) (old new : D) (site : E) (same : w ≡ c.world) (leaves : (s : Outcome) → Ends P C s old new site c.left → Leaves c s) where
+  in_course : (these : List (List ℕ)) → Leaves c (script w c.moments these) → Leaves c (script c.world c.moments these)
+  in_course these = subst (λ (v : World). Leaves c (script v c.moments these)) same
+
+  short_in : EndsShort P C w c.moments c.input c.rest old new site c.left → LeavesShort c
+  short_in short = record { took = short.took; leaves = in_course (lines (ended short.took.taken)) (leaves (script w c.moments (lines (ended short.took.taken))) short.ends) }
+
+  whole_in : (refused : Bool) → Ends P C (script w c.moments (lines c.input)) old new site c.left × (refused ≡ (script w c.moments (lines c.input)).refused) → Leaves c (outcome c) × ((outcome c).refused ≡ refused)
+  whole_in refused (ends, is) = (in_course (lines c.input) (leaves (script w c.moments (lines c.input)) ends), sym (is ∙ ap (λ (v : World). (script v c.moments (lines c.input)).refused) same))
+
+  -- by the answer
+  pub runs_of : (r : Result Bool RunStop) → IfOk r (λ refused. Ends P C (script w c.moments (lines c.input)) old new site c.left × (refused ≡ (script w c.moments (lines c.input)).refused))
+      → (r ≡ Err stop.Read → EndsShort P C w c.moments c.input c.rest old new site c.left) → (r ≡ Err stop.TooLong → EndsShort P C w c.moments c.input c.rest old new site c.left)
+      → ((at : ℕ) → r ≡ Err (stop.BadLog at) → ⊥) → Runs c (run_status r)
+  runs_of (Ok true) ran read long bad = whole_in true ran
+  runs_of (Ok false) ran read long bad = whole_in false ran
+  runs_of (Err stop.Read) ran read long bad = short_in (read refl)
+  runs_of (Err stop.TooLong) ran read long bad = short_in (long refl)
+  runs_of (Err stop.Plant) ran read long bad = tt
+  runs_of (Err stop.Cell) ran read long bad = tt
+  runs_of (Err stop.Output) ran read long bad = tt
+  runs_of (Err stop.Memory) ran read long bad = tt
+  runs_of (Err (stop.BadLog at)) ran read long bad = bad at refl
+
+-- where no plant was opened
+pub runs_not_opened : (c : Course) (Told : Type 0) (damaged : Bool) (before now : ℕ) (fault : OpenFault) → HasCauseIn Told damaged before now fault → (damaged ≡ true → ⊥) → Told → Runs c (opening_status fault)
+runs_not_opened c Told damaged before now opening.Failed cause whole told = tt
+runs_not_opened c Told damaged before now (opening.BadLog at) cause whole told = whole (cause.2 told)
+
+-- ---- what was taken
+
+pub bad_log_answer : (r : Result Bool RunStop) (at : ℕ) → run_status r ≡ BadLog at → r ≡ Err (stop.BadLog at)
+bad_log_answer (Ok true) at is = cc
+bad_log_answer (Ok false) at is = cc
+bad_log_answer (Err stop.Read) at is = cc
+bad_log_answer (Err stop.TooLong) at is = cc
+bad_log_answer (Err stop.Plant) at is = cc
+bad_log_answer (Err stop.Cell) at is = cc
+bad_log_answer (Err stop.Output) at is = cc
+bad_log_answer (Err stop.Memory) at is = cc
+bad_log_answer (Err (stop.BadLog n)) at is = cc
+
+pub refuses_journal : (r : Result Bool RunStop) → IsRefusedLog r → RefusesJournal (run_status r)
+refuses_journal (Ok refused) is = absurd is
+refuses_journal (Err stop.Read) is = absurd is
+refuses_journal (Err stop.TooLong) is = absurd is
+refuses_journal (Err stop.Plant) is = tt
+refuses_journal (Err stop.Cell) is = absurd is
+refuses_journal (Err stop.Output) is = absurd is
+refuses_journal (Err stop.Memory) is = tt
+refuses_journal (Err (stop.BadLog at)) is = tt
+
+pub opening_bad : (Told : Type 0) (damaged : Bool) (before now : ℕ) (fault : OpenFault) (at : ℕ) → HasCauseIn Told damaged before now fault → Told → opening_status fault ≡ BadLog at → (at ≡ 0) × (damaged ≡ true)
+opening_bad Told damaged before now opening.Failed at cause told is = cc
+opening_bad Told damaged before now (opening.BadLog n) at cause told is = (cc, cause.2 told)
+
+pub opening_cause : (Told : Type 0) (damaged : Bool) (before now : ℕ) (fault : OpenFault) → HasCauseIn Told damaged before now fault → HasCauseAs MediaFault before now (opening_status fault)
+opening_cause Told damaged before now opening.Failed cause = record { failed = λ is. cause; stays = λ other. absurd (other refl) }
+opening_cause Told damaged before now (opening.BadLog at) cause = record { failed = λ is. cc; stays = λ other. cause.1 }
+
+pub bad_journal : (log : Option (List ℕ)) (bytes : List ℕ) (at : ℕ) → log ≡ Some bytes → FailsAt IsLog bytes at → IsBadLog log at
+bad_journal log bytes at is fails = subst (λ (l : Option (List ℕ)). IsBadLog l at) (sym is) fails
+
+pub damaged_journal : (log : Option (List ℕ)) (at : ℕ) → log ≡ None → at ≡ 0 → IsBadLog log at
+damaged_journal log at is zero = subst (λ (l : Option (List ℕ)). IsBadLog l at) (sym is) zero
+
+-- ---- images
+
+told_by-append : (es fs : List Effect) → told_by (es ++ fs) ≡ told_by es ++ told_by fs
+told_by-append [] fs = refl
+told_by-append (tells text ∷ es) fs = ap (λ (l : List ℕ). text ++ l) (told_by-append es fs) ∙ sym (append_assoc text (told_by es) (told_by fs))
+told_by-append (commits bytes ∷ es) fs = told_by-append es fs
+told_by-append (replaces bytes ∷ es) fs = told_by-append es fs
+told_by-append (puts k r ∷ es) fs = told_by-append es fs
+told_by-append (settles k ∷ es) fs = told_by-append es fs
+told_by-append (cuts k n ∷ es) fs = told_by-append es fs
+
+front_short : (n : ℕ) (xs : List ℕ) → length (take n xs) ≤ length xs
+front_short n xs = omega (arith, ap length (take-append-drop n xs), length-append (take n xs) (drop n xs))
+
+told_front : (n : ℕ) (es : List Effect) → length (told_by (take n es)) ≤ length (told_by es)
+told_front n es = omega (arith, ap (λ (l : List Effect). length (told_by l)) (take-append-drop n es), ap length (told_by-append (take n es) (drop n es)), length-append (told_by (take n es)) (told_by (drop n es)))
+
+told_short : (start : State) (effects before more : List Effect) (old new : Stock) (joint : Joint start effects old new) → effects ≡ before ++ more → joint.count ≤ length before → length new.told ≤ length start.told + length (told_by before)
+told_short start effects before more old new joint is within =
+    let front : take joint.count effects ≡ take joint.count before = ap (take joint.count) is ∙ take-append-le joint.count before more within in
+    let whole : (come (take joint.count effects) start).told ≡ start.told ++ told_by (take joint.count before) = told_is (take joint.count effects) start ∙ ap (λ (l : List Effect). start.told ++ told_by l) front in
+    omega (arith, ap length joint.left.told.1, front_short joint.left.told.0 (come (take joint.count effects) start).told, ap length whole, length-append start.told (told_by (take joint.count before)), told_front joint.count before)
+
+-- a reply that was told whole is among the effects
+pub told_whole : (start : State) (effects : List Effect) (old new : Stock) (joint : Joint start effects old new) (before after : List Effect) (reply : List ℕ) → effects ≡ before ++ tells reply ∷ after → 0 < length reply
+    → length start.told + length (told_by before) + length reply ≤ length new.told → length before < joint.count
+told_whole start effects old new joint before after reply is some whole = elim (cases_lt (length before) joint.count) [
+  | inl past ↦ past
+  | inr within ↦ absurd (omega (arith, some, whole, told_short start effects before (tells reply ∷ after) old new joint is within))
+]
+
+pub image_of : (start : State) (effects : List Effect) (old new : Stock) → start.log_settled ≡ length start.log → Joint start effects old new → LeftImage start effects old new
+image_of start effects old new settled joint = record {
+  joint = joint;
+  events = joint.left.log ∙ ap (λ (l : List ℕ). Some l) (log_whole (come (take joint.count effects) start) (log_come (take joint.count effects) start settled));
+  acknowledged = told_whole start effects old new joint;
+}
+
+pub images_of : {D : Type 0} (time : Moments D Image) (old new : D) (start : State) (effects : List Effect) → start.log_settled ≡ length start.log → LeavesSince time old new (λ a b. Joint start effects (stock_of a) (stock_of b)) → LeavesImages time old new start effects
+images_of time old new start effects settled images = λ c left. let at = images c left in record { from = at.from; was = at.was; step = image_of start effects (stock_of at.from) (stock_of c) settled at.step }
+
+-- however it ended
+pub ends_at : {D : Type 0} (time : Moments D Image) (seen : D → Image) (old new : D) (c : Course) (stage : Stage) → IsStage [] c.world c.moments (lines c.input) stage → c.cell ≡ stage.cell → c.world.state.log_settled ≡ length c.world.state.log
+    → time.moment old ≤ time.moment new → time.may_leave new (seen new) → LeavesSince time old new (λ a b. Joint c.world.state stage.effects (stock_of a) (stock_of b)) → EndsAt time seen old new c
+ends_at time seen old new c stage on cell settled later reads images = record {
+  stage = stage;
+  on_the_way = on;
+  cell = cell;
+  image = images_of time old new c.world.state stage.effects settled images (seen new) (time.counts_now new (time.moment old) (seen new) later reads);
+}
+
+-- what was left of a stage was left of the script
+pub left_whole : {D E : Type 0} (P : Plant D) (C : Cell E) (w v : World) (ms : List ℕ) (these : List (List ℕ)) (old new : D) (site : E) → w ≡ v → Left P C w ms these old new site → LeavesPlant P (script v ms these).effects old new
+left_whole P C w v ms these old new site same left =
+    let more = stage_whole [] w ms these left.stage left.on_the_way in
+    subst (λ (es : List Effect). LeavesPlant P es old new) (sym more.1 ∙ ap (λ (x : World). (script x ms these).effects) same) (leaves_more P left.stage.effects more.0 old new left.leaves)
+
+-- ---- the configuration
+
+pub settings_same : (bytes : List ℕ) (a b : Settings) → config_of bytes ≡ Ok a → config_of bytes ≡ Ok b → a ≡ b
+settings_same bytes a b one two = cc
+
+-- ---- where nothing fails
+
+not_too_long : (input rest : List ℕ) → TookTooMany input rest → IsWithin input → ⊥
+not_too_long input rest took within = elim within [
+  | inl few ↦ omega (arith, few, took.many, ap length took.took.is, length-append took.took.taken rest)
+  | inr quits ↦ same_bool (sym quits ∙ ap (λ (l : List ℕ). has_quit (lines (ended l))) (ap (take 16777217) took.took.is ∙ take_at took.took.taken rest 16777217 took.many) ∙ took.no_quit)
+]
+  where
+    same_bool : true ≡ false → ⊥
+    same_bool is = cc
+
+pub complete_by : (c : Course) (s : Status) → Runs c s → TakesBy c.input c.rest s → IsWithin c.input → (s ≡ MediaFault → ⊥) → (s ≡ CellFault → ⊥) → (s ≡ OutputFault → ⊥) → (s ≡ ReadFault → ⊥) → IsComplete s
+complete_by c Done runs takes within media cell output read = tt
+complete_by c SomeRefused runs takes within media cell output read = tt
+complete_by c Memory runs takes within media cell output read = tt
+complete_by c Usage runs takes within media cell output read = runs
+complete_by c (BadConfig line) runs takes within media cell output read = runs
+complete_by c (BadLog at) runs takes within media cell output read = runs
+complete_by c MediaFault runs takes within media cell output read = media refl
+complete_by c CellFault runs takes within media cell output read = cell refl
+complete_by c OutputFault runs takes within media cell output read = output refl
+complete_by c ReadFault runs takes within media cell output read = read refl
+complete_by c ScriptTooLong runs takes within media cell output read = not_too_long c.input c.rest takes within

@@ -1,0 +1,119 @@
+-- From a plant over media to the media.
+use Rattle.std.proofs.Common.{◌≡◌, inl, inr, ℕ, ◌+◌, ◌≤◌, Bool, true, List, [], ◌∷◌, ◌++◌, length, take, Option, Some, None, refl, sym, ◌∙◌, ap, subst, arith}
+use Rattle.std.proofs.lemmas.List.{take_all}
+use Rattle.crash_moments.specs.Moments.{Moments, Stepped, Leads, LeavesSince}
+use Rattle.crash_moments.specs.Telling.{IsFront, Extends}
+use Rattle.crash_moments.proofs.Joining.{joined, weakened, whole, mapped_leads, part_leaves}
+use Rattle.media_core.specs.Media.{Image, Same}
+use Rattle.media_core.specs.Still.{AreStill}
+use Rattle.crash_log.specs.Log.{log_of, is_damaged}
+use Rattle.plant_core.specs.Crashes.{State, LeftIn, IsSettled, Alike, seen_in, settled_part}
+use Rattle.plant_core.specs.Effects.{Effect, commits, replaces, tells, puts, settles, cuts, comes, come, told_by, Joint}
+use Rattle.plant_core.specs.Records.{Record}
+use Rattle.plant_core.specs.Stock.{Stock}
+use Rattle.plant_effects.proofs.States.{told_is, grows_none, joint_none}
+use Rattle.plant_media.specs.Stock.{stock_of, journal_of, log_shown, tape_of}
+use Rattle.plant_media.specs.State.{media_of, moments_of}
+use Rattle.plant_media.specs.declared.plant.MediaPlant.{MediaPlant}
+use Rattle.backup_top.specs.Courses.{at_rest}
+
+-- ---- states
+
+pub alike_same : (s t : State) → Alike s t → s ≡ t
+alike_same s t alike = sym (λ i. record { log = alike.log i; tape = λ k. alike.tape k i; told = alike.told i; log_settled = alike.log_settled i; settled = λ k. alike.settled k i })
+
+rest_settled : (s : State) → IsSettled s → at_rest s.log (seen_in s) ≡ s
+rest_settled s settled = sym (λ i. record { log = s.log; tape = s.tape; told = s.told; log_settled = settled.log i; settled = λ k. settled.tapes k i })
+
+some_same : (a b : List ℕ) → Some a ≡ Some b → a ≡ b
+some_same a b same = cc
+
+-- what a plant that was opened shows is at rest
+pub opened_rests : (bytes : List ℕ) (stock : Stock) (s : State) → stock ≡ seen_in s → stock.log ≡ Some bytes → IsSettled s → at_rest bytes stock ≡ s
+opened_rests bytes stock s shown is settled =
+    let same : bytes ≡ s.log = some_same bytes s.log (sym is ∙ ap (λ (x : Stock). x.log) shown) in
+    (λ i. at_rest (same i) (shown i)) ∙ rest_settled s settled
+
+pub shown_log : (bytes : List ℕ) (stock : Stock) (s : State) → stock ≡ seen_in s → stock.log ≡ Some bytes → s.log ≡ bytes
+shown_log bytes stock s shown is = sym (some_same bytes s.log (sym is ∙ ap (λ (x : Stock). x.log) shown))
+
+-- where all is settled, a plant hands back what it shows
+pub settled_whole : (s : State) → IsSettled s → settled_part s ≡ seen_in s
+settled_whole s settled = λ i. record {
+  log = Some ((ap (λ (n : ℕ). take n s.log) settled.log ∙ take_all (length s.log) s.log (omega arith)) i);
+  tape = λ k. (ap (λ (n : ℕ). take n (s.tape k)) (settled.tapes k) ∙ take_all (length (s.tape k)) (s.tape k) (omega arith)) i;
+  told = s.told;
+}
+
+-- effects settle the log
+log_comes : (e : Effect) (s : State) → s.log_settled ≡ length s.log → (comes e s).log_settled ≡ length (comes e s).log
+log_comes (commits bytes) s is = refl
+log_comes (replaces bytes) s is = refl
+log_comes (tells text) s is = is
+log_comes (puts k r) s is = is
+log_comes (settles k) s is = is
+log_comes (cuts k n) s is = is
+
+pub log_come : (es : List Effect) (s : State) → s.log_settled ≡ length s.log → (come es s).log_settled ≡ length (come es s).log
+log_come [] s is = is
+log_come (e ∷ es) s is = log_come es (comes e s) (log_comes e s is)
+
+pub log_whole : (s : State) → s.log_settled ≡ length s.log → take s.log_settled s.log ≡ s.log
+log_whole s is = ap (λ (n : ℕ). take n s.log) is ∙ take_all (length s.log) s.log (omega arith)
+
+-- a damaged journal has no log
+pub journal_damaged : (file : List ℕ) → is_damaged file ≡ true → journal_of file ≡ None
+unfolding journal_of
+journal_damaged file is = ap (λ (b : Bool). log_shown b (log_of file)) is
+
+-- ---- images
+
+module _ {D : Type 0} (time : Moments D Image) (seen : D → Image) (media : D) (bytes : List ℕ) where
+  abbrev rest : State
+  rest = at_rest bytes (stock_of (seen media))
+
+  -- an image of files that wait for no sync is at rest
+  pub still_left : AreStill time seen media → ((c : Image) → time.may_leave media c → IsFront c.told (seen media).told) → (stock_of (seen media)).log ≡ Some bytes → (c : Image) → time.may_leave media c → LeftIn rest (stock_of c)
+  still_left still fronts is c left = record {
+    log = ap journal_of (still 0 c left) ∙ is ∙ ap (λ (l : List ℕ). Some l) (sym (take_all (length bytes) bytes (omega arith)));
+    tapes = λ k. record {
+      count = length (tape_of ((seen media).file (k + 1)));
+      low = omega arith;
+      high = omega arith;
+      is = inl (ap tape_of (still (k + 1) c left) ∙ sym (take_all (length (tape_of ((seen media).file (k + 1)))) (tape_of ((seen media).file (k + 1))) (omega arith)));
+    };
+    told = fronts c left;
+  }
+
+  module _ (back : D) (es : List Effect) (fits : (c : Image) → time.may_leave media c → LeftIn rest (stock_of c)) where
+    -- nothing was done
+    pub nothing_since : Leads time media back Same → LeavesSince time media back (λ a b. Joint rest es (stock_of a) (stock_of b))
+    nothing_since leads = whole time media back (λ a b. Joint rest es (stock_of a) (stock_of b))
+        (weakened time media back Same (λ a b. Joint rest es (stock_of a) (stock_of b)) leads
+        (λ a b was same. joint_none rest es (stock_of a) (stock_of b) (subst (λ (x : Image). LeftIn rest (stock_of x)) (sym same) (fits a was)) (grows_none (stock_of a) (stock_of b) (ap (λ (x : Image). x.told) same))))
+        (λ a was. joint_none rest es (stock_of a) (stock_of a) (fits a was) (grows_none (stock_of a) (stock_of a) refl))
+
+    -- a plant was opened, and these effects were done in part or whole
+    module _ (s : State) (plant end : MediaPlant D) (back_is : back ≡ end.media) (same_rest : rest ≡ s) (opening : Leads time media plant.media Same) (run : Leads (moments_of time) plant end (Joint s es)) where
+      abbrev first : MediaPlant D
+      first = record plant { media = media }
+
+      all : Leads (moments_of time) first end (Joint rest es)
+      all =
+          let lead : Leads (moments_of time) first plant (λ a b. b ≡ a) = mapped_leads time media_of stock_of first plant Same (λ a b. b ≡ a) opening (λ a b was same. ap stock_of same) in
+          joined (moments_of time) first plant end (λ a b. b ≡ a) (Joint rest es) (Joint rest es) lead (subst (λ (t : State). Leads (moments_of time) plant end (Joint t es)) (sym same_rest) run)
+          (λ a b was same. joint_none rest es a b (subst (LeftIn rest) (sym (same ∙ was.is)) (fits was.from was.was)) (grows_none a b (ap (λ (x : Stock). x.told) same)))
+          (λ a b c was same left next. record { count = next.count; within = next.within; left = next.left; grows = subst (λ (x : Stock). Extends x.told c.told) same next.grows })
+
+      pub images_left : LeavesSince time media back (λ a b. Joint rest es (stock_of a) (stock_of b))
+      images_left = subst (λ (m : D). LeavesSince time media m (λ a b. Joint rest es (stock_of a) (stock_of b))) (sym back_is)
+          (part_leaves time media_of stock_of first end (Joint rest es) all (λ a was. joint_none rest es (stock_of a) (stock_of a) (fits a was) (grows_none (stock_of a) (stock_of a) refl)))
+
+      pub images_later : time.moment media ≤ time.moment back
+      images_later = subst (λ (m : D). time.moment media ≤ time.moment m) (sym back_is) all.later
+
+  pub same_later : (back : D) → Leads time media back Same → time.moment media ≤ time.moment back
+  same_later back leads = leads.later
+
+pub none_some : (bytes : List ℕ) → None ≡ Some bytes → ⊥
+none_some bytes is = cc

@@ -1,0 +1,198 @@
+-- What a run of a script finds, and what it leaves.
+use Rattle.std.specs.Prelude.{◌≡◌, ◌≢◌, ◌⊎◌, ℕ, ◌+◌, ◌<◌, ◌≤◌, List, [], ◌∷◌, ◌++◌, length, take, Bool, true, false, Option, Some, None, Ok, Err}
+use Rattle.std.specs.Str.Lines.{lines}
+use Rattle.bk_text.specs.Places.{FailsAt}
+use Rattle.crash_moments.specs.Moments.{Moments, Stepped, LeavesSince, Rose}
+use Rattle.media_core.specs.Media.{Image}
+use Rattle.plant_core.specs.Crashes.{State, LeftIn, settled_part}
+use Rattle.plant_core.specs.Effects.{Effect, tells, come, told_by, Joint}
+use Rattle.plant_core.specs.Stock.{Stock}
+use Rattle.plant_media.specs.Stock.{stock_of}
+use Rattle.plant_media.specs.Slots.{slots_here}
+use Rattle.cell_core.specs.declared.stored.Stored.{Stored}
+use Rattle.tape_config.specs.Configs.{Settings, config_of}
+use Rattle.tape_config.specs.declared.fault.ConfigFault.{ConfigFault}
+use Rattle.budb_changes.specs.declared.change.Change.{Change}
+use Rattle.budb_changes.specs.Bytes.{encoded}
+use Rattle.budb_changes.specs.Forms.{AreChanges, IsLog}
+use Rattle.backup_session.specs.Worlds.{World}
+use Rattle.backup_session.specs.Opening.{opened}
+use Rattle.backup_script.specs.Lines.{ended, has_quit, most_script}
+use Rattle.backup_script.specs.Scripts.{Outcome, script, Stage, IsStage}
+use Rattle.backup_script.specs.Running.{Took, TookAll, TookToQuit, TookTooMany}
+use Rattle.backup_top.specs.Answers.{config_status}
+use Rattle.backup_top.specs.declared.status.Status.{Status}
+use Rattle.backup_top.specs.declared.status.Status.TheVariants.{Done, SomeRefused, Usage, ReadFault, MediaFault, CellFault, Memory, BadConfig, BadLog, OutputFault, ScriptTooLong}
+
+-- ---- at the entry
+
+-- the journal is a list of changes
+pub record Journal (stock : Stock) : Type 0 where
+  pub log : List Change
+  pub form : AreChanges log
+  pub is : stock.log ≡ Some (encoded log)
+
+-- the configuration is of the form, and the journal is a list of changes
+pub record Entry (config : List ℕ) (stock : Stock) : Type 0 where
+  pub settings : Settings
+  pub says : config_of config ≡ Ok settings
+  pub journal : Journal stock
+
+-- the configuration is refused at this line
+pub record IsRefusedAt (config : List ℕ) (line : ℕ) : Type 0 where
+  pub fault : ConfigFault
+  pub says : config_of config ≡ Err fault
+  pub line_is : config_status fault ≡ BadConfig line
+
+-- Where a log stops being a list of changes: a damaged journal at its first byte.
+abbrev pub IsBadLog : Option (List ℕ) → ℕ → Type 0
+IsBadLog None at = at ≡ 0
+IsBadLog (Some bytes) at = FailsAt IsLog bytes at
+
+-- a log, and tapes, of which all is settled
+abbrev pub at_rest : List ℕ → Stock → State
+at_rest log stock = record { log = log; tape = stock.tape; told = stock.told; log_settled = length log; settled = λ k. length (stock.tape k) }
+
+-- The world that a run finds: the configuration, the changes of the journal, the cell, and what stands on the media, of which no tape is
+-- loaded.
+abbrev pub world_at : Settings → (ℕ → Bool) → List Change → List Stored → Stock → World
+world_at config present log cell stock = opened (record { config = config; present = slots_here present }) log cell (at_rest (encoded log) stock) None
+
+-- ---- a course: a run of a script from its entry to its exit
+
+-- The world at the entry; the moments of the clock and the bytes of the source, at the entry and at the exit; what stands on the media at
+-- both; and the cell at the exit.
+pub record Course : Type 0 where
+  pub world : World
+  pub moments : List ℕ
+  pub left : List ℕ
+  pub input : List ℕ
+  pub rest : List ℕ
+  pub before : Stock
+  pub after : Stock
+  pub cell : List Stored
+
+-- that of these media, this cell, this clock and this source, at the entry and at the exit
+abbrev pub course : {D : Type 0} → (D → Image) → (D → ℕ → Bool) → Settings → List Change → D → D → List Stored → List Stored → List ℕ → List ℕ → List ℕ → List ℕ → Course
+course seen present config log old new cell_old cell_new moments left input rest = record {
+  world = world_at config (present old) log cell_old (stock_of (seen old));
+  moments = moments;
+  left = left;
+  input = input;
+  rest = rest;
+  before = stock_of (seen old);
+  after = stock_of (seen new);
+  cell = cell_new;
+}
+
+-- the same, of what is at the entry
+abbrev pub course_of : {D : Type 0} {config : List ℕ} (seen : D → Image) (present : D → ℕ → Bool) (old : D) → Entry config (stock_of (seen old)) → D → List Stored → List Stored → List ℕ → List ℕ → List ℕ → List ℕ → Course
+course_of seen present old entry new cell_old cell_new moments left input rest = course seen present entry.settings entry.journal.log old new cell_old cell_new moments left input rest
+
+-- what comes of its script
+abbrev pub outcome : Course → Outcome
+outcome c = script c.world c.moments (lines c.input)
+
+-- What is left where all of this was done. The journal and the tapes are those of the entry with these effects, so far as they are settled.
+pub record Leaves (c : Course) (s : Outcome) : Type 0 where
+  pub told : c.after.told ≡ c.before.told ++ told_by s.effects
+  pub archive : c.after ≡ settled_part (come s.effects c.world.state)
+  pub journal : c.after.log ≡ Some (encoded s.world.log)
+  pub form : AreChanges s.world.log
+  pub cell : c.cell ≡ s.world.cell
+  pub clock : c.left ≡ s.moments
+
+-- cut short by a read or the limit: the lines that were ended were run
+pub record LeavesShort (c : Course) : Type 0 where
+  pub took : Took c.input c.rest
+  pub leaves : Leaves c (script c.world c.moments (lines (ended took.taken)))
+
+-- WHAT A RUN HAS DONE, BY ITS STATUS. Of a run that a fault or want of memory has ended, `EndsAt` says what is left.
+abbrev pub Runs : Course → Status → Type 0
+Runs c Done = Leaves c (outcome c) × ((outcome c).refused ≡ false)
+Runs c SomeRefused = Leaves c (outcome c) × ((outcome c).refused ≡ true)
+Runs c ReadFault = LeavesShort c
+Runs c ScriptTooLong = LeavesShort c
+Runs c MediaFault = Unit {0}
+Runs c CellFault = Unit {0}
+Runs c OutputFault = Unit {0}
+Runs c Memory = Unit {0}
+Runs c Usage = ⊥
+Runs c (BadConfig line) = ⊥
+Runs c (BadLog at) = ⊥
+
+-- a run that reaches the media doesn't end so
+abbrev pub IsRunStatus : Status → Type 0
+IsRunStatus Usage = ⊥
+IsRunStatus (BadConfig line) = ⊥
+IsRunStatus status = Unit {0}
+
+-- the examination doesn't end so
+abbrev pub IsExamineStatus : Status → Type 0
+IsExamineStatus Usage = ⊥
+IsExamineStatus MediaFault = ⊥
+IsExamineStatus CellFault = ⊥
+IsExamineStatus (BadConfig line) = ⊥
+IsExamineStatus (BadLog at) = ⊥
+IsExamineStatus status = Unit {0}
+
+-- a journal that is no list of changes is refused, or the media refuse a call, or memory runs out
+abbrev pub RefusesJournal : Status → Type 0
+RefusesJournal (BadLog at) = Unit {0}
+RefusesJournal MediaFault = Unit {0}
+RefusesJournal Memory = Unit {0}
+RefusesJournal status = ⊥
+
+-- the bytes that are taken of the source, by the status
+abbrev pub TakesBy : List ℕ → List ℕ → Status → Type 0
+TakesBy old new Done = TookAll old new ⊎ TookToQuit old new
+TakesBy old new SomeRefused = TookAll old new ⊎ TookToQuit old new
+TakesBy old new ScriptTooLong = TookTooMany old new
+TakesBy old new Usage = new ≡ old
+TakesBy old new (BadConfig line) = new ≡ old
+TakesBy old new (BadLog at) = new ≡ old
+TakesBy old new ReadFault = Took old new
+TakesBy old new MediaFault = Took old new
+TakesBy old new CellFault = Took old new
+TakesBy old new OutputFault = Took old new
+TakesBy old new Memory = Took old new
+
+-- a script within its bound: no more bytes than it may have, or a line `quit` among the first of them
+abbrev pub IsWithin : List ℕ → Type 0
+IsWithin input = (length input ≤ most_script) ⊎ (has_quit (lines (ended (take 16777217 input))) ≡ true)
+
+-- all lines were run, or memory ran out
+abbrev pub IsComplete : Status → Type 0
+IsComplete Done = Unit {0}
+IsComplete SomeRefused = Unit {0}
+IsComplete Memory = Unit {0}
+IsComplete status = ⊥
+
+-- ---- images
+
+-- What a crash leaves of a run, from what was left at the entry: what the crash model leaves after the first effects of the script, for
+-- ONE count of them. The journal isn't damaged, and is that after these effects. A reply that was told whole is among them.
+pub record LeftImage (start : State) (effects : List Effect) (old new : Stock) : Type 0 where
+  pub joint : Joint start effects old new
+  pub events : new.log ≡ Some (come (take joint.count effects) start).log
+  pub acknowledged : (before after : List Effect) (reply : List ℕ) → effects ≡ before ++ tells reply ∷ after → 0 < length reply
+      → length start.told + length (told_by before) + length reply ≤ length new.told → length before < joint.count
+
+-- each image since the entry
+abbrev pub LeavesImages : {D : Type 0} → Moments D Image → D → D → State → List Effect → Type 0
+LeavesImages time old new start effects = LeavesSince time old new (λ a b. LeftImage start effects (stock_of a) (stock_of b))
+
+-- However a run ends, what reads give is such an image of a stage of the script, and the cell has the list of this stage. So the cell has
+-- the changes of each command whose reply was told.
+pub record EndsAt {D : Type 0} (time : Moments D Image) (seen : D → Image) (old new : D) (c : Course) : Type 0 where
+  pub stage : Stage
+  pub on_the_way : IsStage [] c.world c.moments (lines c.input) stage
+  pub cell : c.cell ≡ stage.cell
+  pub image : Stepped time old (λ a b. LeftImage c.world.state stage.effects (stock_of a) (stock_of b)) (seen new)
+
+-- ---- causes
+
+-- The count of a fault at a run: it has risen where the status is that fault, and is exactly as before at every other status.
+pub record HasCauseAs (fault : Status) (before now : ℕ) (status : Status) : Type 0 where
+  pub failed : status ≡ fault → Rose before now
+  pub stays : status ≢ fault → now ≡ before

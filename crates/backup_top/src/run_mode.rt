@@ -1,0 +1,59 @@
+//! The mode `run`: a script is run by the bytes of a configuration.
+
+ghost use Rattle.std.specs.Prelude.{◌≡◌, ◌⊎◌, ◌≤◌, ℕ, Ok, Err};
+ghost use Rattle.media_core.specs.Still.{AreStill};
+ghost use Rattle.plant_media.specs.Stock.{stock_of};
+ghost use Rattle.tape_config.specs.Configs.{Settings, config_of};
+ghost use Rattle.tape_config.specs.declared.fault.ConfigFault.{ConfigFault as AnyFault};
+ghost use Rattle.backup_top.specs.declared.status.Status.TheVariants.{Usage, ReadFault, MediaFault, CellFault, OutputFault, BadConfig, BadLog, Memory};
+ghost use Rattle.backup_top.specs.Answers.{config_status};
+ghost use Rattle.backup_top.specs.Courses.{course_of, Entry, Journal, IsBadLog, IsRefusedAt, RefusesJournal, Runs, TakesBy, EndsAt, LeavesImages, outcome, HasCauseAs};
+
+use crate::running::run_media;
+use crate::status::Status;
+use crate::statuses::of_config;
+use cell_core::Cell;
+use media_core::{Clock, Media, Source};
+use std::alloc::Global;
+use tape_config::Config;
+
+/// Runs a script by the bytes of a configuration.
+pub fn run_mode<M: Media, C: Cell, K: Clock, S: Source>(
+    alloc: Global,
+    config: &[u8],
+    media: M,
+    cell: &mut C,
+    clock: &mut K,
+    source: &mut S,
+) -> (Status, M)
+    ensures runs { M.tells → C.tells → K.tells → S.tells → (entry : Entry config.now (stock_of (M.seen media)))
+        → Runs (course_of M.seen M.present media entry result.1 (C.list cell.old) (C.list cell.new) (K.moments clock.old) (K.moments clock.new) (S.left source.old) (S.left source.new)) result.0 }
+    ensures images { M.tells → C.tells → K.tells → S.tells → AreStill M.time M.seen media → (entry : Entry config.now (stock_of (M.seen media)))
+        → let c = course_of M.seen M.present media entry result.1 (C.list cell.old) (C.list cell.new) (K.moments clock.old) (K.moments clock.new) (S.left source.old) (S.left source.new) in
+        LeavesImages M.time media result.1 c.world.state (outcome c).effects }
+    ensures ends { M.tells → C.tells → K.tells → S.tells → AreStill M.time M.seen media → (entry : Entry config.now (stock_of (M.seen media)))
+        → EndsAt M.time M.seen media result.1 (course_of M.seen M.present media entry result.1 (C.list cell.old) (C.list cell.new) (K.moments clock.old) (K.moments clock.new) (S.left source.old) (S.left source.new)) }
+    ensures takes { S.tells → TakesBy (S.left source.old) (S.left source.new) result.0 }
+    ensures bad_config { (line : ℕ) → result.0 ≡ BadConfig line → IsRefusedAt config.now line }
+    ensures only_bad_config { (fault : AnyFault) → config_of config.now ≡ Err fault → (result.0 ≡ config_status fault) ⊎ (result.0 ≡ Memory) }
+    ensures bad_config_same { (line : ℕ) → result.0 ≡ BadConfig line → (result.1 ≡ media) × (cell.new ≡ cell.old) × (clock.new ≡ clock.old) × (source.new ≡ source.old) }
+    ensures bad_log { M.tells → (at : ℕ) → result.0 ≡ BadLog at → IsBadLog (stock_of (M.seen media)).log at }
+    ensures bad_log_config { (at : ℕ) → result.0 ≡ BadLog at → (settings : Settings) × (config_of config.now ≡ Ok settings) }
+    ensures only_bad_log { M.tells → C.tells → (settings : Settings) → config_of config.now ≡ Ok settings → (Journal (stock_of (M.seen media)) → ⊥) → RefusesJournal result.0 }
+    ensures bad_log_media { M.tells → (at : ℕ) → result.0 ≡ BadLog at → stock_of (M.seen result.1) ≡ stock_of (M.seen media) }
+    ensures bad_log_cell { C.tells → (at : ℕ) → result.0 ≡ BadLog at → C.list cell.new ≡ C.list cell.old }
+    ensures bad_log_clock { (at : ℕ) → result.0 ≡ BadLog at → (clock.new ≡ clock.old) × (source.new ≡ source.old) }
+    ensures media_cause { HasCauseAs MediaFault (M.faults media) (M.faults result.1) result.0 }
+    ensures cell_cause { HasCauseAs CellFault (C.faults cell.old) (C.faults cell.new) result.0 }
+    ensures output_cause { HasCauseAs OutputFault (M.tell_faults media) (M.tell_faults result.1) result.0 }
+    ensures read_cause { HasCauseAs ReadFault (S.faults source.old) (S.faults source.new) result.0 }
+    ensures cell_later { C.faults cell.old ≤ C.faults cell.new }
+    ensures output_later { M.tell_faults media ≤ M.tell_faults result.1 }
+    ensures read_later { S.faults source.old ≤ S.faults source.new }
+    ensures usage { result.0 ≡ Usage → ⊥ }
+{
+    match Config::parse(alloc, config) {
+        Ok(config) => run_media(alloc, config, media, cell, clock, source),
+        Err(fault) => (of_config(fault), media),
+    }
+}

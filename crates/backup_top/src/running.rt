@@ -1,0 +1,56 @@
+//! A run of a script over media and a cell.
+
+ghost use Rattle.std.specs.Prelude.{◌≡◌, ◌≤◌, ℕ};
+ghost use Rattle.media_core.specs.Still.{AreStill};
+ghost use Rattle.plant_media.specs.Stock.{stock_of};
+ghost use Rattle.backup_top.specs.declared.status.Status.TheVariants.{ReadFault, MediaFault, CellFault, OutputFault, BadLog};
+ghost use Rattle.backup_top.specs.Courses.{course, Journal, IsBadLog, IsRunStatus, RefusesJournal, Runs, TakesBy, EndsAt, LeavesImages, outcome, HasCauseAs};
+
+use crate::status::Status;
+use crate::statuses::{of_opening, of_run};
+use backup_script::run_on;
+use cell_core::Cell;
+use media_core::{Clock, Media, Source};
+use plant_media::MediaPlant;
+use std::alloc::Global;
+use tape_config::Config;
+
+/// Runs a script over media and a cell, by a configuration. The media are handed back as the run leaves them.
+pub fn run_media<M: Media, C: Cell, K: Clock, S: Source>(
+    alloc: Global,
+    config: Config,
+    media: M,
+    cell: &mut C,
+    clock: &mut K,
+    source: &mut S,
+) -> (Status, M)
+    ensures runs { M.tells → C.tells → K.tells → S.tells → (journal : Journal (stock_of (M.seen media)))
+        → Runs (course M.seen M.present config journal.log media result.1 (C.list cell.old) (C.list cell.new) (K.moments clock.old) (K.moments clock.new) (S.left source.old) (S.left source.new)) result.0 }
+    ensures images { M.tells → C.tells → K.tells → S.tells → AreStill M.time M.seen media → (journal : Journal (stock_of (M.seen media)))
+        → let c = course M.seen M.present config journal.log media result.1 (C.list cell.old) (C.list cell.new) (K.moments clock.old) (K.moments clock.new) (S.left source.old) (S.left source.new) in
+        LeavesImages M.time media result.1 c.world.state (outcome c).effects }
+    ensures ends { M.tells → C.tells → K.tells → S.tells → AreStill M.time M.seen media → (journal : Journal (stock_of (M.seen media)))
+        → EndsAt M.time M.seen media result.1 (course M.seen M.present config journal.log media result.1 (C.list cell.old) (C.list cell.new) (K.moments clock.old) (K.moments clock.new) (S.left source.old) (S.left source.new)) }
+    ensures takes { S.tells → TakesBy (S.left source.old) (S.left source.new) result.0 }
+    ensures bad_log { M.tells → (at : ℕ) → result.0 ≡ BadLog at → IsBadLog (stock_of (M.seen media)).log at }
+    ensures only_bad_log { M.tells → C.tells → (Journal (stock_of (M.seen media)) → ⊥) → RefusesJournal result.0 }
+    ensures bad_log_media { M.tells → (at : ℕ) → result.0 ≡ BadLog at → stock_of (M.seen result.1) ≡ stock_of (M.seen media) }
+    ensures bad_log_cell { C.tells → (at : ℕ) → result.0 ≡ BadLog at → C.list cell.new ≡ C.list cell.old }
+    ensures bad_log_clock { (at : ℕ) → result.0 ≡ BadLog at → (clock.new ≡ clock.old) × (source.new ≡ source.old) }
+    ensures media_cause { HasCauseAs MediaFault (M.faults media) (M.faults result.1) result.0 }
+    ensures cell_cause { HasCauseAs CellFault (C.faults cell.old) (C.faults cell.new) result.0 }
+    ensures output_cause { HasCauseAs OutputFault (M.tell_faults media) (M.tell_faults result.1) result.0 }
+    ensures read_cause { HasCauseAs ReadFault (S.faults source.old) (S.faults source.new) result.0 }
+    ensures cell_later { C.faults cell.old ≤ C.faults cell.new }
+    ensures output_later { M.tell_faults media ≤ M.tell_faults result.1 }
+    ensures read_later { S.faults source.old ≤ S.faults source.new }
+    ensures statuses { IsRunStatus result.0 }
+{
+    match MediaPlant::open(media) {
+        Ok(mut plant) => {
+            let answer = run_on(alloc, config, &mut plant, cell, clock, source);
+            (of_run(answer), plant.into_media())
+        }
+        Err(unopened) => (of_opening(unopened.fault), unopened.media),
+    }
+}
