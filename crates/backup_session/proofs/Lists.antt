@@ -1,11 +1,11 @@
 -- Levels of a line one after the other, and entries of a cell.
-use Rattle.std.proofs.Common.{zero, suc, ◌≡◌, ℕ, ◌+◌, ◌<◌, Bool, true, false, List, [], ◌∷◌, ◌++◌, length, take, drop, get_or, refl, sym, ◌∙◌, ap, arith}
+use Rattle.std.proofs.Common.{zero, suc, ◌≡◌, ℕ, ◌+◌, ◌<◌, Bool, true, false, List, [], ◌∷◌, ◌++◌, length, take, drop, get_or, sym, ◌∙◌, ap, arith}
 use Rattle.std.specs.Prelude.{if◌then◌else◌, ◌||◌, Some}
 use Rattle.std.proofs.lemmas.List.{take_more}
 use Rattle.dump_levels.specs.declared.levels.Level.{Level}
 use Rattle.dump_levels.specs.Elements.{path_above}
 use Rattle.dump_levels.specs.Trees.{has_level}
-use Rattle.backup_session.specs.Levels.{has_path, first_known, is_founded, first_unfounded, first_missing}
+use Rattle.backup_session.specs.Levels.{has_path, first_known, is_founded, first_unfounded}
 
 -- the elements from a place on
 pub from_place : {X : Type 0} → (xs : List X) (i : ℕ) (x : X) → i < length xs → x ≡ get_or xs i x → drop i xs ≡ x ∷ drop (i + 1) xs

@@ -7,7 +7,7 @@ use Rattle.std.proofs.lemmas.Bool.{cases_lt}
 use Rattle.tape_config.specs.declared.port.PortFields.{PortFields}
 use Rattle.tape_config.specs.Configs.{Settings, port_in}
 use Rattle.plant_core.specs.declared.plant.Plant.{Ghosts as Plant}
-use Rattle.plant_core.specs.Crashes.{State, Alike}
+use Rattle.plant_core.specs.Crashes.{State}
 use Rattle.plant_core.specs.Effects.{commits, settles, come}
 use Rattle.plant_effects.specs.Runs.{state_of, loaded_of, Done, Leaves, SameNumbers}
 use Rattle.plant_effects.proofs.States.{alike_both, alike_come}
@@ -20,13 +20,12 @@ use Rattle.budb_fold.specs.declared.database.Database.{Database}
 use Rattle.budb_fold.specs.Database.{after, has_port}
 use Rattle.backup_session.specs.Labels.{label_of}
 use Rattle.budb.specs.Kept.{Keeps}
-use Rattle.budb.specs.Views.{BudbView}
 use Rattle.tape_frames.specs.declared.label.LabelFields.{LabelFields}
 use Rattle.backup_replies.specs.declared.refusals.Refusal.TheVariants.{NoSuchPort, LogFull}
 use Rattle.backup_replies.specs.Texts.{refused_number}
 use Rattle.backup_replies.specs.Labels.{labeled_lines}
 use Rattle.backup_session.specs.Views.{SessionView, ReplyView}
-use Rattle.backup_session.specs.Worlds.{Setting, World, Turn}
+use Rattle.backup_session.specs.Worlds.{World, Turn}
 use Rattle.backup_session.specs.Turns.{said, length_with}
 use Rattle.backup_session.specs.Tapes.{slot_in, slot_at, slot_of, putting_label, labeling, labeled, new_label, taken, label_turn}
 use Rattle.backup_session.specs.Fitting.{FitsPlant, TurnedPlant}

@@ -7,7 +7,6 @@ use Rattle.volume_sets.specs.declared.sets.SetEntry.{SetEntry}
 use Rattle.volume_sets.specs.declared.sets.VolumeSet.{VolumeSet}
 use Rattle.volume_sets.specs.Sets.{has_set, entries_of}
 use Rattle.dump_levels.specs.Trees.{has_level}
-use Rattle.budb_changes.specs.declared.change.Change.{Change}
 use Rattle.budb_changes.specs.declared.change.Change.TheVariants.{AddSet, DelSet, AddEntry, DelEntry, AddLevel, SetExpiry, DelLevel, AddHost, DelHost}
 use Rattle.budb_fold.specs.declared.database.HostPort.{HostPort}
 use Rattle.budb_fold.specs.declared.database.Database.{Database}

@@ -3,8 +3,7 @@ use Rattle.plant_effects.specs.Runs.{state_of}
 use Rattle.std.specs.Prelude.{Option, Some, None}
 use Rattle.plant_core.specs.declared.record.Kind.{Kind}
 use Rattle.plant_core.specs.declared.record.Kind.TheVariants.{Block, Mark, Bad}
-use Rattle.plant_core.specs.Records.{Record, block_with, mark, bad, Shows, ShowsFirst}
-use Rattle.tape_frames.specs.declared.label.LabelFields.{LabelFields}
+use Rattle.plant_core.specs.Records.{Record, block_with, mark, bad, ShowsFirst}
 use Rattle.backup_session.specs.Labels.{label_in, label_of}
 use Rattle.backup_session.proofs.labels.label_of.Goals as goal
 

@@ -1,4 +1,4 @@
-use Rattle.std.proofs.Common.{sym, ◌∙◌, ap, subst, ◌≡◌, List, Some, take}
+use Rattle.std.proofs.Common.{sym, ◌∙◌, ap, List}
 use Rattle.cell_core.specs.declared.stored.Stored.{Stored}
 use Rattle.cell_core.specs.Calls.{entry_at}
 use Rattle.backup_session.proofs.Entries.{time_more}

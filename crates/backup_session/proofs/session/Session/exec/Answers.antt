@@ -1,4 +1,4 @@
-use Rattle.std.proofs.Common.{◌≡◌, ℕ, sym, ◌∙◌, ap, subst, arith, IfOk}
+use Rattle.std.proofs.Common.{◌≡◌, sym, ◌∙◌, ap, subst, arith, IfOk}
 use Rattle.std.specs.Prelude.{min, max}
 use Rattle.plant_effects.specs.Runs.{Leaves}
 use Rattle.plant_effects.proofs.Joining.{nothing_left}
@@ -6,7 +6,7 @@ use Rattle.backup_replies.specs.declared.refusals.Refusal.TheVariants.{NoSuchCom
 use Rattle.backup_replies.specs.Texts.{refused_word}
 use Rattle.backup_session.specs.Asks.{first_word}
 use Rattle.backup_session.specs.Views.{SessionView}
-use Rattle.backup_session.specs.Worlds.{World, Turn, at_moment}
+use Rattle.backup_session.specs.Worlds.{Turn, at_moment}
 use Rattle.backup_session.specs.Machine.{on_plant, turn}
 use Rattle.backup_session.specs.Fitting.{Turned, OnTheWay}
 use Rattle.backup_session.proofs.Carrying.{turn_unbuilt, turn_cell, turn_plant, plant_cells, fits_at, turned_by, turned_cell, cell_way, said_turned, in_ok}

@@ -1,7 +1,6 @@
 use Rattle.std.proofs.Common.{ℕ, List, sym, ◌∙◌, ap, subst}
 use Rattle.std.specs.Prelude.{Result}
 use Rattle.plant_effects.proofs.Joining.{nothing_left}
-use Rattle.budb_fold.specs.declared.database.Database.{Database}
 use Rattle.budb_fold.specs.Database.{after}
 use Rattle.backup_session.specs.Views.{SessionView}
 use Rattle.backup_session.specs.Tapes.{slot_of, read_turn}
