@@ -21,4 +21,6 @@ pub use top::run;
 #[cfg(test)]
 mod edge_tests;
 #[cfg(test)]
+mod script_tests;
+#[cfg(test)]
 mod tests;
