@@ -30,7 +30,7 @@ const MOMENT: u64 = 1_000_000;
 
 /// The words after the program's name; none where some word is not text. The toolchain names no words of an environment, so
 /// that no clause can say which they are: the tests over fakes do.
-fn words_of<R: Env + AllocGlobal>(rt: &R) -> Result<Vec<String>, AllocError> {
+pub fn words_of<R: Env + AllocGlobal>(rt: &R) -> Result<Vec<String>, AllocError> {
     let mut words = Vec::new(rt.alloc());
     let args = match env::args(rt) {
         Ok(args) => args,
@@ -55,7 +55,7 @@ fn print_told<O: Write>(output: &mut O, told: &[u8], status: Status) -> Status
 }
 
 /// Prints the line of a status that nothing told. Where it can't be printed the exit status alone says it.
-fn explain<E: Write>(errors: &mut E, status: Status) -> io::Result<()>
+pub fn explain<E: Write>(errors: &mut E, status: Status) -> io::Result<()>
     ensures quiet { line_of_status status ≡ None → errors.new ≡ errors.old }
     ensures line { OnOk result (MatchOption (line_of_status status) (Keeps (E.contents errors.old) (E.contents errors.new)) (λ text. Appends (E.contents errors.old) (E.contents errors.new) text)) }
 {

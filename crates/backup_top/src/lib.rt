@@ -14,9 +14,10 @@ mod telling;
 mod top;
 mod words;
 
-pub use edge::program;
+pub use edge::{explain, program, words_of};
 pub use status::Status;
 pub use top::run;
+pub use words::{Asked, asked_by};
 
 #[cfg(test)]
 mod edge_tests;
