@@ -99,6 +99,13 @@ impl Links {
         Ok(())
     }
 
+    /// How many more records have room.
+    pub fn spare_records(&self) -> usize
+        ensures { result ≡ self.now.spare_records }
+    {
+        self.free.len()
+    }
+
     /// Puts a record behind all others. It takes no memory.
     pub fn insert<L: Ledger>(&mut self, dump: DumpRecord, steps: &mut Steps<L>)
         requires room { 0 < self.old.spare_records }
