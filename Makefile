@@ -4,9 +4,11 @@ SAMPLE := examples/one-file.dump
 
 .PHONY: demo test try bench edge-tests
 
-# Proves and builds the program, and examines a sample stream.
+# Proves and builds the program, examines a sample stream, and runs a sample script in a folder of its own.
 demo: afsbackup
 	./afsbackup examine < $(SAMPLE)
+	rm -rf out/demo && mkdir -p out/demo/media && touch out/demo/media/slot0 && echo "slots:0-0 0" > out/demo/tapeconfig
+	cd out/demo && ../../afsbackup run < ../../examples/first.script
 
 # Leaves the proved program as ./afsbackup.
 afsbackup: $(wildcard crates/*/src/*.rt crates/*/specs/*.antt) crates.txt
