@@ -8,3 +8,6 @@ mod steps;
 
 pub use links::Links;
 pub use steps::Steps;
+
+#[cfg(test)]
+mod tests;

@@ -1,6 +1,6 @@
 //! The records of dumps, linked by index: all of them in the order of recording, and those of each bucket of ids.
 
-ghost use Rattle.std.specs.Prelude.{◌≡◌, ◌≢◌, ℕ, ◌+◌, ◌%◌, ◌^◌, ◌<◌, ◌≤◌, [], ◌∷◌, ◌++◌, length, slice_get, Some, None, OnOk, OnErr, is_some, if◌then◌else◌, vec_len, vec_capacity};
+ghost use Rattle.std.specs.Prelude.{◌≡◌, ◌≢◌, ℕ, ◌+◌, ◌%◌, ◌^◌, ◌<◌, ◌≤◌, [], ◌∷◌, ◌++◌, length, slice_get, Some, None, OnOk, OnErr, IsOk, is_some, if◌then◌else◌, vec_len, vec_capacity};
 ghost use Rattle.std.specs.Option.{option_copied};
 ghost use Rattle.budb_links.specs.Entries.{entry_at, listed, places, record_of, record_at, without_id, of_bucket};
 
@@ -84,6 +84,7 @@ impl Links {
         ensures ok { OnOk result (records ≤ self.new.spare_records) }
         ensures kept { self.old.spare_records ≤ self.new.spare_records }
         ensures err { OnErr result (self.new ≡ self.old) }
+        ensures enough { records ≤ self.old.spare_records → IsOk result }
     {
         let spare = self.free.len();
         if records <= spare {
