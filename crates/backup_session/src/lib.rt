@@ -20,6 +20,3 @@ pub use reply::Reply;
 pub use session::Session;
 pub use stops::{OpenStop, Stop};
 pub use verdict::Verdict;
-
-#[cfg(test)]
-mod tests;
