@@ -75,7 +75,7 @@ closed_stands items s p there =
 
 -- ---- a part more
 
-Linked_push : {X : Type 0} (Next : X → X → Type 0) (xs : List X) (x : X) → Linked Next xs → ((before : List X) (y : X) → xs ≡ before ++ y ∷ [] → Next y x) → Linked Next (xs ++ x ∷ [])
+pub Linked_push : {X : Type 0} (Next : X → X → Type 0) (xs : List X) (x : X) → Linked Next xs → ((before : List X) (y : X) → xs ≡ before ++ y ∷ [] → Next y x) → Linked Next (xs ++ x ∷ [])
 Linked_push Next [] x linked next = tt
 Linked_push Next (y ∷ []) x linked next = (next [] y refl, tt)
 Linked_push Next (y ∷ z ∷ xs) x linked next = (linked.0, Linked_push Next (z ∷ xs) x linked.1 (λ before w same. next (y ∷ before) w (ap (λ t. y ∷ t) same)))

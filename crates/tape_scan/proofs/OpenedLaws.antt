@@ -125,7 +125,7 @@ opened_text items o = elim o.part [
 ]
 
 -- a label that fits makes a tape without parts
-label_tape : (l : LabelFields) → IsFitItem (Says (frames.Label l)) → IsTape (record { label = l; parts = [] })
+pub label_tape : (l : LabelFields) → IsFitItem (Says (frames.Label l)) → IsTape (record { label = l; parts = [] })
 label_tape l fit = record {
   fit = All-cons IsFitItem (Says (frames.Label l)) (Filemark ∷ []) fit (All-cons IsFitItem Filemark [] tt (All-nil IsFitItem));
   none = λ zero_label. refl;

@@ -1,3 +1,9 @@
 pub mod Scans
+pub mod Sections
 pub mod Slots
+pub mod Steps
 pub mod Scanned
+pub mod AssembledSteps
+pub mod AssembledPaths
+pub mod AssembledRecords
+pub mod Assembled

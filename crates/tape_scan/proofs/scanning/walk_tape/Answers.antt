@@ -1,0 +1,68 @@
+use Rattle.std.proofs.Common.{◌≡◌, ◌+◌, ◌≤◌, ℕ, List, [], length, take, sym, ◌∙◌, subst, arith}
+use Rattle.plant_core.specs.Records.{Record}
+use Rattle.plant_effects.specs.Runs.{state_of}
+use Rattle.plant_effects.proofs.Joining.{numbers_both, done_both, leaves_both, quiet_both}
+use Rattle.tape_scan.specs.declared.scanning_walk.Walk.{Walk}
+use Rattle.tape_scan.specs.declared.scanning_walk.Walk.TheVariants as walks
+use Rattle.tape_scan.specs.Steps.{item_of, ReadsAt, marks_in, Walks, Walked}
+use Rattle.tape_scan.proofs.ScanningLaws.{marks_after, taken_more, stopped, ended}
+use Rattle.tape_scan.proofs.scanning.walk_tape.Goals as goal
+
+pub returns-in_err-item-clause-leaves : goal.returns-in_err-item-clause-leaves
+returns-in_err-item-clause-leaves g c =
+    let so_far = c.loop-place.invariant in
+    leaves_both g.P.Plant [] [] c.args.plant.now c.loop-place.plant c.read_item.new.plant so_far.done so_far.leaves c.read_item.ensures.leaves
+
+pub returns-in_err-longer-clause-leaves : goal.returns-in_err-longer-clause-leaves
+returns-in_err-longer-clause-leaves g c =
+    let so_far = c.loop-place.invariant in
+    leaves_both g.P.Plant [] [] c.args.plant.now c.loop-place.plant c.read_item.new.plant so_far.done so_far.leaves c.read_item.ensures.leaves
+
+pub returns-in-Stopped-clause-leaves : goal.returns-in-Stopped-clause-leaves
+returns-in-Stopped-clause-leaves g c =
+    let so_far = c.loop-place.invariant in
+    leaves_both g.P.Plant [] [] c.args.plant.now c.loop-place.plant c.read_item.new.plant so_far.done so_far.leaves c.read_item.ensures.leaves
+
+pub returns-in-Stopped-clause-walked : goal.returns-in-Stopped-clause-walked
+returns-in-Stopped-clause-walked g c = λ told k items at read.
+    let P = g.P.Plant in
+    let so_far = c.loop-place.invariant in
+    let tape = (state_of P c.args.plant.now).tape k in
+    let item = item_of c.in_ok-item.item in
+    let there = subst (λ (rs : List Record). ReadsAt rs c.loop-place.place (item_of c.in_ok-item.item)) ((so_far.done.state told).tape k) (c.in_ok-item.ensures.item told k (so_far.numbers.tape.loaded ∙ at)) in
+    let step = rw c.in-Stopped.is at c.in_ok-longer.ensures.steps in
+    subst (λ (w : Walk). Walked items c.loop-place.place w) (sym step.1)
+    (stopped c.one_item.ensures tape items c.loop-place.place c.loop-place.walk item read there step.0 (so_far.taken told k items at read))
+
+pub loop-place-preserved : goal.loop-place-preserved
+loop-place-preserved g c =
+    let P = g.P.Plant in
+    let so_far = c.loop-place.invariant in
+    let e = c.in_ok-item.ensures in
+    let old = c.args.plant.now in
+    let mid = c.loop-place.plant in
+    let new = c.read_item.new.plant in
+    let item = item_of c.in_ok-item.item in
+    let step = rw c.in-Taken.is at c.in_ok-longer.ensures.steps in
+    record {
+      taken = λ told k items at read.
+          let there = subst (λ (rs : List Record). ReadsAt rs c.loop-place.place (item_of c.in_ok-item.item)) ((so_far.done.state told).tape k) (e.item told k (so_far.numbers.tape.loaded ∙ at)) in
+          subst (λ (w : Walk). Walks walks.Nothing 0 (take (c.loop-place.place + 1) items) w) (sym step.1)
+          (taken_more c.one_item.ensures ((state_of P old).tape k) items c.loop-place.place c.loop-place.walk item read there step.0 (so_far.taken told k items at read));
+      marks = subst (λ (w : Walk). marks_in w ≤ c.loop-place.place + 1) (sym step.1) (marks_after c.loop-place.place c.loop-place.walk item step.0 so_far.marks);
+      done = done_both P [] [] old mid new so_far.done e.done;
+      leaves = leaves_both P [] [] old mid new so_far.done so_far.leaves c.read_item.ensures.leaves;
+      numbers = numbers_both P old mid new so_far.numbers e.numbers;
+      stays = quiet_both P old mid new so_far.stays e.stays;
+      faults = e.cause.stays (λ failed. absurd (cc)) ∙ so_far.faults;
+    }
+
+pub returns-clause-walked : goal.returns-clause-walked
+returns-clause-walked g c = λ told k items at read.
+    let P = g.P.Plant in
+    let so_far = c.loop-place.invariant in
+    let old = c.args.plant.now in
+    let tape = (state_of P old).tape k in
+    let end : c.tape_len-count.result ≡ length tape = omega (arith, c.tape_len-count.ensures, g.met.P.Plant.records_told old k told c.requires.sound at) in
+    let place : c.loop-place.place ≡ c.tape_len-count.result = omega (arith, c.loop-place-test.false, c.loop-place.auto.place-end) in
+    ended tape items c.tape_len-count.result c.loop-place.walk read end (subst (λ (n : ℕ). Walks walks.Nothing 0 (take n items) c.loop-place.walk) place (so_far.taken told k items at read))
