@@ -1,0 +1,9 @@
+pub mod LastLaws
+pub mod Loadings
+pub mod ParentLaws
+pub mod PlaceLaws
+pub mod ReadLaws
+pub mod Scenes
+pub mod SlotLaws
+pub mod SurveyLaws
+pub mod Tries

@@ -1,0 +1,9 @@
+use Rattle.std.proofs.Common.{◌≡◌, drop}
+use Rattle.std.specs.List.{filter}
+use Rattle.budb_fold.specs.Lookups.{greatest_id}
+use Rattle.tape_choice.specs.Append.{lies_on}
+use Rattle.tape_choice.specs.Surveys.{joined}
+use Rattle.tape_choice.proofs.lasts.greatest_on.Given as goal
+
+abbrev pub invariant-loop-dump : goal.invariant-loop-dump
+invariant-loop-dump l = joined l.greatest (greatest_id (filter (lies_on l.fn.initial l.fn.tape) (drop l.dump-index l.listed))) ≡ greatest_id (filter (lies_on l.fn.initial l.fn.tape) l.listed)

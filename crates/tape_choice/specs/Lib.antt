@@ -1,0 +1,8 @@
+pub mod Scene
+pub mod Reads
+pub mod Choice
+pub mod Firsts
+pub mod Parents
+pub mod Loading
+pub mod Append
+pub mod Surveys
