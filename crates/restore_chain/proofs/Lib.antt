@@ -1,0 +1,14 @@
+pub mod Looking
+pub mod RecordLaws
+pub mod PieceLaws
+pub mod JoinLaws
+pub mod FragmentLaws
+pub mod Items
+pub mod LeastSlots
+pub mod ChainNeeds
+pub mod LocatedLaws
+pub mod PlanLaws
+pub mod OneAnswer
+pub mod PlanSteps
+pub mod VolumeLaws
+pub mod LoadLaws

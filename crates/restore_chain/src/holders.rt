@@ -1,0 +1,167 @@
+//! The slots that hold the tapes of recorded dumps.
+
+ghost use Rattle.std.specs.Prelude.{◌≡◌, ◌&&◌, List as AnyList, slice_get, IfOk, IsTrue};
+ghost use Rattle.std.specs.Option.{option_copied};
+ghost use Rattle.plant_effects.specs.Runs.{state_of};
+ghost use Rattle.tape_text.specs.Items.{Item, Read};
+ghost use Rattle.tape_scan.specs.Slots.{Slot};
+ghost use Rattle.archive_model.specs.Holding.{place_of, is_label_frame, is_head_frame, is_so, holds, holder_here};
+ghost use Rattle.restore_chain.specs.Loading.{IsSlot, HasSlots, LooksAt};
+ghost use Rattle.restore_chain.specs.Planning.{is_frame, number_of};
+
+use crate::fault::LookFault;
+use crate::reading::{first_frame, frame_at};
+use budb_changes::{DumpRecord, TapePart};
+use plant_core::Plant;
+use plant_effects::load_tape;
+use std::alloc::Global;
+use tape_frames::Frame;
+
+/// What a record names for a tape; of several places for one tape the first counts.
+fn place_of(dump: &DumpRecord, tape: u32) -> Option<&TapePart>
+    ensures { option_copied result ≡ place_of dump.now tape }
+{
+    dump.fields()
+        .tapes
+        .as_slice()
+        .iter()
+        .find(|part| part.tape == tape)
+}
+
+/// Whether a frame is the label of a dump set's tape.
+fn is_label(frame: Option<Frame>, initial: u32, tape: u32) -> bool
+    ensures { result ≡ is_frame (is_label_frame initial tape) frame }
+{
+    match frame {
+        None => false,
+        Some(Frame::Label(label)) => {
+            label.fields().initial == initial && label.fields().tape == tape
+        }
+        Some(Frame::DumpHead(_)) => false,
+        Some(Frame::VolHead(_)) => false,
+        Some(Frame::Data(_)) => false,
+        Some(Frame::VolEnd(_)) => false,
+        Some(Frame::DumpEnd(_)) => false,
+    }
+}
+
+/// Whether a frame is the head of a dump on a tape.
+fn is_head(frame: Option<Frame>, id: u32, tape: u32) -> bool
+    ensures { result ≡ is_frame (is_head_frame id tape) frame }
+{
+    match frame {
+        None => false,
+        Some(Frame::Label(_)) => false,
+        Some(Frame::DumpHead(head)) => head.fields().id == id && head.fields().tape == tape,
+        Some(Frame::VolHead(_)) => false,
+        Some(Frame::Data(_)) => false,
+        Some(Frame::VolEnd(_)) => false,
+        Some(Frame::DumpEnd(_)) => false,
+    }
+}
+
+/// Whether the tape in a slot that is here has the head of a dump at a record. The tape is loaded.
+fn has_head<P: Plant>(
+    alloc: Global,
+    plant: &mut P,
+    slot: u32,
+    place: u32,
+    id: u32,
+    tape: u32,
+) -> Result<bool, LookFault>
+    requires sound { P.sound plant.old }
+    requires here { IsTrue ((P.view plant.old).present slot) }
+    ensures is { P.tells → (items : AnyList Item) → Read ((state_of P.Plant plant.old).tape slot) items → IfOk result (λ is. is ≡ is_so (is_head_frame id tape) (slice_get items place)) }
+    ensures looks { LooksAt P.Plant LookFault.Failed plant.old plant.new result }
+{
+    match load_tape(plant, slot) {
+        Ok(()) => {}
+        Err(_) => return Err(LookFault::Failed),
+    }
+    match frame_at(alloc, plant, place) {
+        Ok(frame) => Ok(is_head(frame, id, tape)),
+        Err(fault) => Err(fault),
+    }
+}
+
+/// Whether the tape in a slot that is here has the label of a dump set's tape. The loaded tape stays.
+fn has_label<P: Plant>(
+    alloc: Global,
+    plant: &mut P,
+    slot: u32,
+    initial: u32,
+    tape: u32,
+) -> Result<bool, LookFault>
+    requires sound { P.sound plant.old }
+    requires here { IsTrue ((P.view plant.old).present slot) }
+    ensures is { P.tells → (items : AnyList Item) → Read ((state_of P.Plant plant.old).tape slot) items → IfOk result (λ is. is ≡ is_so (is_label_frame initial tape) (slice_get items 0)) }
+    ensures looks { LooksAt P.Plant LookFault.Failed plant.old plant.new result }
+{
+    match first_frame(alloc, plant, slot) {
+        Ok(frame) => Ok(is_label(frame, initial, tape)),
+        Err(fault) => Err(fault),
+    }
+}
+
+/// Whether a slot that is here holds a tape of a record: its label is that of the tape, and at the record that the database
+/// names it has the head of the dump. Only a tape with that label is loaded.
+fn holds_here<P: Plant>(
+    alloc: Global,
+    plant: &mut P,
+    dump: &DumpRecord,
+    tape: u32,
+    slot: u32,
+) -> Result<bool, LookFault>
+    requires sound { P.sound plant.old }
+    requires here { IsTrue ((P.view plant.old).present slot) }
+    ensures is { P.tells → (items : AnyList Item) → Read ((state_of P.Plant plant.old).tape slot) items → IfOk result (λ is. is ≡ holds dump.now tape items) }
+    ensures looks { LooksAt P.Plant LookFault.Failed plant.old plant.new result }
+{
+    let Some(part) = place_of(dump, tape) else {
+        return Ok(false);
+    };
+    match has_label(alloc, plant, slot, dump.fields().initial, tape) {
+        Ok(true) => has_head(alloc, plant, slot, part.first, dump.fields().id, tape),
+        Ok(false) => Ok(false),
+        Err(fault) => Err(fault),
+    }
+}
+
+/// Whether a slot is here and holds a tape of a record.
+fn is_holder<P: Plant>(
+    alloc: Global,
+    plant: &mut P,
+    dump: &DumpRecord,
+    tape: u32,
+    slot: u32,
+) -> Result<bool, LookFault>
+    requires sound { P.sound plant.old }
+    ensures is { P.tells → (s : Slot) → IsSlot P.Plant plant.old slot s → IfOk result (λ is. is ≡ (s.here && holds dump.now tape s.items)) }
+    ensures looks { LooksAt P.Plant LookFault.Failed plant.old plant.new result }
+{
+    if !plant.here(slot) {
+        return Ok(false);
+    }
+    holds_here(alloc, plant, dump, tape, slot)
+}
+
+/// The least slot here that holds a tape of a record. The slots are asked in ascending order.
+pub(crate) fn holder_of<P: Plant>(
+    alloc: Global,
+    plant: &mut P,
+    dump: &DumpRecord,
+    tape: u32,
+) -> Result<Option<u32>, LookFault>
+    requires { P.sound plant.old }
+    ensures holder { P.tells → (slots : AnyList Slot) → HasSlots P.Plant slots plant.old → IfOk result (λ slot. slot ≡ number_of (holder_here dump.now tape slots)) }
+    ensures looks { LooksAt P.Plant LookFault.Failed plant.old plant.new result }
+{
+    for slot in 0..plant.slots() {
+        match is_holder(alloc, plant, dump, tape, slot) {
+            Ok(true) => return Ok(Some(slot)),
+            Ok(false) => {}
+            Err(fault) => return Err(fault),
+        }
+    }
+    Ok(None)
+}

@@ -1,0 +1,39 @@
+//! What plans are to archives, as contracts of functions without a body.
+
+ghost use Rattle.std.specs.Prelude.{◌≡◌, ℕ, List as AnyList, Option as AnyOption, Result as AnyResult, map, Some, Ok, Err};
+ghost use Rattle.plant_core.specs.Crashes.{State};
+ghost use Rattle.plant_core.specs.Effects.{come, settles};
+ghost use Rattle.budb_changes.specs.declared.records.DumpRecordFields.{DumpRecordFields as AnyDump};
+ghost use Rattle.budb_fold.specs.Chains.{HaveParentsBelow};
+ghost use Rattle.tape_scan.specs.Slots.{Slot};
+ghost use Rattle.archive_model.specs.Archives.{Archive, Refusal, listed_of, LooksUp};
+ghost use Rattle.restore_chain.specs.declared.chain_plan.ChainPlan.{ChainPlan as AnyPlan};
+ghost use Rattle.restore_chain.specs.declared.fault.RestoreFault.{RestoreFault as AnyFault};
+ghost use Rattle.restore_chain.specs.Planning.{Plans, IsDecided, refusal_of, LeadsTo};
+
+/// A plan is refused as the look-up of its archive is, whatever archive has that log and those slots: where no dump is listed,
+/// where a dump of the chain is missing, and where a tape is.
+pub fn a_refused_plan_is_a_refused_look_up()
+    ensures { (a : Archive) (name : AnyList ℕ) (before : AnyOption ℕ) (fault : AnyFault) (refusal : Refusal)
+        → refusal_of fault ≡ Some refusal → Plans a.slots (listed_of a) name before (Err fault) → LooksUp a name before (Err refusal) }
+{}
+
+/// Where there is a plan the look-up gives the contents of the latest dump, whatever they are.
+pub fn a_plan_leads_to_the_contents()
+    ensures { (a : Archive) (name : AnyList ℕ) (before : AnyOption ℕ) (plan : AnyPlan) → Plans a.slots (listed_of a) name before (Ok plan) → LeadsTo a name before plan }
+{}
+
+/// Where each parent lies below its dump, as in the database of every log, a plan has one answer, unless the outside refuses or
+/// memory runs out: so each answer comes exactly where its cause stands.
+pub fn a_plan_has_one_answer()
+    ensures { (slots : AnyList Slot) (listed : AnyList AnyDump) (name : AnyList ℕ) (before : AnyOption ℕ) (x y : AnyResult AnyPlan AnyFault)
+        → HaveParentsBelow listed → IsDecided x → IsDecided y → Plans slots listed name before x → Plans slots listed name before y → x ≡ y }
+{}
+
+/// A tape that is put away keeps its records, and the log and what was told stand: so what a plan does changes nothing of what
+/// is read.
+pub fn what_is_put_away_is_read_as_before()
+    ensures tapes { (away : AnyList ℕ) (s : State) → (come (map settles away) s).tape ≡ s.tape }
+    ensures log { (away : AnyList ℕ) (s : State) → (come (map settles away) s).log ≡ s.log }
+    ensures told { (away : AnyList ℕ) (s : State) → (come (map settles away) s).told ≡ s.told }
+{}

@@ -1,0 +1,25 @@
+//! A restore of one volume from the tapes of a chain of dumps: first the plan, which dumps and which tapes, then the playing.
+#![tactic(auto)]
+
+mod chain_plan;
+mod fault;
+mod holders;
+mod laws;
+mod needs;
+mod planning;
+mod play_apply;
+mod play_called;
+mod play_fragment;
+mod play_joined;
+mod play_judge;
+mod play_read;
+mod play_volume;
+mod reading;
+
+pub use chain_plan::{ChainPlan, TapeNeed};
+pub use fault::RestoreFault;
+pub use laws::{
+    a_plan_has_one_answer, a_plan_leads_to_the_contents, a_refused_plan_is_a_refused_look_up,
+    what_is_put_away_is_read_as_before,
+};
+pub use planning::plan;
