@@ -1,0 +1,5 @@
+pub mod Reels
+pub mod Volumes
+pub mod Cloning
+pub mod Taping
+pub mod Ending
