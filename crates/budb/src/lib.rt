@@ -1,15 +1,20 @@
 //! The Backup Database on the journal of a plant: opened from the log, changed by commits that take all memory before they
-//! write, and looked up.
+//! write, looked up, and made short by checkpoints.
 #![tactic(auto)]
 
 mod appending;
+mod checkpoints;
 mod database;
 mod fault;
+mod histories;
+mod laws;
 mod prepared;
 
 pub use budb_journal::HostPort;
 pub use database::Budb;
 pub use fault::{BudbFault, CommitFault, PreparedFault};
+pub use histories::descending;
+pub use laws::{checkpoint_has_bytes, listed_dumps_are_records};
 
 #[cfg(test)]
 mod tests;

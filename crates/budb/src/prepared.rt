@@ -18,7 +18,7 @@ pub(crate) struct Prepared {
 }
 
 /// The bytes of changes.
-fn bytes_of(alloc: Global, changes: &[Change]) -> Result<Bytes, AllocError>
+pub(crate) fn bytes_of(alloc: Global, changes: &[Change]) -> Result<Bytes, AllocError>
     ensures bytes { IfOk result (λ bytes. bytes ≡ encoded changes.now) }
     ensures form { IfOk result (λ bytes. AreChanges changes.now) }
 {
