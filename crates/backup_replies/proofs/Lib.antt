@@ -1,1 +1,2 @@
 pub mod SetLines
+pub mod LastElements

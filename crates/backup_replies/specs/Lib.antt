@@ -4,6 +4,7 @@ pub mod Streams
 pub mod Levels
 pub mod Volumes
 pub mod Labels
+pub mod Dumps
 pub mod Sets
 pub mod Hosts
 pub mod WordRefusals

@@ -8,7 +8,8 @@ use crate::putting::{put_number, put_ok, put_word};
 use bk_text::{Bytes, Out};
 use std::alloc::{AllocError, Global};
 
-fn put_name(line: &mut Out, name: &[u8]) -> Result<(), AllocError>
+/// A name, or `-` where there is none, behind a space.
+pub(crate) fn put_name(line: &mut Out, name: &[u8]) -> Result<(), AllocError>
     ensures { OnOk result (line.new ≡ line.old ++ then_word (name_or_dash name.now)) }
 {
     if name.is_empty() {

@@ -2,6 +2,8 @@
 //! command.
 #![tactic(auto)]
 
+mod dump_lists;
+mod dumps;
 mod faults;
 mod hosts;
 mod labels;
@@ -14,6 +16,8 @@ mod streams;
 mod told;
 mod volumes;
 
+pub use dump_lists::{deleted_lines, dumps_lines, history_lines};
+pub use dumps::whole_dump_lines;
 pub use faults::fault_line;
 pub use hosts::hosts_lines;
 pub use labels::{label_lines, labeled_lines};

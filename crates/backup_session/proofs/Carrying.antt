@@ -10,13 +10,14 @@ use Rattle.plant_effects.proofs.Joining.{Fits as FitsImages, nothing_done, nothi
 use Rattle.budb_changes.specs.declared.change.Change.{Change}
 use Rattle.budb_changes.specs.Bytes.{encoded}
 use Rattle.budb_fold.specs.Database.{after}
+use Rattle.budb_fold.specs.Checkpoints.{checkpoint}
 use Rattle.cell_core.specs.declared.cell.Cell.{Ghosts as Cell}
 use Rattle.cell_core.specs.declared.stored.Stored.{Stored}
 use Rattle.backup_words.specs.declared.command.Command.{Command}
 use Rattle.backup_replies.specs.declared.refusals.Refusal.TheVariants.{NoSuchCommand, LogFull}
 use Rattle.backup_replies.specs.Texts.{refused_word, refused_number}
 use Rattle.backup_session.specs.declared.verdict.Verdict.{Verdict}
-use Rattle.backup_session.specs.declared.verdict.Verdict.TheVariants.{Refuses, Makes, Shows}
+use Rattle.backup_session.specs.declared.verdict.Verdict.TheVariants.{Refuses, Makes, Shortens, Shows}
 use Rattle.backup_session.specs.Views.{SessionView, ReplyView}
 use Rattle.backup_session.specs.Worlds.{World, Turn, at_moment, last_cell}
 use Rattle.backup_session.specs.Asks.{asks_cell, asks_tape, is_built, first_word}
@@ -27,28 +28,28 @@ use Rattle.tape_frames.specs.declared.label.LabelFields.{LabelFields}
 use Rattle.backup_words.specs.declared.command.Command.TheVariants.{Labeltape, Readlabel}
 use Rattle.backup_session.specs.Labels.{label_of}
 use Rattle.backup_session.specs.Tapes.{slot_of, new_label, taken, labeled, label_turn, read_turn, tape_turn}
-use Rattle.backup_session.specs.Machine.{committed, carried, on_cell, on_plant, done, turn}
+use Rattle.backup_session.specs.Machine.{committed, replaced, carried, on_cell, on_plant, done, turn}
 use Rattle.backup_session.specs.Fitting.{Fits, Turned, OnTheWay, FitsPlant, TurnedPlant}
 
-full_true : (a b : ℕ) → a < b → nat_lt a b ≡ true
+pub full_true : (a b : ℕ) → a < b → nat_lt a b ≡ true
 full_true a b lt = grind (arith, nat_tests)
 
-room_false : (a b : ℕ) → b ≤ a → nat_lt a b ≡ false
+pub room_false : (a b : ℕ) → b ≤ a → nat_lt a b ≡ false
 room_false a b le = grind (arith, nat_tests)
 
-choice : World → List Change → Bool → Turn
-choice w changes b = if b then said w (refused_number LogFull (length_with w changes)) else committed w changes
+choice : World → List Change → List ℕ → Bool → Turn
+choice w changes text b = if b then said w (refused_number LogFull (length_with w changes)) else committed w changes text
 
 -- whatever came of a commit
-pub made_leaves : {D : Type 0} (P : Plant D) (w : World) (changes : List Change) (old new : D) (session : SessionView) → FitsPlant P w old session → (P.view old).log_size ≡ length (state_of P old).log → FitsImages P old
-    → (268435456 < (P.view old).log_size + length (encoded changes) → new ≡ old) → Leaves P (commits (encoded changes) ∷ []) old new → Leaves P (carried w (Makes changes)).effects old new
+pub made_leaves : {D : Type 0} (P : Plant D) (w : World) (changes : List Change) (text : List ℕ) (old new : D) (session : SessionView) → FitsPlant P w old session → (P.view old).log_size ≡ length (state_of P old).log → FitsImages P old
+    → (268435456 < (P.view old).log_size + length (encoded changes) → new ≡ old) → Leaves P (commits (encoded changes) ∷ []) old new → Leaves P (carried w (Makes changes text)).effects old new
 unfolding choice
-made_leaves P w changes old new session fits size images over leaves =
+made_leaves P w changes text old new session fits size images over leaves =
     let is : (P.view old).log_size ≡ length (encoded w.log) = size ∙ ap length (fits.state.log ∙ fits.keeps.is) in
     ⊎_elim
-    (λ (full : 268435456 < length_with w changes). subst (λ (b : Bool). Leaves P (choice w changes b).effects old new) (sym (full_true 268435456 (length_with w changes) full))
+    (λ (full : 268435456 < length_with w changes). subst (λ (b : Bool). Leaves P (choice w changes text b).effects old new) (sym (full_true 268435456 (length_with w changes) full))
     (subst (λ s. Leaves P [] old s) (sym (over (omega (arith, is, full)))) (nothing_left P [] old images)))
-    (λ (room : length_with w changes ≤ 268435456). subst (λ (b : Bool). Leaves P (choice w changes b).effects old new) (sym (room_false 268435456 (length_with w changes) room)) leaves)
+    (λ (room : length_with w changes ≤ 268435456). subst (λ (b : Bool). Leaves P (choice w changes text b).effects old new) (sym (room_false 268435456 (length_with w changes) room)) leaves)
     (cases_lt 268435456 (length_with w changes))
 
 -- ---- what a turn is
@@ -73,9 +74,14 @@ turn_plant w now command built is = turn_done w now command built
 pub carried_cells : (w : World) (v : Verdict) → (carried w v).cells ≡ []
 carried_cells w (Refuses text) = refl
 carried_cells w (Shows text) = refl
-carried_cells w (Makes changes) = go (nat_lt 268435456 (length_with w changes))
+carried_cells w (Makes changes text) = go (nat_lt 268435456 (length_with w changes))
   where
-    go : (b : Bool) → (if b then said w (refused_number LogFull (length_with w changes)) else committed w changes).cells ≡ []
+    go : (b : Bool) → (if b then said w (refused_number LogFull (length_with w changes)) else committed w changes text).cells ≡ []
+    go true = refl
+    go false = refl
+carried_cells w Shortens = go (nat_lt 268435456 (length (encoded (checkpoint (after w.log)))))
+  where
+    go : (b : Bool) → (if b then said w (refused_number LogFull (length (encoded (checkpoint (after w.log))))) else replaced w (checkpoint (after w.log))).cells ≡ []
     go true = refl
     go false = refl
 

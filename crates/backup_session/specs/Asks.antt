@@ -17,7 +17,18 @@ asks_database Listdumps = true
 asks_database Listhosts = true
 asks_database (Addhost tapehost portoffset) = true
 asks_database (Delhost tapehost portoffset) = true
+asks_database (Deletedump dumpid) = true
+asks_database (Dumpinfo ndumps id) = true
+asks_database (Volinfo volume) = true
+asks_database Checkpoint = true
 asks_database command = false
+
+-- of these a command on dumps, which are looked up
+abbrev pub asks_dumps : Command → Bool
+asks_dumps (Deletedump dumpid) = true
+asks_dumps (Dumpinfo ndumps id) = true
+asks_dumps (Volinfo volume) = true
+asks_dumps command = false
 
 -- a command on the cell
 abbrev pub asks_cell : Command → Bool

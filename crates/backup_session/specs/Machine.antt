@@ -1,14 +1,15 @@
 -- THE MACHINE: what a command makes of a world.
-use Rattle.std.specs.Prelude.{ℕ, List, [], ◌∷◌, ◌++◌, nat_lt, if◌then◌else◌}
-use Rattle.plant_core.specs.Effects.{commits}
+use Rattle.std.specs.Prelude.{ℕ, List, [], ◌∷◌, ◌++◌, length, nat_lt, if◌then◌else◌}
+use Rattle.plant_core.specs.Effects.{commits, replaces}
 use Rattle.budb_changes.specs.declared.change.Change.{Change}
 use Rattle.budb_changes.specs.Bytes.{encoded}
 use Rattle.budb_fold.specs.Database.{after}
+use Rattle.budb_fold.specs.Checkpoints.{checkpoint}
 use Rattle.backup_words.specs.declared.command.Command.{Command}
 use Rattle.backup_replies.specs.declared.refusals.Refusal.TheVariants.{NoSuchCommand, LogFull}
 use Rattle.backup_replies.specs.Texts.{refused_word, refused_number, ok_line}
 use Rattle.backup_session.specs.declared.verdict.Verdict.{Verdict}
-use Rattle.backup_session.specs.declared.verdict.Verdict.TheVariants.{Refuses, Makes, Shows}
+use Rattle.backup_session.specs.declared.verdict.Verdict.TheVariants.{Refuses, Makes, Shortens, Shows}
 use Rattle.backup_session.specs.Asks.{asks_cell, asks_tape, is_built, first_word}
 use Rattle.backup_session.specs.Cells.{CellAnswer, cell_answer}
 use Rattle.backup_session.specs.Verdicts.{verdict}
@@ -17,14 +18,23 @@ use Rattle.backup_session.specs.Turns.{said, length_with}
 use Rattle.backup_session.specs.Tapes.{tape_turn}
 
 -- changes are made by one commit
-abbrev pub committed : World → List Change → Turn
-committed w changes = record { effects = commits (encoded changes) ∷ []; reply = ok_line; log = w.log ++ changes; time = w.time; cells = []; loaded = w.loaded }
+abbrev pub committed : World → List Change → List ℕ → Turn
+committed w changes text = record { effects = commits (encoded changes) ∷ []; reply = text; log = w.log ++ changes; time = w.time; cells = []; loaded = w.loaded }
 
--- A verdict carried out: changes are one commit, where the log has room for them.
+-- these changes become the whole log, as one effect
+abbrev pub replaced : World → List Change → Turn
+replaced w changes = record { effects = replaces (encoded changes) ∷ []; reply = ok_line; log = changes; time = w.time; cells = []; loaded = w.loaded }
+
+-- where they have room
+abbrev pub shortened : World → List Change → Turn
+shortened w changes = if nat_lt 268435456 (length (encoded changes)) then said w (refused_number LogFull (length (encoded changes))) else replaced w changes
+
+-- A verdict carried out: changes are one commit, where the log has room for them. A log that is made short is the list of a checkpoint.
 abbrev pub carried : World → Verdict → Turn
 carried w (Refuses text) = said w text
 carried w (Shows text) = said w text
-carried w (Makes changes) = if nat_lt 268435456 (length_with w changes) then said w (refused_number LogFull (length_with w changes)) else committed w changes
+carried w (Makes changes text) = if nat_lt 268435456 (length_with w changes) then said w (refused_number LogFull (length_with w changes)) else committed w changes text
+carried w Shortens = shortened w (checkpoint (after w.log))
 
 -- What a command on the cell is answered: no effect on the plant.
 abbrev pub on_cell : World → CellAnswer → Turn

@@ -1,7 +1,7 @@
 //! Which commands have a body, and what each asks.
 
 ghost use Rattle.std.specs.Prelude.{◌≡◌};
-ghost use Rattle.backup_session.specs.Asks.{asks_database, asks_cell, asks_tape, is_built, first_word};
+ghost use Rattle.backup_session.specs.Asks.{asks_database, asks_dumps, asks_cell, asks_tape, is_built, first_word};
 
 use backup_words::Command;
 
@@ -20,16 +20,16 @@ fn asks_database(command: &Command) -> bool
         Command::Deldump { .. } => true,
         Command::Listdumps => true,
         Command::Listhosts => true,
-        Command::Checkpoint => false,
+        Command::Checkpoint => true,
         Command::Addhost { .. } => true,
         Command::Delhost { .. } => true,
         Command::Labeltape { .. } => false,
         Command::Readlabel { .. } => false,
         Command::Scantape { .. } => false,
         Command::Dump { .. } => false,
-        Command::Deletedump { .. } => false,
-        Command::Dumpinfo { .. } => false,
-        Command::Volinfo { .. } => false,
+        Command::Deletedump { .. } => true,
+        Command::Dumpinfo { .. } => true,
+        Command::Volinfo { .. } => true,
         Command::Volrestore { .. } => false,
         Command::Diskrestore { .. } => false,
         Command::Volsetrestore { .. } => false,
@@ -104,6 +104,43 @@ pub(crate) fn asks_tape(command: &Command) -> bool
         Command::Deletedump { .. } => false,
         Command::Dumpinfo { .. } => false,
         Command::Volinfo { .. } => false,
+        Command::Volrestore { .. } => false,
+        Command::Diskrestore { .. } => false,
+        Command::Volsetrestore { .. } => false,
+        Command::VosCreate { .. } => false,
+        Command::VosWrite { .. } => false,
+        Command::VosRmvnode { .. } => false,
+        Command::VosBackup { .. } => false,
+        Command::VosRemove { .. } => false,
+        Command::VosListvol => false,
+    }
+}
+
+/// Whether a command is one on dumps, which are looked up.
+pub(crate) fn asks_dumps(command: &Command) -> bool
+    ensures { result ≡ asks_dumps command.now }
+{
+    match command {
+        Command::Addvolset { .. } => false,
+        Command::Delvolset { .. } => false,
+        Command::Addvolentry { .. } => false,
+        Command::Delvolentry { .. } => false,
+        Command::Listvolsets { .. } => false,
+        Command::Adddump { .. } => false,
+        Command::Setexp { .. } => false,
+        Command::Deldump { .. } => false,
+        Command::Listdumps => false,
+        Command::Listhosts => false,
+        Command::Checkpoint => false,
+        Command::Addhost { .. } => false,
+        Command::Delhost { .. } => false,
+        Command::Labeltape { .. } => false,
+        Command::Readlabel { .. } => false,
+        Command::Scantape { .. } => false,
+        Command::Dump { .. } => false,
+        Command::Deletedump { .. } => true,
+        Command::Dumpinfo { .. } => true,
+        Command::Volinfo { .. } => true,
         Command::Volrestore { .. } => false,
         Command::Diskrestore { .. } => false,
         Command::Volsetrestore { .. } => false,

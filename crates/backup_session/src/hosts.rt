@@ -4,7 +4,7 @@ ghost use Rattle.std.specs.Prelude.{◌≡◌, [], ◌∷◌, IfOk, if◌then◌
 ghost use Rattle.budb_fold.specs.Database.{has_port};
 ghost use Rattle.budb_changes.specs.declared.change.Change.TheVariants as changes;
 ghost use Rattle.backup_replies.specs.declared.refusals.Refusal.TheVariants as refusals;
-ghost use Rattle.backup_replies.specs.Texts.{refused_number};
+ghost use Rattle.backup_replies.specs.Texts.{refused_number, ok_line};
 ghost use Rattle.backup_session.specs.Verdicts.{is_host_port, has_host_port};
 
 use crate::verdict::{Verdict, makes, refuses_number};
@@ -51,7 +51,7 @@ pub(crate) fn add_host(
     host: &Host,
     port: u16,
 ) -> Result<Verdict, AllocError>
-    ensures { IfOk result (λ v. v ≡ (if has_port hosts.now port then Verdict.Refuses (refused_number refusals.PortTaken port) else Verdict.Makes (changes.AddHost host.now port ∷ []))) }
+    ensures { IfOk result (λ v. v ≡ (if has_port hosts.now port then Verdict.Refuses (refused_number refusals.PortTaken port) else Verdict.Makes (changes.AddHost host.now port ∷ []) ok_line)) }
 {
     if any_at_port(hosts, port) {
         return refuses_number(alloc, Refusal::PortTaken, port as u64);
@@ -67,7 +67,7 @@ pub(crate) fn drop_host(
     host: &Host,
     port: u16,
 ) -> Result<Verdict, AllocError>
-    ensures { IfOk result (λ v. v ≡ (if has_host_port hosts.now host.now port then Verdict.Makes (changes.DelHost port ∷ []) else Verdict.Refuses (refused_number refusals.NoSuchPort port))) }
+    ensures { IfOk result (λ v. v ≡ (if has_host_port hosts.now host.now port then Verdict.Makes (changes.DelHost port ∷ []) ok_line else Verdict.Refuses (refused_number refusals.NoSuchPort port))) }
 {
     if !any_host_port(hosts, host, port) {
         return refuses_number(alloc, Refusal::NoSuchPort, port as u64);

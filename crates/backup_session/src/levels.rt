@@ -5,11 +5,11 @@ ghost use Rattle.dump_levels.specs.Elements.{path_above};
 ghost use Rattle.dump_levels.specs.Trees.{has_level};
 ghost use Rattle.budb_changes.specs.declared.change.Change.TheVariants as changes;
 ghost use Rattle.backup_replies.specs.declared.refusals.Refusal.TheVariants as refusals;
-ghost use Rattle.backup_replies.specs.Texts.{refused_word};
+ghost use Rattle.backup_replies.specs.Texts.{refused_word, ok_line};
 ghost use Rattle.backup_session.specs.Levels.{has_path, first_known, is_founded, first_unfounded, first_missing};
 ghost use Rattle.backup_session.specs.Verdicts.{levels_come, levels_expire};
 
-use crate::verdict::{Verdict, makes, refuses_word};
+use crate::verdict::{Verdict, makes, makes_all, refuses_word};
 use backup_replies::Refusal;
 use bk_text::{Expiry, LevelPath, List};
 use budb_journal::Change;
@@ -130,7 +130,7 @@ pub(crate) fn add_levels(
     if let Some(path) = first_unfounded(levels, paths)? {
         return refuses_word(alloc, Refusal::NoParentLevel, path.bytes());
     }
-    Ok(Verdict::Makes(levels_of(alloc, paths, expiry)?))
+    makes_all(alloc, levels_of(alloc, paths, expiry)?)
 }
 
 /// `setexp`.
@@ -145,7 +145,7 @@ pub(crate) fn set_expiries(
     if let Some(path) = first_missing(levels, paths) {
         return refuses_word(alloc, Refusal::NoSuchLevel, path.bytes());
     }
-    Ok(Verdict::Makes(expiries_of(alloc, paths, expiry)?))
+    makes_all(alloc, expiries_of(alloc, paths, expiry)?)
 }
 
 /// `deldump`.
@@ -154,7 +154,7 @@ pub(crate) fn drop_level(
     levels: &Levels,
     path: &LevelPath,
 ) -> Result<Verdict, AllocError>
-    ensures { IfOk result (λ v. v ≡ (if has_level levels.now path.now then Verdict.Makes (changes.DelLevel path.now ∷ []) else Verdict.Refuses (refused_word refusals.NoSuchLevel path.now))) }
+    ensures { IfOk result (λ v. v ≡ (if has_level levels.now path.now then Verdict.Makes (changes.DelLevel path.now ∷ []) ok_line else Verdict.Refuses (refused_word refusals.NoSuchLevel path.now))) }
 {
     if !levels.has(path) {
         return refuses_word(alloc, Refusal::NoSuchLevel, path.bytes());

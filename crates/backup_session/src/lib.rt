@@ -3,6 +3,7 @@
 
 mod asks;
 mod decide;
+mod dumps;
 mod hosts;
 mod labeling;
 mod labels;

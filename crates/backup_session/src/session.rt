@@ -8,7 +8,7 @@ ghost use Rattle.budb_changes.specs.Bytes.{encoded};
 ghost use Rattle.budb_changes.specs.Forms.{AreChanges, IsLog};
 ghost use Rattle.budb_fold.specs.Database.{after};
 ghost use Rattle.plant_effects.specs.Runs.{state_of, loaded_of, Done, Leaves, SameNumbers, StaysQuiet};
-ghost use Rattle.backup_session.specs.declared.verdict.Verdict.TheVariants.{Makes};
+ghost use Rattle.backup_session.specs.declared.verdict.Verdict.TheVariants.{Makes, Shortens};
 ghost use Rattle.backup_session.specs.Worlds.{World, Setting};
 ghost use Rattle.backup_session.specs.Verdicts.{verdict};
 ghost use Rattle.backup_session.specs.Machine.{carried, on_plant, turn};
@@ -22,6 +22,7 @@ use crate::verdict::Verdict;
 use crate::vos::on_cell;
 use backup_replies::{Refusal, ok_line, refused_number, refused_word};
 use backup_words::Command;
+use bk_text::Bytes;
 use budb::{Budb, CommitFault};
 use budb_journal::Change;
 use cell_core::Cell;
@@ -78,23 +79,44 @@ impl Session {
         Ok(Session { config, budb, time })
     }
 
-    /// Makes changes by one commit, where the log has room for them. The reply has its memory before anything is written.
+    /// Makes changes by one commit, where the log has room for them, and has this reply then.
     fn make<P: Plant>(
         &mut self,
         alloc: Global,
         plant: &mut P,
         changes: &[Change],
+        text: Bytes,
     ) -> Result<Reply, Stop>
         requires { P.sound plant.old }
         ensures sound { OnOk result (P.sound plant.new) }
-        ensures turned { P.tells → (w : World) → FitsPlant P.Plant w plant.old self.old → IfOk result (λ reply. TurnedPlant P.Plant w (carried w (Makes changes.now)) plant.old plant.new self.new reply) }
-        ensures leaves { P.tells → (w : World) → FitsPlant P.Plant w plant.old self.old → Leaves P.Plant (carried w (Makes changes.now)).effects plant.old plant.new }
+        ensures turned { P.tells → (w : World) → FitsPlant P.Plant w plant.old self.old → IfOk result (λ reply. TurnedPlant P.Plant w (carried w (Makes changes.now text)) plant.old plant.new self.new reply) }
+        ensures leaves { P.tells → (w : World) → FitsPlant P.Plant w plant.old self.old → Leaves P.Plant (carried w (Makes changes.now text)).effects plant.old plant.new }
+        ensures stays { StaysQuiet P.Plant plant.old plant.new }
+        ensures cause { HasCauseAt Stop.Plant (P.view plant.old).faults (P.view plant.new).faults result }
+        ensures never { result ≢ Err Stop.Cell }
+    {
+        match self.budb.commit(plant, changes) {
+            Ok(()) => Ok(Reply::new(text)),
+            Err(CommitFault::LogFull { length }) => {
+                Ok(Reply::new(refused_number(alloc, Refusal::LogFull, length)?))
+            }
+            Err(CommitFault::Failed) => Err(Stop::Plant),
+            Err(CommitFault::Memory) => Err(Stop::Memory),
+        }
+    }
+
+    /// Makes the log short by a checkpoint, where the new one has room. The reply has its memory before anything is written.
+    fn shorten<P: Plant>(&mut self, alloc: Global, plant: &mut P) -> Result<Reply, Stop>
+        requires { P.sound plant.old }
+        ensures sound { OnOk result (P.sound plant.new) }
+        ensures turned { P.tells → (w : World) → FitsPlant P.Plant w plant.old self.old → IfOk result (λ reply. TurnedPlant P.Plant w (carried w Shortens) plant.old plant.new self.new reply) }
+        ensures leaves { P.tells → (w : World) → FitsPlant P.Plant w plant.old self.old → Leaves P.Plant (carried w Shortens).effects plant.old plant.new }
         ensures stays { StaysQuiet P.Plant plant.old plant.new }
         ensures cause { HasCauseAt Stop.Plant (P.view plant.old).faults (P.view plant.new).faults result }
         ensures never { result ≢ Err Stop.Cell }
     {
         let done = ok_line(alloc)?;
-        match self.budb.commit(plant, changes) {
+        match self.budb.checkpoint(plant) {
             Ok(()) => Ok(Reply::new(done)),
             Err(CommitFault::LogFull { length }) => {
                 Ok(Reply::new(refused_number(alloc, Refusal::LogFull, length)?))
@@ -122,7 +144,8 @@ impl Session {
         match verdict {
             Verdict::Refuses(text) => Ok(Reply::new(text)),
             Verdict::Shows(text) => Ok(Reply::new(text)),
-            Verdict::Makes(changes) => self.make(alloc, plant, changes.as_slice()),
+            Verdict::Makes(changes, text) => self.make(alloc, plant, changes.as_slice(), text),
+            Verdict::Shortens => self.shorten(alloc, plant),
         }
     }
 
@@ -141,7 +164,7 @@ impl Session {
         ensures cause { HasCauseAt Stop.Plant (P.view plant.old).faults (P.view plant.new).faults result }
         ensures never { result ≢ Err Stop.Cell }
     {
-        let verdict = decide(alloc, self.budb.database(), command)?;
+        let verdict = decide(alloc, &self.budb, command)?;
         self.carry(alloc, plant, verdict)
     }
 

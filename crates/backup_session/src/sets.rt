@@ -4,7 +4,7 @@ ghost use Rattle.std.specs.Prelude.{◌≡◌, [], ◌∷◌, ◌&&◌, length, 
 ghost use Rattle.volume_sets.specs.Sets.{has_set, entries_of};
 ghost use Rattle.budb_changes.specs.declared.change.Change.TheVariants as changes;
 ghost use Rattle.backup_replies.specs.declared.refusals.Refusal.TheVariants as refusals;
-ghost use Rattle.backup_replies.specs.Texts.{refused_word};
+ghost use Rattle.backup_replies.specs.Texts.{refused_word, ok_line};
 ghost use Rattle.backup_session.specs.Verdicts.{entry_goes, one_set, told_sets};
 
 use crate::verdict::{Verdict, makes, refuses_number, refuses_word};
@@ -23,7 +23,7 @@ fn has_set(sets: &Sets, name: &SetName) -> bool
 
 /// `addvolset`.
 pub(crate) fn add_set(alloc: Global, sets: &Sets, name: &SetName) -> Result<Verdict, AllocError>
-    ensures { IfOk result (λ v. v ≡ (if has_set name.now sets.now then Verdict.Refuses (refused_word refusals.SetExists name.now) else Verdict.Makes (changes.AddSet name.now ∷ []))) }
+    ensures { IfOk result (λ v. v ≡ (if has_set name.now sets.now then Verdict.Refuses (refused_word refusals.SetExists name.now) else Verdict.Makes (changes.AddSet name.now ∷ []) ok_line)) }
 {
     if has_set(sets, name) {
         return refuses_word(alloc, Refusal::SetExists, name.bytes());
@@ -34,7 +34,7 @@ pub(crate) fn add_set(alloc: Global, sets: &Sets, name: &SetName) -> Result<Verd
 
 /// `delvolset`.
 pub(crate) fn drop_set(alloc: Global, sets: &Sets, name: &SetName) -> Result<Verdict, AllocError>
-    ensures { IfOk result (λ v. v ≡ (if has_set name.now sets.now then Verdict.Makes (changes.DelSet name.now ∷ []) else Verdict.Refuses (refused_word refusals.NoSuchSet name.now))) }
+    ensures { IfOk result (λ v. v ≡ (if has_set name.now sets.now then Verdict.Makes (changes.DelSet name.now ∷ []) ok_line else Verdict.Refuses (refused_word refusals.NoSuchSet name.now))) }
 {
     if !has_set(sets, name) {
         return refuses_word(alloc, Refusal::NoSuchSet, name.bytes());
@@ -60,7 +60,7 @@ pub(crate) fn add_entry(
     partition: &Option<Part>,
     pattern: &Pattern,
 ) -> Result<Verdict, AllocError>
-    ensures { IfOk result (λ v. v ≡ (if has_set name.now sets.now then Verdict.Makes (changes.AddEntry name.now server.now partition.now pattern.now ∷ []) else Verdict.Refuses (refused_word refusals.NoSuchSet name.now))) }
+    ensures { IfOk result (λ v. v ≡ (if has_set name.now sets.now then Verdict.Makes (changes.AddEntry name.now server.now partition.now pattern.now ∷ []) ok_line else Verdict.Refuses (refused_word refusals.NoSuchSet name.now))) }
 {
     if !has_set(sets, name) {
         return refuses_word(alloc, Refusal::NoSuchSet, name.bytes());

@@ -1,0 +1,91 @@
+-- How the log is made short.
+use Rattle.std.proofs.Common.{◌≡◌, ⊎_elim, ℕ, ◌<◌, ◌≤◌, Bool, List, [], ◌∷◌, length, refl, sym, ◌∙◌, ap, subst}
+use Rattle.std.specs.Prelude.{if◌then◌else◌}
+use Rattle.std.proofs.lemmas.Bool.{cases_lt}
+use Rattle.plant_core.specs.declared.plant.Plant.{Ghosts as Plant}
+use Rattle.plant_core.specs.Effects.{replaces, come}
+use Rattle.plant_effects.specs.Runs.{state_of, loaded_of, Done, Leaves}
+use Rattle.plant_effects.proofs.States.{alike_both, alike_come}
+use Rattle.plant_effects.proofs.Joining.{Fits as FitsImages, nothing_done, nothing_left}
+use Rattle.budb_changes.specs.declared.change.Change.{Change}
+use Rattle.budb_changes.specs.Bytes.{encoded}
+use Rattle.budb_fold.specs.Database.{after}
+use Rattle.budb_fold.specs.Checkpoints.{checkpoint}
+use Rattle.budb.specs.Kept.{Keeps}
+use Rattle.backup_replies.specs.declared.refusals.Refusal.TheVariants.{LogFull}
+use Rattle.backup_replies.specs.Texts.{refused_number, ok_line}
+use Rattle.backup_session.specs.declared.verdict.Verdict.TheVariants.{Shortens}
+use Rattle.backup_session.specs.Views.{SessionView, ReplyView}
+use Rattle.backup_session.specs.Worlds.{World, Turn}
+use Rattle.backup_session.specs.Turns.{said}
+use Rattle.backup_session.specs.Machine.{replaced, shortened, carried}
+use Rattle.backup_session.specs.Fitting.{FitsPlant, TurnedPlant}
+use Rattle.backup_session.proofs.Carrying.{full_true, room_false}
+
+-- a plant that fits keeps the log
+pub keeps_there : {D : Type 0} (P : Plant D) (w : World) (old : D) (session : SessionView) → FitsPlant P w old session → Keeps w.log (state_of P old).log session.budb
+keeps_there P w old session fits = record { form = fits.keeps.form; is = fits.state.log ∙ fits.keeps.is; fold = fits.keeps.fold }
+
+when_full : (w : World) (changes : List Change) → 268435456 < length (encoded changes) → shortened w changes ≡ said w (refused_number LogFull (length (encoded changes)))
+when_full w changes full = ap (λ (b : Bool). if b then said w (refused_number LogFull (length (encoded changes))) else replaced w changes) (full_true 268435456 (length (encoded changes)) full)
+
+with_room : (w : World) (changes : List Change) → length (encoded changes) ≤ 268435456 → shortened w changes ≡ replaced w changes
+with_room w changes room = ap (λ (b : Bool). if b then said w (refused_number LogFull (length (encoded changes))) else replaced w changes) (room_false 268435456 (length (encoded changes)) room)
+
+-- whatever came of a checkpoint's list
+list_leaves : {D : Type 0} (P : Plant D) (w : World) (changes : List Change) (old new : D) → FitsImages P old → (268435456 < length (encoded changes) → new ≡ old) → Leaves P (replaces (encoded changes) ∷ []) old new → Leaves P (shortened w changes).effects old new
+list_leaves P w changes old new images over leaves = ⊎_elim
+    (λ (full : 268435456 < length (encoded changes)). subst (λ (t : Turn). Leaves P t.effects old new) (sym (when_full w changes full)) (subst (λ s. Leaves P [] old s) (sym (over full)) (nothing_left P [] old images)))
+    (λ (room : length (encoded changes) ≤ 268435456). subst (λ (t : Turn). Leaves P t.effects old new) (sym (with_room w changes room)) leaves)
+    (cases_lt 268435456 (length (encoded changes)))
+
+-- the list has no room
+list_full : {D : Type 0} (P : Plant D) (w : World) (changes : List Change) (old : D) (session : SessionView) (reply : ReplyView) → FitsPlant P w old session → P.sound old → 268435456 < length (encoded changes)
+    → reply.text ≡ refused_number LogFull (length (encoded changes)) → TurnedPlant P w (shortened w changes) old old session reply
+list_full P w changes old session reply fits sound full text =
+    subst (λ (t : Turn). TurnedPlant P w t old old session reply) (sym (when_full w changes full)) (record { done = nothing_done P old sound; text = text; fits = fits })
+
+-- the list is the log
+list_turned : {D : Type 0} (P : Plant D) (w : World) (changes : List Change) (old new : D) (session later : SessionView) (reply : ReplyView) → FitsPlant P w old session → P.tells → length (encoded changes) ≤ 268435456
+    → Done P (replaces (encoded changes) ∷ []) old new → loaded_of P new ≡ loaded_of P old → ((k : ℕ) → (P.view new).present k ≡ (P.view old).present k)
+    → Keeps changes (state_of P new).log later.budb → later.time ≡ session.time → later.config ≡ session.config → reply.text ≡ ok_line → TurnedPlant P w (shortened w changes) old new later reply
+list_turned P w changes old new session later reply fits told room done loaded present keeps time config text =
+    subst (λ (t : Turn). TurnedPlant P w t old new later reply) (sym (with_room w changes room)) (record {
+      done = done;
+      text = text;
+      fits = record {
+        keeps = record { form = keeps.form; is = refl; fold = keeps.fold };
+        time = time ∙ fits.time;
+        config = config ∙ fits.config;
+        state = alike_both (come (replaces (encoded changes) ∷ []) w.state) (come (replaces (encoded changes) ∷ []) (state_of P old)) (state_of P new) (alike_come (replaces (encoded changes) ∷ []) w.state (state_of P old) fits.state) (done.state told);
+        loaded = loaded ∙ fits.loaded;
+        present = λ k. present k ∙ fits.present k;
+      };
+    })
+
+-- ---- by the database of the session
+
+module _ {D : Type 0} (P : Plant D) (w : World) (old : D) (session : SessionView) (fits : FitsPlant P w old session) where
+  same : checkpoint session.budb.database ≡ checkpoint (after w.log)
+  same = ap checkpoint fits.keeps.fold
+
+  pub short_leaves : (new : D) → FitsImages P old → (268435456 < length (encoded (checkpoint session.budb.database)) → new ≡ old)
+      → Leaves P (replaces (encoded (checkpoint session.budb.database)) ∷ []) old new → Leaves P (carried w Shortens).effects old new
+  short_leaves new images over leaves =
+      subst (λ (l : List Change). Leaves P (shortened w l).effects old new) same (list_leaves P w (checkpoint session.budb.database) old new images over leaves)
+
+  pub short_full : (new : D) (later : SessionView) (reply : ReplyView) → P.sound old → 268435456 < length (encoded (checkpoint session.budb.database)) → new ≡ old → later ≡ session
+      → reply.text ≡ refused_number LogFull (length (encoded (checkpoint session.budb.database))) → TurnedPlant P w (carried w Shortens) old new later reply
+  short_full new later reply sound full stays is text =
+      subst (λ s. TurnedPlant P w (carried w Shortens) old s later reply) (sym stays)
+      (subst (λ (v : SessionView). TurnedPlant P w (carried w Shortens) old old v reply) (sym is)
+      (subst (λ (l : List Change). TurnedPlant P w (shortened w l) old old session reply) same (list_full P w (checkpoint session.budb.database) old session reply fits sound full text)))
+
+  pub short_turned : (new : D) (later : SessionView) (reply : ReplyView) → P.tells → (268435456 < length (encoded (checkpoint session.budb.database)) → ⊥)
+      → Done P (replaces (encoded (checkpoint session.budb.database)) ∷ []) old new → loaded_of P new ≡ loaded_of P old → ((k : ℕ) → (P.view new).present k ≡ (P.view old).present k)
+      → Keeps (checkpoint (after w.log)) (state_of P new).log later.budb → later.time ≡ session.time → later.config ≡ session.config → reply.text ≡ ok_line → TurnedPlant P w (carried w Shortens) old new later reply
+  short_turned new later reply told never done loaded present keeps time config text =
+      let room : length (encoded (checkpoint session.budb.database)) ≤ 268435456
+      = ⊎_elim (λ (full : 268435456 < length (encoded (checkpoint session.budb.database))). absurd (never full)) (λ (le : length (encoded (checkpoint session.budb.database)) ≤ 268435456). le) (cases_lt 268435456 (length (encoded (checkpoint session.budb.database)))) in
+      list_turned P w (checkpoint (after w.log)) old new session later reply fits told (subst (λ (l : List Change). length (encoded l) ≤ 268435456) same room)
+      (subst (λ (l : List Change). Done P (replaces (encoded l) ∷ []) old new) same done) loaded present keeps time config text

@@ -1,0 +1,29 @@
+use Rattle.std.proofs.Common.{sym, subst}
+use Rattle.backup_session.specs.Views.{SessionView}
+use Rattle.backup_session.specs.Fitting.{FitsPlant}
+use Rattle.backup_session.proofs.Shortening.{short_leaves}
+use Rattle.backup_session.proofs.session.Session.shorten.Goals as goal
+
+pub returns-in_err-refused_number-in-Err-LogFull-clause-leaves : goal.returns-in_err-refused_number-in-Err-LogFull-clause-leaves
+returns-in_err-refused_number-in-Err-LogFull-clause-leaves g c = λ told w fits.
+    let P = g.P.Plant in
+    let old = c.args.plant.now in
+    let here : SessionView = record { config = c.self.inside.config; budb = c.self.inside.budb; time = c.self.inside.time } in
+    let there : FitsPlant P w old here = subst (λ (s : SessionView). FitsPlant P w old s) (sym c.self.view_is) fits in
+    short_leaves P w old here there c.checkpoint.new.plant (λ told survives image left. g.met.P.Plant.left old image told c.requires survives left) c.checkpoint.ensures.over_same c.checkpoint.ensures.leaves
+
+pub returns-in-Err-LogFull-clause-leaves : goal.returns-in-Err-LogFull-clause-leaves
+returns-in-Err-LogFull-clause-leaves g c = λ told w fits.
+    let P = g.P.Plant in
+    let old = c.args.plant.now in
+    let here : SessionView = record { config = c.self.inside.config; budb = c.self.inside.budb; time = c.self.inside.time } in
+    let there : FitsPlant P w old here = subst (λ (s : SessionView). FitsPlant P w old s) (sym c.self.view_is) fits in
+    short_leaves P w old here there c.checkpoint.new.plant (λ told survives image left. g.met.P.Plant.left old image told c.requires survives left) c.checkpoint.ensures.over_same c.checkpoint.ensures.leaves
+
+pub returns-clause-leaves : goal.returns-clause-leaves
+returns-clause-leaves g c = λ told w fits.
+    let P = g.P.Plant in
+    let old = c.args.plant.now in
+    let here : SessionView = record { config = c.self.inside.config; budb = c.self.inside.budb; time = c.self.inside.time } in
+    let there : FitsPlant P w old here = subst (λ (s : SessionView). FitsPlant P w old s) (sym c.self.view_is) fits in
+    short_leaves P w old here there c.checkpoint.new.plant (λ told survives image left. g.met.P.Plant.left old image told c.requires survives left) c.checkpoint.ensures.over_same c.checkpoint.ensures.leaves
