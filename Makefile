@@ -23,9 +23,11 @@ test:
 try:
 	cd crates/backup_cli && rt try -- examine < ../../$(SAMPLE)
 
-# Times examine on a stream of 256 MiB beside cat, and reading and writing a stream beside cp.
+# Times examine on a stream of 256 MiB beside cat, lines of a script beside the writes and syncs of their commits, and reading and
+# writing a stream beside cp.
 bench: afsbackup
 	bench/examine.sh ./afsbackup
+	bench/run.sh ./afsbackup
 	cd crates/stream_bench && rt run > /dev/null
 	bench/stream.sh crates/stream_bench/out/stream_bench
 

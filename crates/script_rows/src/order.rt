@@ -1,0 +1,53 @@
+//! Runs of the service.
+
+use crate::script::Script;
+use backup_top::{Status, run};
+use cell_core::CellMem;
+use media_core::{ClockMem, MemMedia, SourceMem};
+use std::alloc::{AllocError, Global};
+
+/// The moment of a clock that no line is answered by.
+const NEVER_ASKED: u64 = 1000;
+
+/// What a run is started with: the words after the program's name, the bytes of the configuration, and the read of the source
+/// that fails, if one does.
+#[derive(Drop)]
+pub struct Order {
+    pub words: Vec<String>,
+    pub config: Vec<u8>,
+    pub failing_read: Option<u64>,
+}
+
+impl Order {
+    /// Runs a script over media and a cell.
+    pub fn run(
+        &self,
+        alloc: Global,
+        media: MemMedia,
+        cell: &mut CellMem,
+        script: &Script,
+    ) -> Result<(Status, MemMedia), AllocError> {
+        let mut clock = clock_of(alloc, script.moments.as_slice())?;
+        let mut source = SourceMem::new(alloc, script.lines.as_slice())?;
+        if let Some(read) = self.failing_read {
+            source.fail_at(read)?;
+        }
+        Ok(run(
+            alloc,
+            &self.words,
+            self.config.as_slice(),
+            media,
+            cell,
+            &mut clock,
+            &mut source,
+        ))
+    }
+}
+
+/// A clock of these moments.
+fn clock_of(alloc: Global, moments: &[u64]) -> Result<ClockMem, AllocError> {
+    if moments.is_empty() {
+        return ClockMem::new(alloc, &[NEVER_ASKED]);
+    }
+    ClockMem::new(alloc, moments)
+}

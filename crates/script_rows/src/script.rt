@@ -1,0 +1,93 @@
+//! Scripts with their moments.
+
+use std::alloc::{AllocError, Global};
+
+/// The first lines of most rows: a tape host, a volume set, levels and a volume.
+const PREAMBLE: [&str; 5] = [
+    "addhost -tapehost th -portoffset 0",
+    "addvolset -name users",
+    "addvolentry -name users -server .* -partition .* -volumes user\\..*",
+    "adddump -dump /full /full/mon /full/mon/tue",
+    "vos create -server fs1 -partition vicepa -name user.a",
+];
+
+/// The moment at which they run.
+const FIRST: u64 = 1000;
+
+/// The lines of a script, and the clock's moments while it runs: one for each line that has a reply.
+#[derive(Drop)]
+pub struct Script {
+    pub lines: Vec<u8>,
+    pub moments: Vec<u64>,
+}
+
+impl Script {
+    pub fn new(alloc: Global) -> Script {
+        Script {
+            lines: Vec::new(alloc),
+            moments: Vec::new(alloc),
+        }
+    }
+
+    /// Adds a line that has no reply.
+    pub fn add_silent(&mut self, line: &str) -> Result<(), AllocError> {
+        self.lines.extend_from_slice(line.as_bytes())?;
+        self.lines.push(b'\n')?;
+        Ok(())
+    }
+
+    /// Adds a line that is answered at this moment.
+    pub fn add(&mut self, moment: u64, line: &str) -> Result<(), AllocError> {
+        self.moments.push(moment)?;
+        self.add_silent(line)
+    }
+
+    /// Adds the first so many lines of the preamble.
+    pub fn add_preamble(&mut self, count: usize) -> Result<(), AllocError> {
+        for line in PREAMBLE.iter().take(count) {
+            self.add(FIRST, line)?;
+        }
+        Ok(())
+    }
+
+    /// Adds a line of so many bytes `x`.
+    pub fn add_long(&mut self, count: u32) -> Result<(), AllocError> {
+        self.moments.push(FIRST)?;
+        for _ in 0..count {
+            self.lines.push(b'x')?;
+        }
+        self.lines.push(b'\n')?;
+        Ok(())
+    }
+
+    /// Takes the last line feed away.
+    pub fn leave_unended(&mut self) {
+        let _ = self.lines.pop();
+    }
+
+    /// How many lines have a reply.
+    pub fn count(&self) -> usize {
+        self.moments.len()
+    }
+
+    /// The first so many lines; each of them has a reply.
+    pub fn front(&self, alloc: Global, count: usize) -> Result<Script, AllocError> {
+        let mut front = Script::new(alloc);
+        for line in self.lines.split(|byte| *byte == b'\n').take(count) {
+            front.lines.extend_from_slice(line)?;
+            front.lines.push(b'\n')?;
+        }
+        for moment in self.moments.iter().take(count) {
+            front.moments.push(*moment)?;
+        }
+        Ok(front)
+    }
+
+    /// The line of a number, with no line feed; empty where there is none.
+    pub fn line(&self, number: usize) -> &[u8] {
+        match self.lines.split(|byte| *byte == b'\n').nth(number) {
+            Some(line) => line,
+            None => b"",
+        }
+    }
+}

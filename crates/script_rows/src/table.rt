@@ -1,0 +1,187 @@
+//! The table of rows. Each line of it is one step, and what it prints stands behind it:
+//!
+//! - `== NAME` begins a row with blank media of five files, an empty cell and the configuration `slots:0-3 0`; it is printed.
+//! - `config LINE` adds a line to the configuration, the first one in place of the line above. `words WORD..` stand behind the
+//!   program's name in place of `run`.
+//! - `fill FILE COUNT BYTE` makes that many equal bytes the front of a file, `log BYTES` gives the journal a log (in hexadecimal).
+//!   `volume NAME` makes a volume, by one call of the cell, `spoil NAME AT` makes its image a bad one. `out SLOT` takes a tape
+//!   out, `back SLOT` puts it back.
+//! - `media N`, `cell N` and `read N` make the call of that number fail.
+//! - `preamble N` adds the first N of five common lines to the script, `@MOMENT LINE` a line that is answered at that moment,
+//!   `- LINE` one that isn't answered, `long N` a line of N bytes. `unended` takes the last line feed away.
+//! - `run` runs the script and begins a new one: what it told is printed, and its status. `journal` prints the journal's log.
+//! - `look LINE` and `label LINE` are what a later service is asked of the journal and of the tape. `fails` and `stops` run the
+//!   script with a failure of, or a stop in, each call of the media, and print how many runs there were, and how many of them
+//!   kept what is promised.
+//!
+//! Empty lines and lines that begin with `#` are passed over.
+
+use crate::files::{file_of_log, fill, journal, move_tape};
+use crate::mishaps::try_calls;
+use crate::numbers::{bytes, number, small_number, two_words};
+use crate::trials::Mishap;
+use crate::world::World;
+use std::alloc::Global;
+
+/// Prints a line.
+fn print_line(printed: &mut Vec<u8>, line: &str) -> anyhow::Result<()> {
+    printed.extend_from_slice(line.as_bytes())?;
+    printed.push(b'\n')?;
+    Ok(())
+}
+
+/// Fills a file by the words of a step.
+fn fill_by(alloc: Global, world: &mut World, rest: &str) -> anyhow::Result<()> {
+    let (file, more) = two_words(rest)?;
+    let (count, byte) = two_words(more)?;
+    let file = small_number(file)?;
+    let Ok(byte) = u8::try_from(small_number(byte)?) else {
+        anyhow::bail!("{rest} has no byte");
+    };
+    let count = small_number(count)?;
+    let bytes = vec![in alloc; byte; count as usize]?;
+    fill(alloc, &mut world.media, file, bytes.as_slice())
+}
+
+/// Gives the journal a log by the words of a step.
+fn log_by(alloc: Global, world: &mut World, rest: &str) -> anyhow::Result<()> {
+    let log = bytes(alloc, rest)?;
+    let file = file_of_log(alloc, log.as_slice())?;
+    fill(alloc, &mut world.media, 0, file.as_slice())
+}
+
+/// Makes a volume's image a bad one by the words of a step.
+fn spoil_by(alloc: Global, world: &mut World, rest: &str) -> anyhow::Result<()> {
+    let (name, at) = two_words(rest)?;
+    let at = number(at)?;
+    world.spoil(alloc, name, at)
+}
+
+/// Runs the script, and prints what was told and the status.
+fn run_script(alloc: Global, world: &mut World, printed: &mut Vec<u8>) -> anyhow::Result<()> {
+    let (status, told) = world.run(alloc)?;
+    printed.extend_from_slice(told.as_slice())?;
+    let number = status.number();
+    let line = format!(in alloc; "status {number} {status:?}")?;
+    print_line(printed, line.as_str())
+}
+
+/// Prints the log of the journal.
+fn print_journal(alloc: Global, world: &mut World, printed: &mut Vec<u8>) -> anyhow::Result<()> {
+    let log = journal(alloc, &mut world.media)?;
+    let count = log.len();
+    let mut line = format!(in alloc; "journal {count}:")?;
+    for byte in log.iter() {
+        let byte = *byte;
+        let word = format!(in alloc; " {byte:02x}")?;
+        line.push_str(word.as_str())?;
+    }
+    print_line(printed, line.as_str())
+}
+
+/// Tries a mishap in each call, and prints the counts.
+fn try_mishaps(
+    alloc: Global,
+    world: &World,
+    mishap: Mishap,
+    printed: &mut Vec<u8>,
+) -> anyhow::Result<()> {
+    let counts = try_calls(alloc, world, mishap)?;
+    let runs = counts.runs;
+    let kept = counts.kept;
+    let line = format!(in alloc; "runs {runs} kept {kept}")?;
+    print_line(printed, line.as_str())
+}
+
+/// Adds a line that is answered at a moment.
+fn add_line(world: &mut World, step: &str) -> anyhow::Result<bool> {
+    let Some(rest) = step.strip_prefix('@') else {
+        return Ok(false);
+    };
+    let (moment, line) = two_words(rest)?;
+    world.script.add(number(moment)?, line)?;
+    Ok(true)
+}
+
+/// Takes a step that makes a row's world another one. The answer is whether there is such a step.
+fn prepare(alloc: Global, world: &mut World, verb: &str, rest: &str) -> anyhow::Result<bool> {
+    match verb {
+        "config" => world.configure(rest)?,
+        "words" => world.say(alloc, rest)?,
+        "fill" => fill_by(alloc, world, rest)?,
+        "log" => log_by(alloc, world, rest)?,
+        "volume" => world.create(alloc, rest)?,
+        "spoil" => spoil_by(alloc, world, rest)?,
+        "out" => move_tape(&mut world.media, small_number(rest)?, true)?,
+        "back" => move_tape(&mut world.media, small_number(rest)?, false)?,
+        "media" => world.media.fail_at(number(rest)?)?,
+        "cell" => world.cell.fail_at(number(rest)?)?,
+        "read" => world.order.failing_read = Some(number(rest)?),
+        _ => return Ok(false),
+    }
+    Ok(true)
+}
+
+/// Takes a step that adds to a script. The answer is whether there is such a step.
+fn write(world: &mut World, verb: &str, rest: &str) -> anyhow::Result<bool> {
+    match verb {
+        "preamble" => world.script.add_preamble(small_number(rest)? as usize)?,
+        "-" => world.script.add_silent(rest)?,
+        "long" => world.script.add_long(small_number(rest)?)?,
+        "unended" => world.script.leave_unended(),
+        "look" => world.journal_looks.add(0, rest)?,
+        "label" => world.tape_looks.add(0, rest)?,
+        _ => return Ok(false),
+    }
+    Ok(true)
+}
+
+/// Takes a step that prints.
+fn print(
+    alloc: Global,
+    world: &mut World,
+    verb: &str,
+    step: &str,
+    printed: &mut Vec<u8>,
+) -> anyhow::Result<()> {
+    match verb {
+        "==" => {
+            *world = World::new(alloc)?;
+            print_line(printed, step)
+        }
+        "run" => run_script(alloc, world, printed),
+        "journal" => print_journal(alloc, world, printed),
+        "fails" => try_mishaps(alloc, world, Mishap::Fails, printed),
+        "stops" => try_mishaps(alloc, world, Mishap::Stops, printed),
+        _ => anyhow::bail!("there is no step {step}"),
+    }
+}
+
+/// Takes a step.
+fn take_step(
+    alloc: Global,
+    world: &mut World,
+    step: &str,
+    printed: &mut Vec<u8>,
+) -> anyhow::Result<()> {
+    if step.is_empty() || step.starts_with('#') || add_line(world, step)? {
+        return Ok(());
+    }
+    let (verb, rest) = match step.split_once(' ') {
+        Some(parts) => parts,
+        None => (step, ""),
+    };
+    if prepare(alloc, world, verb, rest)? || write(world, verb, rest)? {
+        return Ok(());
+    }
+    print(alloc, world, verb, step, printed)
+}
+
+/// Takes all steps of a table, and prints what they print.
+pub fn run_table(alloc: Global, table: &str, printed: &mut Vec<u8>) -> anyhow::Result<()> {
+    let mut world = World::new(alloc)?;
+    for step in table.lines() {
+        take_step(alloc, &mut world, step, printed)?;
+    }
+    Ok(())
+}

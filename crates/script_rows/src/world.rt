@@ -1,0 +1,110 @@
+//! What a row works on.
+
+use crate::files::{blank, taken};
+use crate::order::Order;
+use crate::script::Script;
+use backup_top::Status;
+use bk_text::{Host, Name, Part};
+use cell_core::{Cell, CellMem};
+use media_core::MemMedia;
+use std::alloc::{AllocError, Global};
+
+/// The configuration where a row gives none.
+const FOUR_SLOTS: &[u8] = b"slots:0-3 0\n";
+
+/// Media, a cell, and what is run over them.
+#[derive(Drop)]
+pub struct World {
+    pub media: MemMedia,
+    pub cell: CellMem,
+    pub order: Order,
+    pub is_configured: bool,
+    pub script: Script,
+    pub journal_looks: Script,
+    pub tape_looks: Script,
+}
+
+impl World {
+    /// Blank media, an empty cell, and an empty script.
+    pub fn new(alloc: Global) -> Result<World, AllocError> {
+        let mut words = Vec::new(alloc);
+        words.push(String::from_str(alloc, "run")?)?;
+        Ok(World {
+            media: blank(alloc)?,
+            cell: CellMem::new(alloc),
+            order: Order {
+                words,
+                config: Vec::from_slice(alloc, FOUR_SLOTS)?,
+                failing_read: None,
+            },
+            is_configured: false,
+            script: Script::new(alloc),
+            journal_looks: Script::new(alloc),
+            tape_looks: Script::new(alloc),
+        })
+    }
+
+    /// Adds a line to the configuration.
+    pub fn configure(&mut self, line: &str) -> Result<(), AllocError> {
+        if !self.is_configured {
+            self.order.config.clear();
+            self.is_configured = true;
+        }
+        self.order.config.extend_from_slice(line.as_bytes())?;
+        self.order.config.push(b'\n')?;
+        Ok(())
+    }
+
+    /// Starts the service by other words.
+    pub fn say(&mut self, alloc: Global, words: &str) -> Result<(), AllocError> {
+        self.order.words.clear();
+        for word in words.split_whitespace() {
+            self.order.words.push(String::from_str(alloc, word)?)?;
+        }
+        Ok(())
+    }
+
+    /// Runs the script, and begins a new one. The answer is the status and what was told.
+    pub fn run(&mut self, alloc: Global) -> anyhow::Result<(Status, Vec<u8>)> {
+        let before = self.media.told().len();
+        let media = taken(alloc, &mut self.media)?;
+        let (status, media) = self.order.run(alloc, media, &mut self.cell, &self.script)?;
+        self.media = media;
+        self.script = Script::new(alloc);
+        let told = told_since(alloc, &self.media, before)?;
+        Ok((status, told))
+    }
+
+    /// Makes a volume, by one call of the cell.
+    pub fn create(&mut self, alloc: Global, name: &str) -> anyhow::Result<()> {
+        let (Ok(server), Ok(partition), Ok(name)) = (
+            Host::parse(alloc, b"fs1"),
+            Part::parse(alloc, b"vicepa"),
+            Name::parse(alloc, name.as_bytes()),
+        ) else {
+            anyhow::bail!("a volume's name is bad");
+        };
+        if self.cell.create(&server, &partition, &name, 1000).is_err() {
+            anyhow::bail!("a volume wasn't made");
+        }
+        Ok(())
+    }
+
+    /// Makes the image of a volume a bad one.
+    pub fn spoil(&mut self, alloc: Global, name: &str, at: u64) -> anyhow::Result<()> {
+        let Ok(name) = Name::parse(alloc, name.as_bytes()) else {
+            anyhow::bail!("a volume's name is bad");
+        };
+        self.cell.spoil(&name, at);
+        Ok(())
+    }
+}
+
+/// What media were told from a place on.
+pub fn told_since(alloc: Global, media: &MemMedia, before: usize) -> Result<Vec<u8>, AllocError> {
+    let told = media.told();
+    if before > told.len() {
+        return Ok(Vec::new(alloc));
+    }
+    Vec::from_slice(alloc, &told[before..])
+}
