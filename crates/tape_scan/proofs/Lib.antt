@@ -24,3 +24,7 @@ pub mod ReachedFollows
 pub mod ReachedWhole
 pub mod ReachedScan
 pub mod ScanningLaws
+pub mod Looking
+pub mod Deciding
+pub mod ContinuingLaws
+pub mod TellingLaws

@@ -7,3 +7,7 @@ pub mod AssembledSteps
 pub mod AssembledPaths
 pub mod AssembledRecords
 pub mod Assembled
+pub mod Looking
+pub mod Continuing
+pub mod Telling
+pub mod Ways
