@@ -1,0 +1,11 @@
+pub mod Deciding
+pub mod FieldLaws
+pub mod ReadingLaws
+pub mod ScanningLaws
+pub mod ListLaws
+pub mod GoingOnLaws
+pub mod SlotLaws
+pub mod CompletingLaws
+pub mod WayLaws
+pub mod ChoosingLaws
+pub mod FoundLaws
