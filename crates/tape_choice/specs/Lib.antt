@@ -3,6 +3,5 @@ pub mod Reads
 pub mod Choice
 pub mod Firsts
 pub mod Parents
-pub mod Loading
 pub mod Append
 pub mod Surveys

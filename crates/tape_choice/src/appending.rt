@@ -9,8 +9,8 @@ ghost use Rattle.plant_core.specs.Records.{NoBad};
 ghost use Rattle.plant_effects.specs.Runs.{state_of, loaded_of, Done, Leaves, SameNumbers, StaysQuiet};
 ghost use Rattle.tape_text.specs.Items.{Item, Read};
 ghost use Rattle.tape_scan.specs.Slots.{Slot};
-ghost use Rattle.tape_choice.specs.Scene.{HasSlots, UnlessFailed};
-ghost use Rattle.tape_choice.specs.Loading.{Loads, LeavesLoads};
+ghost use Rattle.tape_choice.specs.Scene.{UnlessFailed};
+ghost use Rattle.tape_scan.specs.Looking.{HasSlots, Loads, LeavesLoads};
 ghost use Rattle.tape_choice.specs.Append.{AreWhole, append_set, append_slot, appending, no_tape};
 ghost use Rattle.tape_choice.specs.Surveys.{IsPlace, name_first, name_of, front_of, stands_on, place_with, behind_with, place_at, place_in, told_of, IsBehind, IsPut, IsAppendable, IsFoundAppendable};
 

@@ -5,7 +5,8 @@ ghost use Rattle.crash_moments.specs.Moments.{HasCauseAt};
 ghost use Rattle.plant_effects.specs.Runs.{state_of, Done, Leaves, SameNumbers, StaysQuiet};
 ghost use Rattle.tape_text.specs.Items.{Item, Read};
 ghost use Rattle.tape_scan.specs.Slots.{Slot};
-ghost use Rattle.tape_choice.specs.Scene.{HasSlots, UnlessFailed};
+ghost use Rattle.tape_scan.specs.Looking.{HasSlots};
+ghost use Rattle.tape_choice.specs.Scene.{UnlessFailed};
 ghost use Rattle.tape_choice.specs.Firsts.{first_passes, label_first};
 ghost use Rattle.tape_choice.specs.Choice.{chosen, forgotten, is_used, choice_of, choice_at, tape_choice};
 

@@ -2,8 +2,7 @@ use Rattle.std.proofs.Common.{ℕ, ◌≡◌, ◌<◌, ◌≤◌, Bool, false, L
 use Rattle.std.specs.Prelude.{Some, slice_get}
 use Rattle.plant_effects.specs.Runs.{StaysQuiet}
 use Rattle.tape_scan.specs.Slots.{Slot}
-use Rattle.tape_choice.specs.Scene.{HasSlots}
-use Rattle.tape_choice.specs.Loading.{Loads}
+use Rattle.tape_scan.specs.Looking.{HasSlots, Loads}
 use Rattle.tape_choice.specs.Append.{AreWhole, append_passes}
 use Rattle.tape_choice.proofs.appending.find_place.Given as goal
 

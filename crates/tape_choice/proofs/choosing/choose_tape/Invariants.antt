@@ -2,7 +2,7 @@ use Rattle.std.proofs.Common.{ℕ, ◌≡◌, ◌<◌, ◌≤◌, false, List, [
 use Rattle.std.specs.Prelude.{Some, slice_get}
 use Rattle.plant_effects.specs.Runs.{Done, Leaves, SameNumbers, StaysQuiet}
 use Rattle.tape_scan.specs.Slots.{Slot}
-use Rattle.tape_choice.specs.Scene.{HasSlots}
+use Rattle.tape_scan.specs.Looking.{HasSlots}
 use Rattle.tape_choice.specs.Choice.{slot_passes}
 use Rattle.tape_choice.proofs.choosing.choose_tape.Given as goal
 
