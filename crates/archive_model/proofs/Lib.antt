@@ -4,6 +4,7 @@ pub mod AlikeLaws
 pub mod AgainLaws
 pub mod ChainLaws
 pub mod ContentsLaws
+pub mod CountLaws
 pub mod CutLaws
 pub mod DumpLaws
 pub mod DumpedLaws

@@ -50,7 +50,7 @@ first_of_some [] x there = absurd (omega (arith, there.1))
 first_of_some (y ∷ ys) x there = (y, ys, refl)
 
 -- a volume of a record by fragments has one
-some_frag : (all : List Lying) (v : VolRecordFields) → Contains (volume_records all) v → (y : Frag) × (ys : List Frag) × (v.frags ≡ y ∷ ys)
+pub some_frag : (all : List Lying) (v : VolRecordFields) → Contains (volume_records all) v → (y : Frag) × (ys : List Frag) × (v.frags ≡ y ∷ ys)
 some_frag all v there =
     let l = contains_map (volume_record all) (filter (λ (x : Lying). x.head.fragment == 1) all) v there in
     let among = (of_filter (λ (x : Lying). x.head.fragment == 1) all l.0 l.1).0 in

@@ -9,6 +9,8 @@ ghost use Rattle.budb_changes.specs.declared.records.DumpRecordFields.{DumpRecor
 ghost use Rattle.budb_changes.specs.declared.records.VolRecordFields.{VolRecordFields};
 ghost use Rattle.budb_changes.specs.declared.change.Change.{Change};
 ghost use Rattle.budb_changes.specs.Bytes.{encoded};
+ghost use Rattle.budb_changes.specs.Dumps.{KeepsDump};
+ghost use Rattle.budb_changes.specs.Frags.{KeepsFrags};
 ghost use Rattle.budb_changes.specs.Forms.{AreChanges};
 ghost use Rattle.budb_fold.specs.Database.{is_initial, without, after};
 ghost use Rattle.budb_fold.specs.Lookups.{volume_of};
@@ -131,4 +133,11 @@ pub fn what_was_dumped_is_recorded()
     ensures { (slots : List Slot) (parts : List Located) (d : DumpRecordFields) → IsFound slots parts d → (name : List ℕ) (v : VolRecordFields) → volume_of d name ≡ Some v
         → (index : ℕ) × (index < length d.volumes) × (find (λ x. is_same_text x.1.name name) (placed_from 0 d.volumes) ≡ Some (index, v))
         × ((w : Dumping) → IsDumped d.id index (flat_map (λ l. l.found.part.fragments) parts) w → IsRecordOf v w) }
+{}
+
+/// A dump that is found whole over at most 65,535 slots has no more parts than a record holds, and each of its volumes no more
+/// fragments: its record is one that the database takes.
+pub fn what_is_found_fits_a_record()
+    ensures dump { (slots : List Slot) (parts : List Located) (d : DumpRecordFields) → length slots ≤ 65535 → IsFound slots parts d → KeepsDump d }
+    ensures volumes { (slots : List Slot) (parts : List Located) (d : DumpRecordFields) → length slots ≤ 65535 → IsFound slots parts d → (v : VolRecordFields) → Contains d.volumes v → KeepsFrags v }
 {}

@@ -15,8 +15,9 @@ pub use holding::{
     a_put_keeps_what_lies, a_record_calls_for_its_fragments, a_taken_tape_holds_nothing_listed,
     a_whole_dump_lies_on_its_tapes, blank_tapes_hold_no_dump, dumps_of_a_tape_end_in_order,
     holds_is_said_of_listed_dumps, other_dumps_stay_listed, own_heads_are_held_once,
-    recorded_dumps_are_scanned_again, what_is_found_on_some_slots_is_found, what_lies_is_played,
-    what_was_dumped_is_recorded, without_its_head_nothing_is_held,
+    recorded_dumps_are_scanned_again, what_is_found_fits_a_record,
+    what_is_found_on_some_slots_is_found, what_lies_is_played, what_was_dumped_is_recorded,
+    without_its_head_nothing_is_held,
 };
 pub use images::{
     a_joint_image_holds_the_archive_of_its_count, a_torn_tape_reads, alike_states_hold_alike,
