@@ -1,8 +1,8 @@
 -- What records say, and what is shown of them.
-use Rattle.std.proofs.Common.{◌≡◌, zero, suc, ℕ, Bool, true, Option, Some, None, List, [], ◌∷◌, length, refl, sym, ap, ◌∙◌, ◌≤◌, arith}
+use Rattle.std.proofs.Common.{◌≡◌, ℕ, Bool, true, Option, Some, None, List, [], ◌∷◌, refl, sym, ap, ◌∙◌}
 use Rattle.std.specs.Prelude.{slice_get, ◌&&◌}
 use Rattle.plant_core.specs.declared.record.Kind.{Kind}
-use Rattle.plant_core.specs.Records.{Record, block_with, ShowsAt, ShowsFirst, Shows}
+use Rattle.plant_core.specs.Records.{Record, block_with, ShowsFirst, Shows}
 use Rattle.tape_frames.specs.declared.frame.Frame.{Frame}
 use Rattle.tape_frames.specs.Frames.{IsSpelled}
 use Rattle.tape_text.specs.Items.{Item, Says, Filemark, Nothing, ReadsAs, Read}
@@ -10,6 +10,7 @@ use Rattle.budb_changes.specs.declared.records.TapePart.{TapePart}
 use Rattle.budb_changes.specs.declared.records.DumpRecordFields.{DumpRecordFields}
 use Rattle.archive_model.specs.Holding.{place_of, is_so, is_label_frame, is_head_frame, holds_at, holds}
 use Rattle.restore_chain.specs.Planning.{frame_of, is_frame}
+use Rattle.restore_chain.specs.Playing.{IsSaidAt}
 
 -- a block that spells no frame says none
 pub spells_none : (bytes : List ℕ) (i : Item) → (IsSpelled bytes → ⊥) → ReadsAs (block_with bytes) i → None ≡ frame_of (Some i)
@@ -17,20 +18,7 @@ spells_none bytes (Says f) none reads = absurd (none (f, reads.0, reads.1))
 spells_none bytes Filemark none reads = absurd reads
 spells_none bytes Nothing none reads = refl
 
--- a record and its item stand at the same place
-pub item_at : (rs : List Record) (is : List Item) (k : ℕ) (r : Record) → Read rs is → slice_get rs k ≡ Some r → (i : Item) × (slice_get is k ≡ Some i) × ReadsAs r i
-item_at [] is k r read at = absurd (cc)
-item_at (q ∷ rs) [] k r read at = absurd read
-item_at (q ∷ rs) (i ∷ is) zero r read at = (i, refl, (let same : q ≡ r = cc in rw (← same) read.0))
-item_at (q ∷ rs) (i ∷ is) (suc k) r read at = item_at rs is k r read.1 at
-
-pub as_many : (rs : List Record) (is : List Item) → Read rs is → length is ≡ length rs
-as_many [] [] read = refl
-as_many [] (i ∷ is) read = absurd read
-as_many (r ∷ rs) [] read = absurd read
-as_many (r ∷ rs) (i ∷ is) read = ap suc (as_many rs is read.1)
-
--- what is shown of the first record, or of that at a place, is what its item says
+-- what is shown of the first record is what its item says
 pub shown_first : (rs : List Record) (is : List Item) (kind : Kind) (into : List ℕ) (frame : Option Frame) → Read rs is → ShowsFirst rs (Some kind) into
     → ((r : Record) (i : Item) → Shows r kind into → ReadsAs r i → frame ≡ frame_of (Some i)) → frame ≡ frame_of (slice_get is 0)
 shown_first [] is kind into frame read shown says = absurd (cc)
@@ -42,20 +30,6 @@ shown_none [] [] into read shown = refl
 shown_none [] (i ∷ is) into read shown = absurd read
 shown_none (r ∷ rs) is into read (k, (same, shows)) = absurd (cc)
 
-pub shown_at : (rs : List Record) (is : List Item) (place : ℕ) (kind : Kind) (into : List ℕ) (frame : Option Frame) → Read rs is → ShowsAt rs place kind into
-    → ((r : Record) (i : Item) → Shows r kind into → ReadsAs r i → frame ≡ frame_of (Some i)) → frame ≡ frame_of (slice_get is place)
-shown_at rs is place kind into frame read shown says =
-    let here = item_at rs is place shown.found read shown.is in
-    says shown.found here.0 shown.shown here.2 ∙ ap frame_of (sym here.1)
-
-pub past_the_end : (rs : List Record) (is : List Item) (place : ℕ) → Read rs is → length rs ≤ place → None ≡ frame_of (slice_get is place)
-past_the_end rs is place read past = ap frame_of (sym (none is place (omega (arith, as_many rs is read))))
-  where
-    none : (is : List Item) (k : ℕ) → length is ≤ k → slice_get is k ≡ None
-    none [] k past = refl
-    none (i ∷ is) zero past = absurd (omega arith)
-    none (i ∷ is) (suc k) past = none is k (omega arith)
-
 -- a test of the frame that an item says
 pub so_is : (test : Frame → Bool) (o : Option Item) (frame : Option Frame) → frame ≡ frame_of o → is_frame test frame ≡ is_so test o
 so_is test o frame is = ap (is_frame test) is ∙ of_item o
@@ -65,6 +39,17 @@ so_is test o frame is = ap (is_frame test) is ∙ of_item o
     of_item (Some (Says f)) = refl
     of_item (Some Filemark) = refl
     of_item (Some Nothing) = refl
+
+-- what a record is as a frame is what its item says
+pub said_frame : (items : List Item) (place : ℕ) (frame : Option Frame) → IsSaidAt items place frame → frame ≡ frame_of (slice_get items place)
+said_frame items place (Some f) said = sym (ap frame_of said)
+said_frame items place None said = of_item (slice_get items place) said
+  where
+    of_item : (o : Option Item) → ((f : Frame) → o ≡ Some (Says f) → ⊥) → None ≡ frame_of o
+    of_item None none = refl
+    of_item (Some (Says f)) none = absurd (none f refl)
+    of_item (Some Filemark) none = refl
+    of_item (Some Nothing) none = refl
 
 -- a slot holds a tape by its label and its head
 pub holds_by : (d : DumpRecordFields) (tape : ℕ) (items : List Item) (p : TapePart) (initial id : ℕ) (label head : Bool) → place_of d tape ≡ Some p → initial ≡ d.initial → id ≡ d.id

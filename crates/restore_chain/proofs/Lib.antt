@@ -1,4 +1,3 @@
-pub mod Looking
 pub mod RecordLaws
 pub mod PieceLaws
 pub mod JoinLaws
@@ -12,3 +11,7 @@ pub mod OneAnswer
 pub mod PlanSteps
 pub mod VolumeLaws
 pub mod LoadLaws
+pub mod AnswerLaws
+pub mod PlacedLaws
+pub mod PlayLaws
+pub mod RestoreLaws

@@ -6,9 +6,9 @@ use Rattle.plant_core.specs.declared.plant.Plant.{Ghosts as Plant}
 use Rattle.plant_effects.specs.Runs.{loaded_of, Done, Leaves, SameNumbers, StaysQuiet}
 use Rattle.tape_text.specs.Items.{Item}
 use Rattle.tape_scan.specs.Slots.{Slot}
-use Rattle.restore_chain.specs.Loading.{HasSlots, Loads, LooksAt}
+use Rattle.tape_scan.specs.Looking.{HasSlots, Loads, LooksAt}
 use Rattle.restore_chain.specs.Playing.{ReadsLoaded}
-use Rattle.restore_chain.proofs.Looking.{reads_are_loads, reads_leave, slot_later, looks_as}
+use Rattle.tape_scan.proofs.Looking.{reads_are_loads, reads_leave, slot_later, looks_as}
 
 pub reads_look : {D T E : Type 0} (P : Plant D) (fault : E) (old new : D) (r : Result T E) → (r ≢ Err fault → Done P [] old new) → Leaves P [] old new → (r ≢ Err fault → SameNumbers P old new) → StaysQuiet P old new
     → HasCauseAt fault (P.view old).faults (P.view new).faults r → LooksAt P fault old new r

@@ -11,9 +11,9 @@ use Rattle.archive_model.specs.Archives.{needs}
 use Rattle.restore_chain.specs.declared.chain_plan.ChainPlan.{ChainPlan}
 use Rattle.restore_chain.specs.declared.fault.RestoreFault.{RestoreFault}
 use Rattle.restore_chain.specs.declared.fault.RestoreFault.TheVariants as faults
-use Rattle.restore_chain.specs.Loading.{LooksAt}
+use Rattle.tape_scan.specs.Looking.{LooksAt}
 use Rattle.restore_chain.specs.Planning.{located, IsFirstMissing, AnswersChain, PlansOne}
-use Rattle.restore_chain.proofs.Looking.{looks_none}
+use Rattle.tape_scan.proofs.Looking.{looks_none}
 
 -- an answer for the chain of a dump is one for the dump
 pub answers_one : (slots : List Slot) (listed : List DumpRecordFields) (one : VolumeDump) (id : ℕ) (name bytes dumps : List ℕ) (r : Result ChainPlan RestoreFault)

@@ -1,3 +1,4 @@
-pub mod Loading
 pub mod Playing
 pub mod Planning
+pub mod Answers
+pub mod Restoring

@@ -6,11 +6,12 @@ ghost use Rattle.plant_effects.specs.Runs.{state_of};
 ghost use Rattle.tape_text.specs.Items.{Item, Read};
 ghost use Rattle.tape_scan.specs.Slots.{Slot};
 ghost use Rattle.archive_model.specs.Holding.{place_of, is_label_frame, is_head_frame, is_so, holds, holder_here};
-ghost use Rattle.restore_chain.specs.Loading.{IsSlot, HasSlots, LooksAt};
+ghost use Rattle.tape_scan.specs.Looking.{IsSlot, HasSlots, LooksAt};
 ghost use Rattle.restore_chain.specs.Planning.{is_frame, number_of};
 
 use crate::fault::LookFault;
-use crate::reading::{first_frame, frame_at};
+use crate::play_read::read_frame;
+use crate::reading::first_frame;
 use budb_changes::{DumpRecord, TapePart};
 use plant_core::Plant;
 use plant_effects::load_tape;
@@ -78,7 +79,7 @@ fn has_head<P: Plant>(
         Ok(()) => {}
         Err(_) => return Err(LookFault::Failed),
     }
-    match frame_at(alloc, plant, place) {
+    match read_frame(alloc, plant, place) {
         Ok(frame) => Ok(is_head(frame, id, tape)),
         Err(fault) => Err(fault),
     }

@@ -9,6 +9,8 @@ mod needs;
 mod planning;
 mod play_apply;
 mod play_called;
+mod play_chain;
+mod play_dump;
 mod play_fragment;
 mod play_joined;
 mod play_judge;
@@ -19,7 +21,13 @@ mod reading;
 pub use chain_plan::{ChainPlan, TapeNeed};
 pub use fault::RestoreFault;
 pub use laws::{
-    a_plan_has_one_answer, a_plan_leads_to_the_contents, a_refused_plan_is_a_refused_look_up,
-    what_is_put_away_is_read_as_before,
+    a_look_up_is_computed, a_plan_has_one_answer, a_plan_leads_to_the_contents,
+    a_plan_may_be_played, a_played_plan_has_one_answer, a_refused_plan_is_a_refused_look_up,
+    what_is_planned_and_played_is_looked_up, what_is_put_away_is_read_as_before,
+    what_was_written_is_restored,
 };
 pub use planning::plan;
+pub use play_chain::play;
+
+#[cfg(test)]
+mod tests;

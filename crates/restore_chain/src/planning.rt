@@ -4,7 +4,7 @@ ghost use Rattle.std.specs.Prelude.{◌≡◌, ◌≢◌, List as AnyList, Err, 
 ghost use Rattle.crash_moments.specs.Moments.{HasCauseAt};
 ghost use Rattle.plant_effects.specs.Runs.{StaysQuiet};
 ghost use Rattle.tape_scan.specs.Slots.{Slot};
-ghost use Rattle.restore_chain.specs.Loading.{HasSlots, Loads, LeavesLoads, LooksAt};
+ghost use Rattle.tape_scan.specs.Looking.{HasSlots, Loads, LeavesLoads, LooksAt};
 ghost use Rattle.tape_frames.specs.TapeNames.{numbered};
 ghost use Rattle.restore_chain.specs.Planning.{located, LocatesNext, Locates, answered, AnswersChain, PlansOne, Plans, IsPlanAnswer, restore_fault};
 
@@ -119,8 +119,8 @@ fn answer_of(found: Found, name: Name, dumps: List<u32>) -> Result<ChainPlan, Re
     }
 }
 
-/// What a plan answers where tapes weren't looked at.
-fn fault_of(fault: LookFault) -> RestoreFault
+/// What a restore answers where tapes weren't looked at.
+pub(crate) fn fault_of(fault: LookFault) -> RestoreFault
     ensures { result ≡ restore_fault fault }
 {
     match fault {

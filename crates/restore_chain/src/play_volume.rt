@@ -7,7 +7,7 @@ ghost use Rattle.budb_changes.specs.declared.records.DumpRecordFields.{DumpRecor
 ghost use Rattle.tape_text.specs.Wholes.{Lying};
 ghost use Rattle.tape_scan.specs.Slots.{Slot};
 ghost use Rattle.archive_model.specs.Holding.{called_head, called_frags, holder_here};
-ghost use Rattle.restore_chain.specs.Loading.{HasSlots, LooksAt};
+ghost use Rattle.tape_scan.specs.Looking.{HasSlots, LooksAt};
 ghost use Rattle.restore_chain.specs.Playing.{lying_of, AreHeld, EndsSo, Turns, TurnsAll, GivesSo};
 
 use crate::chain_plan::TapeNeed;

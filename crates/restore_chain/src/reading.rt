@@ -1,15 +1,15 @@
-//! The frames that records of tapes say.
+//! The frame that a tape's first record says.
 
-ghost use Rattle.std.specs.Prelude.{◌≡◌, ◌≢◌, ℕ, List as AnyList, slice_get, Some, IfOk, IsSome, IsTrue};
+ghost use Rattle.std.specs.Prelude.{◌≡◌, List as AnyList, slice_get, Some, IfOk, IsTrue};
 ghost use Rattle.plant_core.specs.Records.{Record, block_with, Shows};
-ghost use Rattle.plant_effects.specs.Runs.{state_of, loaded_of};
+ghost use Rattle.plant_effects.specs.Runs.{state_of};
 ghost use Rattle.tape_text.specs.Items.{Item, ReadsAs, Read};
-ghost use Rattle.restore_chain.specs.Loading.{LooksAt};
+ghost use Rattle.tape_scan.specs.Looking.{LooksAt};
 ghost use Rattle.restore_chain.specs.Planning.{frame_of};
 
 use crate::fault::LookFault;
 use plant_core::{Kind, Plant};
-use plant_effects::{get_record, peek_record};
+use plant_effects::peek_record;
 use std::alloc::{AllocError, Global};
 use tape_frames::{Block, Frame, FrameFault, decode};
 use tape_text::one_item;
@@ -56,30 +56,6 @@ pub(crate) fn first_frame<P: Plant>(
             Err(_) => Err(LookFault::Memory),
         },
         Ok(None) => Ok(None),
-        Err(_) => Err(LookFault::Failed),
-    }
-}
-
-/// The frame that a record of the loaded tape says; `None` where it says none, and where there is no such record.
-pub(crate) fn frame_at<P: Plant>(
-    alloc: Global,
-    plant: &mut P,
-    place: u32,
-) -> Result<Option<Frame>, LookFault>
-    requires sound { P.sound plant.old }
-    requires loaded { IsSome (loaded_of P.Plant plant.old) }
-    ensures frame { P.tells → (k : ℕ) (items : AnyList Item) → loaded_of P.Plant plant.old ≡ Some k → Read ((state_of P.Plant plant.old).tape k) items → IfOk result (λ frame. frame ≡ frame_of (slice_get items place)) }
-    ensures looks { LooksAt P.Plant LookFault.Failed plant.old plant.new result }
-{
-    if place >= plant.tape_len() {
-        return Ok(None);
-    }
-    let mut block = [0; 16384];
-    match get_record(plant, place, &mut block) {
-        Ok(kind) => match frame_shown(alloc, kind, &block) {
-            Ok(frame) => Ok(frame),
-            Err(_) => Err(LookFault::Memory),
-        },
         Err(_) => Err(LookFault::Failed),
     }
 }

@@ -5,7 +5,7 @@ use Rattle.archive_model.specs.Holding.{holds}
 use Rattle.restore_chain.specs.Planning.{number_of}
 use Rattle.restore_chain.specs.declared.fault.LookFault.TheVariants.{Failed}
 use Rattle.restore_chain.proofs.LeastSlots.{step_here, step_later, none_left, slot_there}
-use Rattle.restore_chain.proofs.Looking.{looks_well, looks_after, looks_as, loads_none, loads_both, slot_later}
+use Rattle.tape_scan.proofs.Looking.{looks_well, looks_after, looks_as, loads_none, loads_both, slot_later}
 use Rattle.restore_chain.proofs.holders.holder_of.Goals as goal
 
 pub loop-slot-init : goal.loop-slot-init

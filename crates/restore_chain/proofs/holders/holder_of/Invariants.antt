@@ -3,7 +3,7 @@ use Rattle.std.specs.Prelude.{find, ◌&&◌}
 use Rattle.plant_effects.specs.Runs.{StaysQuiet}
 use Rattle.tape_scan.specs.Slots.{Slot}
 use Rattle.archive_model.specs.Holding.{numbered_from, holds}
-use Rattle.restore_chain.specs.Loading.{HasSlots, Loads}
+use Rattle.tape_scan.specs.Looking.{HasSlots, Loads}
 use Rattle.restore_chain.proofs.holders.holder_of.Given as goal
 
 abbrev pub invariant-loop-slot : goal.invariant-loop-slot

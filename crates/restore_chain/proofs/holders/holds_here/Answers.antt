@@ -8,7 +8,7 @@ use Rattle.tape_text.specs.Items.{Read}
 use Rattle.archive_model.specs.Holding.{is_so, is_head_frame, holds}
 use Rattle.restore_chain.specs.declared.fault.LookFault.TheVariants.{Failed}
 use Rattle.restore_chain.proofs.Items.{holds_by}
-use Rattle.restore_chain.proofs.Looking.{looks_none, looks_after, loads_keep_tape}
+use Rattle.tape_scan.proofs.Looking.{looks_none, looks_after, loads_keep_tape}
 use Rattle.restore_chain.proofs.holders.holds_here.Goals as goal
 
 pub returns-in_default-clause-looks : goal.returns-in_default-clause-looks

@@ -1,6 +1,6 @@
 use Rattle.std.proofs.Common.{Ok, false}
 use Rattle.restore_chain.specs.declared.fault.LookFault.TheVariants.{Failed}
-use Rattle.restore_chain.proofs.Looking.{looks_none}
+use Rattle.tape_scan.proofs.Looking.{looks_none}
 use Rattle.restore_chain.proofs.holders.is_holder.Goals as goal
 
 pub returns-then-not-here-clause-looks : goal.returns-then-not-here-clause-looks

@@ -1,4 +1,4 @@
-use Rattle.restore_chain.proofs.Looking.{settling_keeps_tapes, settling_keeps_log, settling_keeps_told}
+use Rattle.tape_scan.proofs.Looking.{settling_keeps_tapes, settling_keeps_log, settling_keeps_told}
 use Rattle.restore_chain.proofs.laws.what_is_put_away_is_read_as_before.Goals as goal
 
 pub returns-clause-tapes : goal.returns-clause-tapes

@@ -8,10 +8,10 @@ use Rattle.restore_chain.specs.declared.fault.LookFault.TheVariants.{Failed}
 use Rattle.restore_chain.specs.declared.planning.Found.{Found}
 use Rattle.restore_chain.specs.declared.planning.Found.TheVariants.{Missing}
 use Rattle.tape_scan.specs.Slots.{Slot}
-use Rattle.restore_chain.specs.Loading.{HasSlots}
+use Rattle.tape_scan.specs.Looking.{HasSlots}
 use Rattle.restore_chain.specs.Planning.{located, LocatesNext, Locates}
 use Rattle.restore_chain.proofs.LocatedLaws.{is_not_there, located_more, none_missing_yet}
-use Rattle.restore_chain.proofs.Looking.{looks_well, looks_after, looks_as, loads_none, loads_both, slots_later}
+use Rattle.tape_scan.proofs.Looking.{looks_well, looks_after, looks_as, loads_none, loads_both, slots_later}
 use Rattle.restore_chain.proofs.planning.locate_all.Goals as goal
 
 pub loop-need-init : goal.loop-need-init

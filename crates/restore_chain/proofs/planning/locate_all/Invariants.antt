@@ -3,7 +3,7 @@ use Rattle.std.specs.Prelude.{find}
 use Rattle.plant_effects.specs.Runs.{StaysQuiet}
 use Rattle.tape_scan.specs.Slots.{Slot}
 use Rattle.archive_model.specs.Archives.{is_missing}
-use Rattle.restore_chain.specs.Loading.{HasSlots, Loads}
+use Rattle.tape_scan.specs.Looking.{HasSlots, Loads}
 use Rattle.restore_chain.specs.Planning.{located}
 use Rattle.restore_chain.proofs.planning.locate_all.Given as goal
 

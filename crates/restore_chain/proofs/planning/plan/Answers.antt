@@ -1,4 +1,4 @@
-use Rattle.restore_chain.proofs.Looking.{loads_none, leaves_loads}
+use Rattle.tape_scan.proofs.Looking.{loads_none, leaves_loads}
 use Rattle.restore_chain.proofs.planning.plan.Goals as goal
 
 pub returns-in-Ok-None-clause-done : goal.returns-in-Ok-None-clause-done

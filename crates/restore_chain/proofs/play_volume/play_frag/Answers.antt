@@ -3,7 +3,7 @@ use Rattle.restore_chain.specs.declared.fault.LookFault.TheVariants.{Failed, Mem
 use Rattle.restore_chain.specs.declared.play_volume.Turn.TheVariants as turns
 use Rattle.restore_chain.specs.declared.play_fragment.Ended.{Ended}
 use Rattle.restore_chain.specs.Playing.{lying_of, EndsSo}
-use Rattle.restore_chain.proofs.Looking.{looks_none}
+use Rattle.tape_scan.proofs.Looking.{looks_none}
 use Rattle.restore_chain.proofs.LoadLaws.{looks_err, looks_ok}
 use Rattle.restore_chain.proofs.VolumeLaws.{held_here, frag_whole, frag_bad, one_there}
 use Rattle.restore_chain.proofs.play_volume.play_frag.Goals as goal

@@ -4,7 +4,7 @@ use Rattle.dump_stream.specs.Inputs.{IsOpen}
 use Rattle.budb_changes.specs.declared.records.DumpRecordFields.{DumpRecordFields}
 use Rattle.tape_scan.specs.Slots.{Slot}
 use Rattle.archive_model.specs.Holding.{called_frags}
-use Rattle.restore_chain.specs.Loading.{HasSlots, Loads}
+use Rattle.tape_scan.specs.Looking.{HasSlots, Loads}
 use Rattle.restore_chain.specs.Playing.{AreHeld, HaveStood}
 use Rattle.restore_chain.proofs.play_volume.play_frags.Given as goal
 

@@ -1,6 +1,6 @@
 use Rattle.std.proofs.Common.{refl, Err}
 use Rattle.restore_chain.specs.declared.fault.LookFault.TheVariants.{Failed}
-use Rattle.restore_chain.proofs.Looking.{looks_ill, looks_after, a_load_loads, a_load_leaves}
+use Rattle.tape_scan.proofs.Looking.{looks_ill, looks_after, a_load_loads, a_load_leaves}
 use Rattle.restore_chain.proofs.LoadLaws.{reads_look, loaded_reads}
 use Rattle.restore_chain.proofs.play_volume.play_on.Goals as goal
 
