@@ -1,2 +1,10 @@
 pub mod Joins
 pub mod Uses
+pub mod Closings
+mod Names
+mod Slots
+mod Searching
+mod Beginnings
+mod Refusals
+mod Passings
+mod Settlings

@@ -3,3 +3,8 @@ pub mod Volumes
 pub mod Cloning
 pub mod Taping
 pub mod Ending
+pub mod Closing
+pub mod Passing
+pub mod Settling
+pub mod Faults
+pub mod Beginning

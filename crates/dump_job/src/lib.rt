@@ -2,11 +2,24 @@
 //! dump leaves what the steps before it made.
 #![tactic(auto)]
 
+mod beginning;
+mod checking;
 mod cloning;
+mod closing;
 mod ending;
+mod fault;
 mod fields;
+mod first_tapes;
+mod naming;
+mod next_tapes;
+mod order;
+mod part_ends;
 mod puts;
+mod settling;
 mod taping;
 mod volumes;
 
+pub use fault::JobFault;
 pub use fields::{Filled, Hand, JobFields, Phase, Reel};
+pub use first_tapes::FirstTape;
+pub use order::DumpOrder;

@@ -1,0 +1,12 @@
+use Rattle.std.proofs.lemmas.Result.{err_from_is_err_and}
+use Rattle.dump_job.proofs.Searching.{no_search, no_memory}
+use Rattle.dump_job.proofs.first_tapes.tape_within.Goals as goal
+
+pub returns-in_err-name-clause-plant : goal.returns-in_err-name-clause-plant
+returns-in_err-name-clause-plant g c =
+    let p = err_from_is_err_and c.from_residual.result c.from_residual.ensures.1 in
+    no_memory g.P.Plant c.from_residual.result p.0 c.args.plant.now p.1 p.2 c.requires.sound (λ told survives image left. g.met.P.Plant.left c.args.plant.now image told c.requires.sound survives left)
+
+pub returns-then-place-id-clause-plant : goal.returns-then-place-id-clause-plant
+returns-then-place-id-clause-plant g c =
+    no_search g.P.Plant _ c.args.plant.now (λ is. absurd (cc)) c.requires.sound (λ told survives image left. g.met.P.Plant.left c.args.plant.now image told c.requires.sound survives left)

@@ -1,0 +1,183 @@
+//! A dump is begun: it has a tape, and its begin is committed.
+
+ghost use Rattle.std.specs.Prelude.{◌≡◌, ◌⊎◌, ◌+◌, ◌≤◌, ◌++◌, [], ◌∷◌, ℕ, Bool, List as AnyList, length, IfOk, IfErr, OnOk, OnErr};
+ghost use Rattle.bk_text.specs.Alphabets.{IsHost};
+ghost use Rattle.byte_formats.specs.Forms.{IsMaybe};
+ghost use Rattle.crash_moments.specs.Moments.{HasCauseAt};
+ghost use Rattle.plant_core.specs.Effects.{commits};
+ghost use Rattle.plant_effects.specs.Runs.{state_of, Done, Leaves, StaysQuiet};
+ghost use Rattle.tape_frames.specs.Layouts.{IsDumpHead};
+ghost use Rattle.budb_changes.specs.declared.change.Change.{Change as AnyChange};
+ghost use Rattle.budb_changes.specs.Bytes.{encoded};
+ghost use Rattle.budb_changes.specs.Forms.{AreChanges};
+ghost use Rattle.budb_fold.specs.Database.{after_from};
+ghost use Rattle.budb_fold.specs.Lookups.{record_of};
+ghost use Rattle.budb.specs.Kept.{Keeps};
+ghost use Rattle.tape_scan.specs.Slots.{Slot};
+ghost use Rattle.tape_scan.specs.Looking.{HasSlots, Loads};
+ghost use Rattle.tape_choice.specs.Append.{AreWhole};
+ghost use Rattle.dump_job.specs.Faults.{UnlessFailed, LeavesBehindLoads};
+ghost use Rattle.dump_job.specs.Beginning.{id_of, first_tape, begin_changes, begin_effects, first_head, begun_job, IsReady, IsBegun, Refuses};
+
+use crate::checking::{new_id, passed_tape};
+use crate::fault::JobFault;
+use crate::fields::{JobFields, Phase};
+use crate::first_tapes::FirstTape;
+use crate::order::DumpOrder;
+use bk_text::List;
+use budb::{Budb, CommitFault};
+use budb_journal::{Change, DumpRecord, record_of};
+use plant_core::Plant;
+use std::alloc::{AllocError, Global};
+use tape_frames::{DumpHead, DumpHeadFields};
+
+/// The changes that begin a dump: its id is begun, and the dump set of the tape that it takes is forgotten.
+fn begin_changes(alloc: Global, id: u32, take: Option<u32>) -> Result<List<Change>, AllocError>
+    ensures { IfOk result (λ changes. changes ≡ begin_changes id take) }
+{
+    let mut changes = List::new(alloc);
+    changes.push(Change::Begin { id })?;
+    match take {
+        None => Ok(changes),
+        Some(initial) => {
+            changes.push(Change::Take { initial })?;
+            Ok(changes)
+        }
+    }
+}
+
+/// The head of the first part of a dump.
+fn first_head(order: &DumpOrder, id: u32, tape: &FirstTape) -> Result<DumpHead, AllocError>
+    requires form { IsDumpHead (first_head order.now id tape.now) }
+    requires few { length order.now.volumes ≤ 4294967295 }
+    ensures { IfOk result (λ head. head ≡ first_head order.now id tape.now) }
+{
+    Ok(DumpHead::new(DumpHeadFields {
+        id,
+        initial: tape.initial,
+        parent: order.parent,
+        expires: order.expires,
+        tape: tape.tape,
+        part: 1,
+        volumes: order.volumes.len() as u32,
+        set: order.set.clone()?,
+        level: order.level.clone()?,
+        base: tape.base.clone()?,
+        cell: order.cell.copy()?,
+        permanent: tape.permanent.copy()?,
+        uses: tape.uses,
+    }))
+}
+
+/// The listed dump of an id, once more.
+fn parent_record(listed: &[DumpRecord], parent: u32) -> Result<Option<DumpRecord>, AllocError>
+    ensures { IfOk result (λ dump. dump ≡ record_of listed.now parent) }
+{
+    match record_of(listed, parent) {
+        None => Ok(None),
+        Some(dump) => Ok(Some(dump.clone()?)),
+    }
+}
+
+/// What a dump has when it is begun.
+fn begun_job(
+    alloc: Global,
+    listed: &[DumpRecord],
+    order: DumpOrder,
+    id: u32,
+    tape: FirstTape,
+) -> Result<JobFields, AllocError>
+    requires form { IsDumpHead (first_head order id tape) }
+    requires few { length order.volumes ≤ 4294967295 }
+    ensures { IfOk result (λ job. job ≡ begun_job order listed.now id tape) }
+{
+    let head = first_head(&order, id, &tape)?;
+    let spare = first_head(&order, id, &tape)?;
+    let parent = parent_record(listed, order.parent)?;
+    let DumpOrder {
+        port,
+        volumes,
+        time,
+        ..
+    } = order;
+    let FirstTape { label, reel, .. } = tape;
+    Ok(JobFields {
+        port,
+        time,
+        places: volumes,
+        parent,
+        head,
+        spare: Some(spare),
+        label,
+        reel,
+        first: 0,
+        filled: List::new(alloc),
+        hand: None,
+        volumes: List::new(alloc),
+        phase: Phase::Tape,
+    })
+}
+
+/// Commits changes for which the log has room. Memory is refused before anything is written.
+fn commit_begin<P: Plant>(
+    budb: &mut Budb,
+    plant: &mut P,
+    changes: &[Change],
+) -> Result<(), JobFault>
+    requires sound { P.sound plant.old }
+    requires nothing { budb.old.prepared ≡ None }
+    requires room { (P.view plant.old).log_size + length (encoded changes.now) ≤ 268435456 }
+    ensures nothing { budb.new.prepared ≡ None }
+    ensures form { OnOk result (AreChanges changes.now) }
+    ensures made { OnOk result (budb.new.database ≡ after_from changes.now budb.old.database) }
+    ensures same { OnErr result (budb.new ≡ budb.old) }
+    ensures keeps { P.tells → (log : AnyList AnyChange) → Keeps log (state_of P.Plant plant.old).log budb.old → OnOk result (Keeps (log ++ changes.now) (state_of P.Plant plant.new).log budb.new) }
+    ensures only { IfErr result (λ fault. (fault ≡ JobFault.Failed) ⊎ (fault ≡ JobFault.Memory)) }
+    ensures memory_same { result ≡ Err JobFault.Memory → plant.new ≡ plant.old }
+    ensures done { OnOk result (Done P.Plant (commits (encoded changes.now) ∷ []) plant.old plant.new) }
+    ensures leaves { Leaves P.Plant (commits (encoded changes.now) ∷ []) plant.old plant.new }
+    ensures size { OnOk result ((P.view plant.new).log_size ≡ (P.view plant.old).log_size + length (encoded changes.now)) }
+    ensures stays { StaysQuiet P.Plant plant.old plant.new }
+    ensures cause { HasCauseAt JobFault.Failed (P.view plant.old).faults (P.view plant.new).faults result }
+{
+    match budb.commit(plant, changes) {
+        Ok(()) => Ok(()),
+        Err(CommitFault::LogFull { length }) => Err(JobFault::LogFull { length }),
+        Err(CommitFault::Failed) => Err(JobFault::Failed),
+        Err(CommitFault::Memory) => Err(JobFault::Memory),
+    }
+}
+
+/// Begins a dump of at least one volume: finds the tape on which it begins, which isn't cut yet, and commits its begin, and
+/// with it that the dump set of a tape that it takes is forgotten, as one effect. It is refused as `check_order` says, and then
+/// nothing is changed but the loaded tape. Memory is refused before anything is written.
+pub(crate) fn begin_job<P: Plant>(
+    alloc: Global,
+    budb: &mut Budb,
+    plant: &mut P,
+    order: DumpOrder,
+) -> Result<JobFields, JobFault>
+    requires sound { P.sound plant.old }
+    requires nothing { budb.old.prepared ≡ None }
+    requires some { 1 ≤ length order.volumes }
+    requires few { length order.volumes ≤ 4294967295 }
+    requires cell { IsMaybe IsHost order.cell }
+    ensures begun { IfOk result (IsBegun P.Plant order budb.old budb.new plant.old plant.new) }
+    ensures ready { IfOk result (λ job. IsReady P.Plant job plant.new) }
+    ensures refused { P.tells → (slots : AnyList Slot) (whole : ℕ → Bool) → HasSlots P.Plant slots plant.old → AreWhole P.Plant whole plant.old → Refuses (first_tape budb.old.database slots whole order (P.view plant.old).log_size) result }
+    ensures nothing { budb.new.prepared ≡ None }
+    ensures same { OnErr result (budb.new ≡ budb.old) }
+    ensures loads { OnErr result (UnlessFailed result (Loads P.Plant plant.old plant.new)) }
+    ensures log_size { OnErr result (UnlessFailed result ((P.view plant.new).log_size ≡ (P.view plant.old).log_size)) }
+    ensures leaves { P.tells → (slots : AnyList Slot) (whole : ℕ → Bool) → HasSlots P.Plant slots plant.old → AreWhole P.Plant whole plant.old → LeavesBehindLoads P.Plant (begin_effects (id_of order budb.old.database) (first_tape budb.old.database slots whole order (P.view plant.old).log_size)) plant.old plant.new }
+    ensures stays { StaysQuiet P.Plant plant.old plant.new }
+    ensures cause { HasCauseAt JobFault.Failed (P.view plant.old).faults (P.view plant.new).faults result }
+{
+    let tape = passed_tape(alloc, budb, plant, &order)?;
+    let id = new_id(order.time, budb.greatest_begun());
+    let changes = begin_changes(alloc, id, tape.take)?;
+    let listed = budb.database().listed.as_slice();
+    let job = begun_job(alloc, listed, order, id, tape)?;
+    commit_begin(budb, plant, changes.as_slice())?;
+    Ok(job)
+}
