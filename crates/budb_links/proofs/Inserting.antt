@@ -1,6 +1,7 @@
 -- An insert, push by push.
 use Rattle.std.proofs.Common.{◌≡◌, ◌≢◌, ℕ, zero, suc, ◌%◌, ◌<◌, ◌≤◌, List, [], ◌∷◌, ◌++◌, length, set, eqb, Option, Some, None, sym, ◌∙◌, ap, subst, arith}
 use Rattle.std.proofs.lemmas.List.{length-append}
+use Rattle.std.specs.List.{AllByRecursion}
 use Rattle.budb_changes.specs.declared.records.DumpRecordFields.{DumpRecordFields}
 use Rattle.budb_links.specs.declared.arena.TheConstants.{FAMILIES}
 use Rattle.budb_links.specs.Stands.{Stand, Apart}
@@ -28,6 +29,12 @@ module _ (arena : Woven) (slots : List (Option DumpRecordFields)) (free ps : Lis
       let f = free_last slots ps place stored.vacant in
       let apart = free_apart slots place es s.holds f.1 in
       subst (Apart place) (sym (s.chains family other in_range)) (apart_filter place (λ e. eqb (head_of family e.dump) other) es apart)
+
+  pub apart_in : AllByRecursion (λ e. e.place ≢ place) es
+  apart_in = let f = free_last slots ps place stored.vacant in free_apart slots place es s.holds f.1
+
+  pub some_in : length es < length slots
+  some_in = omega (arith, s.all, ap length last, length-append ps (place ∷ []))
 
   pub short_in : (family head : ℕ) → family < FAMILIES → length (chain_of arena family head) < length arena.rows
   short_in family head in_range =

@@ -74,11 +74,11 @@ free_set slots place o (p ∷ ps) a f = (
   free_set slots place o ps a.1 f.3,
 )
 
-front : (P : ℕ → Type 0) (ps : List ℕ) (p : ℕ) → AllByRecursion P (ps ++ p ∷ []) → AllByRecursion P ps
+pub front : (P : ℕ → Type 0) (ps : List ℕ) (p : ℕ) → AllByRecursion P (ps ++ p ∷ []) → AllByRecursion P ps
 front P [] p a = tt
 front P (x ∷ ps) p a = (a.0, front P ps p a.1)
 
-back : (P : ℕ → Type 0) (ps : List ℕ) (p : ℕ) → AllByRecursion P (ps ++ p ∷ []) → P p
+pub back : (P : ℕ → Type 0) (ps : List ℕ) (p : ℕ) → AllByRecursion P (ps ++ p ∷ []) → P p
 back P [] p a = a.0
 back P (x ∷ ps) p a = back P ps p a.1
 
@@ -94,7 +94,7 @@ free_last slots (x ∷ ps) p f =
     let ne : p ≢ x = back (λ o. o ≢ x) ps p f.2 in
     (rest.0, rest.1, ((λ e. ne (sym e)), rest.2))
 
-numbers_push : (P : ℕ → Type 0) (ps : List ℕ) (p : ℕ) → AllByRecursion P ps → P p → AllByRecursion P (ps ++ p ∷ [])
+pub numbers_push : (P : ℕ → Type 0) (ps : List ℕ) (p : ℕ) → AllByRecursion P ps → P p → AllByRecursion P (ps ++ p ∷ [])
 numbers_push P [] p a h = (h, tt)
 numbers_push P (x ∷ ps) p a h = (a.0, numbers_push P ps p a.1 h)
 

@@ -1,4 +1,5 @@
 pub mod Places
+pub mod KeyLaws
 pub mod Linking
 pub mod Weaving
 pub mod Columns
@@ -12,3 +13,5 @@ pub mod Room
 pub mod Walks
 pub mod Inserting
 pub mod Unlinking
+pub mod KeyedLaws
+pub mod KeyedStoring

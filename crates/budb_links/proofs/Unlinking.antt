@@ -9,7 +9,7 @@ use Rattle.budb_links.specs.Entries.{Entry, record_of, without_id}
 use Rattle.budb_links.specs.Stored.{slot_at, stand_of, entries_of, Stores}
 use Rattle.budb_links.proofs.Storing.{dumps_of, all_in, slot_of, found_place, found_record, found_slot, stored_is, stores_as}
 use Rattle.budb_links.proofs.Keeping.{fresh_id}
-use Rattle.budb_links.proofs.Removing.{found_full, full_within, without_fresh, one_less, removed}
+use Rattle.budb_links.proofs.Removing.{Agree, agree, found_full, full_within, without_fresh, one_less, removed}
 
 place_among : (id place : ℕ) (ss : List Stand) → place_of id ss ≡ Some place → Among place ss
 place_among id place [] e = absurd (let no : ⊥ = cc in no)
@@ -36,6 +36,9 @@ module _ (arena : Woven) (slots : List (Option DumpRecordFields)) (free : List �
   module _ (place : ℕ) (found : place_of id (chain_of arena 1 bucket) ≡ Some place) where
     found_whole : place_of id (map stand_of es) ≡ Some place
     found_whole = sym (found_place arena slots free es id bucket is s) ∙ found
+
+    pub agreed : Agree id place es
+    agreed = agree slots id place es s.holds s.ids found_whole
 
     pub found_in_slots : place < length slots
     found_in_slots =

@@ -5,25 +5,22 @@ use Rattle.std.proofs.lemmas.Bool.{eq-eqb, ne_eqb, cond-true, cond-false}
 use Rattle.budb_changes.specs.declared.records.DumpRecordFields.{DumpRecordFields}
 use Rattle.budb_links.specs.Stands.{Stand, first_place, Apart, Among, Distinct, place_behind}
 use Rattle.budb_links.specs.Chained.{Woven, chain_of}
-use Rattle.budb_links.specs.Entries.{Entry}
+use Rattle.budb_links.specs.Entries.{Entry, places_of}
 use Rattle.budb_links.specs.Stored.{stand_of, Stores}
 use Rattle.budb_links.proofs.Storing.{all_in}
 
 abbrev pub places_in : List Stand → List ℕ
 places_in = map (λ s. s.place)
 
-abbrev places_of : List Entry → List ℕ
-places_of = map (λ e. e.place)
-
-same_places : (es : List Entry) → places_in (map stand_of es) ≡ places_of es
+pub same_places : (es : List Entry) → places_in (map stand_of es) ≡ places_of es
 same_places [] = refl
 same_places (e ∷ es) = ap (λ (t : List ℕ). e.place ∷ t) (same_places es)
 
-first_at : (ss : List Stand) → first_place ss None ≡ slice_get (places_in ss) 0
+pub first_at : (ss : List Stand) → first_place ss None ≡ slice_get (places_in ss) 0
 first_at [] = refl
 first_at (s ∷ ss) = refl
 
-among_at : (ss : List Stand) (index place : ℕ) → slice_get (places_in ss) index ≡ Some place → Among place ss
+pub among_at : (ss : List Stand) (index place : ℕ) → slice_get (places_in ss) index ≡ Some place → Among place ss
 among_at [] index place e = absurd (let no : ⊥ = cc in no)
 among_at (s ∷ ss) zero place e = let same : s.place ≡ place = cc in inl same
 among_at (s ∷ ss) (suc index) place e = inr (among_at ss index place e)
@@ -33,7 +30,7 @@ apart_at own [] index place a e = absurd (let no : ⊥ = cc in no)
 apart_at own (s ∷ ss) zero place a e = let same : s.place ≡ place = cc in λ h. a.0 (same ∙ sym h)
 apart_at own (s ∷ ss) (suc index) place a e = apart_at own ss index place a.1 e
 
-behind_at : (ss : List Stand) (index place : ℕ) → Distinct ss → slice_get (places_in ss) index ≡ Some place → place_behind place ss ≡ slice_get (places_in ss) (suc index)
+pub behind_at : (ss : List Stand) (index place : ℕ) → Distinct ss → slice_get (places_in ss) index ≡ Some place → place_behind place ss ≡ slice_get (places_in ss) (suc index)
 behind_at [] index place d e = absurd (let no : ⊥ = cc in no)
 behind_at (s ∷ ss) zero place d e =
     let same : s.place ≡ place = cc in

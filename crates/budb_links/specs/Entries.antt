@@ -1,6 +1,8 @@
 -- Records of dumps, each at a place.
 use Rattle.std.specs.Prelude.{ℕ, ◌%◌, List, [], ◌∷◌, map, not, ◌==◌, if◌then◌else◌, length, Option, Some, None}
 use Rattle.std.specs.List.{filter, find}
+use Rattle.std.specs.Int.{w32, to_be_bytes}
+use Rattle.bk_text.specs.Blanks.{is_same_text}
 use Rattle.budb_changes.specs.declared.records.DumpRecordFields.{DumpRecordFields}
 
 -- a record, and its place
@@ -20,8 +22,18 @@ entry_at place dump = record { place = place; dump = dump }
 abbrev pub listed : Linked → List DumpRecordFields
 listed links = map (λ entry. entry.dump) links.entries
 
+abbrev pub places_of : List Entry → List ℕ
+places_of = map (λ entry. entry.place)
+
 abbrev pub places : Linked → List ℕ
-places links = map (λ entry. entry.place) links.entries
+places links = places_of links.entries
+
+-- the records of a volume set, and those of an initial id in its four bytes
+abbrev pub of_set : List ℕ → List Entry → List Entry
+of_set key = filter (λ entry. is_same_text entry.dump.set key)
+
+abbrev pub of_initial : List ℕ → List Entry → List Entry
+of_initial key = filter (λ entry. is_same_text (to_be_bytes w32 entry.dump.initial) key)
 
 -- the record of an id
 abbrev pub record_of : ℕ → List DumpRecordFields → Option DumpRecordFields

@@ -2,8 +2,11 @@
 #![tactic(auto)]
 
 mod arena;
+mod keys;
 mod links;
+mod numbers;
 mod shelf;
+mod spare;
 mod steps;
 
 pub use links::Links;

@@ -1,11 +1,14 @@
-//! The records of dumps, linked by index: all of them in the order of recording, and those of each bucket of ids.
+//! The records of dumps, linked by index: all of them in the order of recording, and those of each bucket of ids, of each
+//! volume set and of each initial id.
 
 ghost use Rattle.std.specs.Prelude.{◌≡◌, ◌≢◌, ℕ, ◌+◌, ◌%◌, ◌^◌, ◌<◌, ◌≤◌, [], ◌∷◌, ◌++◌, length, slice_get, Some, None, OnOk, OnErr, IsOk, is_some, if◌then◌else◌, vec_len, vec_capacity};
 ghost use Rattle.std.specs.Option.{option_copied};
-ghost use Rattle.budb_links.specs.Entries.{entry_at, listed, places, record_of, record_at, without_id, of_bucket};
+ghost use Rattle.budb_links.specs.Entries.{entry_at, listed, places, places_of, record_of, record_at, without_id, of_bucket, of_set, of_initial};
 
 use crate::arena::Arena;
+use crate::keys::{IDS, Keys, NAMES, unlink_keys};
 use crate::shelf::Shelf;
+use crate::spare::add_free;
 use crate::steps::Steps;
 use budb_changes::DumpRecord;
 use std::alloc::{AllocError, Global};
@@ -28,6 +31,7 @@ pub struct Links {
     arena: Arena,
     shelf: Shelf,
     free: Vec<usize>,
+    keys: Keys,
 }
 
 impl Model for Links {
@@ -38,31 +42,18 @@ impl Model for Links {
 
     ghost use Rattle.budb_links.specs.Chained.{chain_of};
     ghost use Rattle.budb_links.specs.Stored.{Stores, entries_of};
+    ghost use Rattle.budb_links.specs.Keyed.{StoresKeys};
 
     ghost view = { λ a. record { entries = entries_of a.shelf (chain_of a.arena 0 0); spare_records = length a.free.items } };
 
-    ghost invariant = { λ a. Stores a.arena a.shelf a.free.items (entries_of a.shelf (chain_of a.arena 0 0)) × (length a.shelf ≤ vec_capacity a.free) };
+    ghost invariant = { λ a. Stores a.arena a.shelf a.free.items (entries_of a.shelf (chain_of a.arena 0 0)) × (length a.shelf ≤ vec_capacity a.free) × StoresKeys a.keys (length a.shelf) (entries_of a.shelf (chain_of a.arena 0 0)) };
 }
-
-ghost use Rattle.budb_links.specs.Stored.{numbers_from};
 
 /// The remainder of an id.
 fn bucket_of(id: u32) -> usize
     ensures { result ≡ id % 1024 }
 {
     id as usize % BUCKETS
-}
-
-/// Counts new places among the free ones.
-fn add_free(free: &mut Vec<usize>, first: usize, count: usize)
-    requires room { vec_len free.old + count ≤ vec_capacity free.old }
-    requires small { first + count < 2 ^ 64 }
-    ensures items { free.new.items ≡ free.old.items ++ numbers_from first count }
-    ensures capacity { vec_capacity free.new ≡ vec_capacity free.old }
-{
-    for more in 0..count {
-        free.push_reserved(first + more);
-    }
 }
 
 impl Links {
@@ -75,6 +66,7 @@ impl Links {
             arena: Arena::new(alloc),
             shelf: Shelf::new(alloc),
             free: Vec::new(alloc),
+            keys: Keys::new(alloc),
         }
     }
 
@@ -95,6 +87,7 @@ impl Links {
         let total = first.checked_add(count).ok_or(AllocError)?;
         self.arena.reserve(BUCKETS, total)?;
         self.free.reserve(total)?;
+        self.keys.reserve(total)?;
         self.shelf.grow(count)?;
         add_free(&mut self.free, first, count);
         Ok(())
@@ -119,6 +112,9 @@ impl Links {
         let place = self.free.take_last();
         self.arena.push(ALL, 0, place, id, steps);
         self.arena.push(BY_ID, bucket_of(id), place, id, steps);
+        let fields = dump.fields();
+        self.keys
+            .link(place, id, fields.set.bytes(), fields.initial, steps);
         self.shelf.put(place, dump, steps);
     }
 
@@ -127,7 +123,7 @@ impl Links {
         ensures record { result ≡ record_of id (listed self.old) }
         ensures entries { self.new.entries ≡ without_id id self.old.entries }
         ensures spare { self.new.spare_records ≡ (if is_some result then self.old.spare_records + 1 else self.old.spare_records) }
-        ensures cost { steps.new ≤ steps.old + of_bucket id (listed self.old) + 10 }
+        ensures cost { steps.new ≤ steps.old + of_bucket id (listed self.old) + 11 }
     {
         match self.arena.find(BY_ID, bucket_of(id), id, steps) {
             None => None,
@@ -136,7 +132,9 @@ impl Links {
                 self.arena.cut(ALL, place, row[ALL], steps);
                 self.arena.cut(BY_ID, place, row[BY_ID], steps);
                 self.free.push_reserved(place);
-                self.shelf.take(place, steps)
+                let taken = self.shelf.take(place, steps);
+                unlink_keys(&mut self.keys, place, &taken, steps);
+                taken
             }
         }
     }
@@ -161,6 +159,42 @@ impl Links {
         match at {
             None => self.arena.first(ALL, 0),
             Some(place) => self.arena.after(ALL, place, steps),
+        }
+    }
+
+    /// The first place in the chain of the records of a volume set, or the one behind a place in it. The key is the set's
+    /// name.
+    pub fn walk_set<L: Ledger>(
+        &self,
+        key: &[u8],
+        at: Option<usize>,
+        steps: &mut Steps<L>,
+    ) -> Option<usize>
+        ensures first { at ≡ None → result ≡ slice_get (places_of (of_set key.now self.now.entries)) 0 }
+        ensures behind { (index place : ℕ) → at ≡ Some place → slice_get (places_of (of_set key.now self.now.entries)) index ≡ Some place → result ≡ slice_get (places_of (of_set key.now self.now.entries)) (index + 1) }
+        ensures cost { steps.new ≤ steps.old + 1 }
+    {
+        match at {
+            None => self.keys.first_of_name(key),
+            Some(place) => self.keys.after(NAMES, place, steps),
+        }
+    }
+
+    /// The first place in the chain of the records of an initial id, or the one behind a place in it. The key is the id in
+    /// four bytes, the highest first.
+    pub fn walk_initial<L: Ledger>(
+        &self,
+        key: &[u8],
+        at: Option<usize>,
+        steps: &mut Steps<L>,
+    ) -> Option<usize>
+        ensures first { at ≡ None → result ≡ slice_get (places_of (of_initial key.now self.now.entries)) 0 }
+        ensures behind { (index place : ℕ) → at ≡ Some place → slice_get (places_of (of_initial key.now self.now.entries)) index ≡ Some place → result ≡ slice_get (places_of (of_initial key.now self.now.entries)) (index + 1) }
+        ensures cost { steps.new ≤ steps.old + 1 }
+    {
+        match at {
+            None => self.keys.first_of_id(key),
+            Some(place) => self.keys.after(IDS, place, steps),
         }
     }
 

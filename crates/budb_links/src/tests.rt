@@ -154,6 +154,52 @@ fn beside_a_list<L: Ledger>(alloc: Global, blank: Blank) -> Option<bool>
     Some(true)
 }
 
+/// How many places there are in the chain of the set `s`.
+fn count_of_set<L: Ledger>(links: &Links, most: usize, steps: &mut Steps<L>) -> usize {
+    let mut count = 0;
+    let mut at = links.walk_set(b"s", None, steps);
+    for met in 0..most {
+        if at.is_none() {
+            return count;
+        }
+        count = met + 1;
+        at = links.walk_set(b"s", at, steps);
+    }
+    count
+}
+
+/// Whether a record is in the chain of an id as an initial id.
+fn has_initial<L: Ledger>(links: &Links, id: u32, steps: &mut Steps<L>) -> bool {
+    let key = id.to_be_bytes();
+    links.walk_initial(key.as_slice(), None, steps).is_some()
+}
+
+/// The ids 5 and 6 in one set, each its own initial id, and 5 taken out.
+fn keys_are_walked<L: Ledger>(alloc: Global, blank: Blank) -> Option<bool>
+    requires name { blank.name ≡ L.name }
+    requires parts { blank.parts ≡ L.parts }
+    requires one { 0 < blank.parts }
+{
+    let mut steps = Steps::<L>::new(blank);
+    let mut links = Links::new(alloc);
+    links.reserve(2).ok()?;
+    put(alloc, &mut links, 5, &mut steps)?;
+    put(alloc, &mut links, 6, &mut steps)?;
+    let two = count_of_set(&links, 9, &mut steps);
+    links.unlink(5, &mut steps)?;
+    let one = count_of_set(&links, 9, &mut steps);
+    let gone = has_initial(&links, 5, &mut steps);
+    let left = has_initial(&links, 6, &mut steps);
+    Some((two, one, gone, left) == (2, 1, false, true))
+}
+
+#[test]
+fn the_keys_are_walked(rt: HostRuntime) -> Result<(), Fail> {
+    let holds = keys_are_walked::<Brand>(rt.alloc(), Blank::new(1)).ok_or("memory")?;
+    assert!(rt; holds);
+    Ok(())
+}
+
 #[test]
 fn the_middle_is_taken_out(rt: HostRuntime) -> Result<(), Fail> {
     let holds = middle_taken_out::<Brand>(rt.alloc(), Blank::new(1)).ok_or("memory")?;

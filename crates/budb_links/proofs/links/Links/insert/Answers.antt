@@ -1,11 +1,12 @@
-use Rattle.std.proofs.Common.{◌%◌, ◌++◌, ◌∷◌, [], ℕ, List, Option, Some, length, sym, ◌∙◌, ap, subst, arith}
+use Rattle.std.proofs.Common.{◌≡◌, ◌%◌, ◌++◌, ◌∷◌, [], ℕ, List, Option, Some, length, sym, ◌∙◌, ap, subst, arith}
 use Rattle.std.proofs.lemmas.List.{length-set}
 use Rattle.budb_changes.specs.declared.records.DumpRecordFields.{DumpRecordFields}
 use Rattle.budb_links.specs.Stands.{Apart}
 use Rattle.budb_links.specs.Chained.{chain_of}
 use Rattle.budb_links.specs.Entries.{Linked, entry_at, listed, record_of}
 use Rattle.budb_links.specs.Stored.{entries_of, Stores}
-use Rattle.budb_links.proofs.Inserting.{Pushed, slot_in, row_in, heads_in, fresh_in, short_in, insert_stores, insert_is}
+use Rattle.budb_links.proofs.Inserting.{Pushed, slot_in, row_in, heads_in, fresh_in, apart_in, some_in, short_in, insert_stores, insert_is}
+use Rattle.budb_links.proofs.KeyedStoring.{spare_there, fresh_by, short_by, linked_keys}
 use Rattle.budb_links.proofs.links.Links.insert.Given as given
 use Rattle.budb_links.proofs.links.Links.insert.Goals as goal
 
@@ -43,6 +44,30 @@ push-requires-2-clause-few g c =
     let same = ap length (c.push.ensures.families 1 c.bucket_of.result (λ e. cc)) in
     omega (arith, short, same, c.push.ensures.places)
 
+pub link-requires-clause-room : goal.link-requires-clause-room
+link-requires-clause-room g c = λ family h absent.
+    let es = entries_of c.self.inside.shelf (chain_of c.self.inside.arena 0 0) in
+    let some = some_in c.self.inside.arena c.self.inside.shelf c.self.inside.free.items c.take_last-place.new.self.items c.take_last-place.result es c.self.invariant.0 c.take_last-place.ensures.items in
+    spare_there c.self.inside.keys (length c.self.inside.shelf) es c.self.invariant.2 family h some
+
+pub link-requires-clause-place_in : goal.link-requires-clause-place_in
+link-requires-clause-place_in g c =
+    let within = slot_in c.self.inside.arena c.self.inside.shelf c.self.inside.free.items c.take_last-place.new.self.items c.take_last-place.result (entries_of c.self.inside.shelf (chain_of c.self.inside.arena 0 0)) c.self.invariant.0 c.take_last-place.ensures.items in
+    let keys = c.self.invariant.2 in
+    omega (arith, within, keys.rows)
+
+pub link-requires-clause-fresh : goal.link-requires-clause-fresh
+link-requires-clause-fresh g c = λ family head h.
+    let es = entries_of c.self.inside.shelf (chain_of c.self.inside.arena 0 0) in
+    let apart = apart_in c.self.inside.arena c.self.inside.shelf c.self.inside.free.items c.take_last-place.new.self.items c.take_last-place.result es c.self.invariant.0 c.take_last-place.ensures.items in
+    fresh_by c.self.inside.keys (length c.self.inside.shelf) es c.self.invariant.2 family h c.take_last-place.result head apart
+
+pub link-requires-clause-few : goal.link-requires-clause-few
+link-requires-clause-few g c = λ family head h.
+    let es = entries_of c.self.inside.shelf (chain_of c.self.inside.arena 0 0) in
+    let some = some_in c.self.inside.arena c.self.inside.shelf c.self.inside.free.items c.take_last-place.new.self.items c.take_last-place.result es c.self.invariant.0 c.take_last-place.ensures.items in
+    short_by c.self.inside.keys (length c.self.inside.shelf) es c.self.invariant.2 family h head some
+
 pub put-requires : goal.put-requires
 put-requires g c = slot_in c.self.inside.arena c.self.inside.shelf c.self.inside.free.items c.take_last-place.new.self.items c.take_last-place.result (entries_of c.self.inside.shelf (chain_of c.self.inside.arena 0 0)) c.self.invariant.0 c.take_last-place.ensures.items
 
@@ -78,17 +103,22 @@ second g c =
       heads = c.push-2.ensures.heads;
     }))
 
+entries : (g : given.Over) (c : goal.After-put g) → entries_of c.put.new.self (chain_of c.push-2.new.self 0 0) ≡ entries_of c.self.inside.shelf (chain_of c.self.inside.arena 0 0) ++ entry_at c.take_last-place.result c.args.dump ∷ []
+entries g c =
+    let fresh = ap (λ (l : Linked). record_of c.args.dump.id (listed l)) c.self.view_is ∙ c.requires.fresh in
+    let made = insert_is c.self.inside.arena c.push.new.self c.push-2.new.self c.self.inside.shelf c.self.inside.free.items c.take_last-place.new.self.items c.take_last-place.result (entries_of c.self.inside.shelf (chain_of c.self.inside.arena 0 0)) c.self.invariant.0 c.take_last-place.ensures.items c.args.dump fresh (first g c) (second g c) in
+    ap (λ (t : List (Option DumpRecordFields)). entries_of t (chain_of c.push-2.new.self 0 0)) c.put.ensures.slots ∙ made
+
 pub invariant_of-self : goal.invariant_of-self
 invariant_of-self g c =
     let fresh = ap (λ (l : Linked). record_of c.args.dump.id (listed l)) c.self.view_is ∙ c.requires.fresh in
     let made = insert_stores c.self.inside.arena c.push.new.self c.push-2.new.self c.self.inside.shelf c.self.inside.free.items c.take_last-place.new.self.items c.take_last-place.result (entries_of c.self.inside.shelf (chain_of c.self.inside.arena 0 0)) c.self.invariant.0 c.take_last-place.ensures.items c.args.dump fresh (first g c) (second g c) in
     let stores = subst (λ (t : List (Option DumpRecordFields)). Stores c.push-2.new.self t c.take_last-place.new.self.items (entries_of t (chain_of c.push-2.new.self 0 0))) (sym c.put.ensures.slots) made in
     let long = ap length c.put.ensures.slots ∙ length-set c.self.inside.shelf c.take_last-place.result (Some c.args.dump) in
-    (stores, omega (arith, long, c.take_last-place.ensures.capacity, c.self.invariant.1))
+    let fields = c.fields-fields.ensures.value in
+    let keys = linked_keys c.self.inside.keys c.link.new.self (length c.self.inside.shelf) (length c.put.new.self) (entries_of c.self.inside.shelf (chain_of c.self.inside.arena 0 0)) (entries_of c.put.new.self (chain_of c.push-2.new.self 0 0)) c.take_last-place.result c.args.dump c.bytes.result.now c.fields-fields.result.now.initial c.fields.result.now.id (c.bytes.ensures.value ∙ ap (λ (d : DumpRecordFields). d.set) fields) (ap (λ (d : DumpRecordFields). d.initial) fields) (ap (λ (d : DumpRecordFields). d.id) c.fields.ensures.value) c.self.invariant.2 c.link.ensures.keeps c.link.ensures.chains c.link.ensures.rows c.link.ensures.room long (entries g c) in
+    (stores, omega (arith, long, c.take_last-place.ensures.capacity, c.self.invariant.1), keys)
 
 pub returns-clause-entries : goal.returns-clause-entries
 returns-clause-entries g c =
-    let fresh = ap (λ (l : Linked). record_of c.args.dump.id (listed l)) c.self.view_is ∙ c.requires.fresh in
-    let made = insert_is c.self.inside.arena c.push.new.self c.push-2.new.self c.self.inside.shelf c.self.inside.free.items c.take_last-place.new.self.items c.take_last-place.result (entries_of c.self.inside.shelf (chain_of c.self.inside.arena 0 0)) c.self.invariant.0 c.take_last-place.ensures.items c.args.dump fresh (first g c) (second g c) in
-    let here = ap (λ (t : List (Option DumpRecordFields)). entries_of t (chain_of c.push-2.new.self 0 0)) c.put.ensures.slots ∙ made in
-    (c.take_last-place.result, here ∙ ap (λ (l : Linked). l.entries ++ entry_at c.take_last-place.result c.args.dump ∷ []) c.self.view_is)
+    (c.take_last-place.result, entries g c ∙ ap (λ (l : Linked). l.entries ++ entry_at c.take_last-place.result c.args.dump ∷ []) c.self.view_is)

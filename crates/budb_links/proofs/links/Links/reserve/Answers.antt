@@ -6,6 +6,7 @@ use Rattle.budb_links.specs.Chained.{chain_of}
 use Rattle.budb_links.specs.Entries.{Linked}
 use Rattle.budb_links.specs.Stored.{entries_of, numbers_from}
 use Rattle.budb_links.proofs.Room.{roomy, numbers_long}
+use Rattle.budb_links.proofs.KeyedStoring.{wider_keys}
 use Rattle.budb_links.proofs.links.Links.reserve.Goals as goal
 
 abbrev blanks : ℕ → List (Option DumpRecordFields)
@@ -24,7 +25,10 @@ invariant_of-self-2 c =
     let made = roomy c.self.inside.arena c.reserve.new.self c.self.inside.shelf c.grow.new.self c.self.inside.free.items c.add_free.new.free.items (entries_of c.self.inside.shelf (chain_of c.self.inside.arena 0 0)) c.places-first.result count c.self.invariant.0 c.reserve.ensures.chains c.reserve.ensures.kept_places c.reserve.ensures.kept_heads enough heads c.places-first.ensures c.in_ok-grow.ensures.ok free in
     let long = ap length c.in_ok-grow.ensures.ok ∙ length-append c.self.inside.shelf (blanks count) in
     let more = blanks_long count in
-    (made.stores, omega (arith, long, more, parts, c.places-first.ensures, c.add_free.ensures.capacity, c.in_ok-reserve-2.ensures.ok))
+    let es = entries_of c.self.inside.shelf (chain_of c.self.inside.arena 0 0) in
+    let places : length c.grow.new.self ≡ c.places-first.result + count = omega (arith, long, more, c.places-first.ensures) in
+    let keys = wider_keys c.self.inside.keys c.reserve-3.new.self (length c.self.inside.shelf) (length c.grow.new.self) es (entries_of c.grow.new.self (chain_of c.reserve.new.self 0 0)) c.self.invariant.2 c.reserve-3.ensures.keeps c.reserve-3.ensures.chains (omega (arith, places, parts, c.in_ok-reserve-3.ensures.rows)) (λ family h. omega (arith, places, parts, c.in_ok-reserve-3.ensures.room family)) made.same in
+    (made.stores, omega (arith, long, more, parts, c.places-first.ensures, c.add_free.ensures.capacity, c.in_ok-reserve-2.ensures.ok), keys)
 
 pub returns-clause-entries : goal.returns-clause-entries
 returns-clause-entries c =

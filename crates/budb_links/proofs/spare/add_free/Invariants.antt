@@ -1,7 +1,7 @@
 use Rattle.std.proofs.Common.{◌≡◌, ◌+◌, ◌++◌, vec_len}
 use Rattle.std.specs.Prelude.{vec_capacity}
 use Rattle.budb_links.specs.Stored.{numbers_from}
-use Rattle.budb_links.proofs.links.add_free.Given as goal
+use Rattle.budb_links.proofs.spare.add_free.Given as goal
 
 abbrev pub invariant-loop-more : goal.invariant-loop-more
 invariant-loop-more l = record {

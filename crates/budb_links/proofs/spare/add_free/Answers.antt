@@ -1,6 +1,6 @@
 use Rattle.std.proofs.Common.{ℕ, ◌+◌, ◌++◌, ◌∷◌, [], List, arith, ◌∙◌, ap}
 use Rattle.budb_links.proofs.Room.{numbers_more}
-use Rattle.budb_links.proofs.links.add_free.Goals as goal
+use Rattle.budb_links.proofs.spare.add_free.Goals as goal
 
 pub loop-more-preserved : goal.loop-more-preserved
 loop-more-preserved c = record {

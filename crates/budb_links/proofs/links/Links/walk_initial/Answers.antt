@@ -1,0 +1,24 @@
+use Rattle.std.proofs.Common.{◌≡◌, ◌+◌, Some, length, sym, ◌∙◌, ap, arith}
+use Rattle.std.specs.Prelude.{slice_get}
+use Rattle.budb_links.specs.Chained.{chain_of}
+use Rattle.budb_links.specs.Entries.{Linked, places_of, of_initial}
+use Rattle.budb_links.specs.Stored.{entries_of}
+use Rattle.budb_links.proofs.KeyedStoring.{first_by, behind_by}
+use Rattle.budb_links.proofs.links.Links.walk_initial.Goals as goal
+
+pub returns-in-None-clause-first : goal.returns-in-None-clause-first
+returns-in-None-clause-first g c = λ none.
+    let slots = c.self.inside.shelf in
+    let es = entries_of slots (chain_of c.self.inside.arena 0 0) in
+    c.first_of_id.ensures
+    ∙ first_by c.self.inside.keys (length slots) es c.self.invariant.2 1 (omega arith) c.args.key.now
+    ∙ ap (λ (l : Linked). slice_get (places_of (of_initial c.args.key.now l.entries)) 0) c.self.view_is
+
+pub returns-in-Some-clause-behind : goal.returns-in-Some-clause-behind
+returns-in-Some-clause-behind g c = λ index place at stands.
+    let slots = c.self.inside.shelf in
+    let es = entries_of slots (chain_of c.self.inside.arena 0 0) in
+    let same : c.in-Some.place ≡ place = cc (c.in-Some.is, at) in
+    let mine = ap (λ (l : Linked). slice_get (places_of (of_initial c.args.key.now l.entries)) index) c.self.view_is ∙ stands ∙ ap Some (sym same) in
+    behind_by c.self.inside.keys (length slots) es c.self.invariant.2 1 (omega arith) c.args.key.now c.in-Some.place index c.after.result c.after.ensures.distinct c.after.ensures.behind mine
+    ∙ ap (λ (l : Linked). slice_get (places_of (of_initial c.args.key.now l.entries)) (index + 1)) c.self.view_is
