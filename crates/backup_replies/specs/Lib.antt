@@ -8,3 +8,5 @@ pub mod Dumps
 pub mod Sets
 pub mod Hosts
 pub mod WordRefusals
+pub mod Restores
+pub mod Scans

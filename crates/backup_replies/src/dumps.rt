@@ -21,7 +21,12 @@ fn last_element(level: &LevelPath) -> &[u8]
     level.last()
 }
 
-fn put_dump_name(line: &mut Out, set: &SetName, level: &LevelPath) -> Result<(), AllocError>
+/// The name of a dump, behind a space.
+pub(crate) fn put_dump_name(
+    line: &mut Out,
+    set: &SetName,
+    level: &LevelPath,
+) -> Result<(), AllocError>
     ensures { OnOk result (line.new ≡ line.old ++ then_word (dump_name set.now level.now)) }
 {
     put_word(line, set.bytes())?;

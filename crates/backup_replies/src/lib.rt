@@ -11,6 +11,8 @@ mod levels;
 mod putting;
 mod refusals;
 mod refused;
+mod restores;
+mod scans;
 mod sets;
 mod streams;
 mod told;
@@ -24,7 +26,14 @@ pub use labels::{label_lines, labeled_lines};
 pub use levels::levels_lines;
 pub use putting::ok_line;
 pub use refusals::Refusal;
-pub use refused::{refused_alone, refused_at, refused_number, refused_numbers, refused_word};
+pub use refused::{
+    put_refused_number, put_refused_numbers, refused_alone, refused_at, refused_number,
+    refused_numbers, refused_word,
+};
+pub use restores::{
+    put_made, put_need, put_restored, put_would_dump, put_would_restore, put_would_volume,
+};
+pub use scans::{put_added, put_found};
 pub use sets::{set_reply, sets_lines};
 pub use streams::{bad_line, cut_line, entry_line, usage_line, volume_line};
 pub use told::has_refusal;

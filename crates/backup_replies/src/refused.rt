@@ -1,6 +1,6 @@
 //! The lines of refusals.
 
-ghost use Rattle.std.specs.Prelude.{◌≡◌, IfOk};
+ghost use Rattle.std.specs.Prelude.{◌≡◌, ◌++◌, IfOk, OnOk};
 ghost use Rattle.backup_replies.specs.Texts.{refused_alone, refused_word, refused_number, refused_at, refused_numbers};
 
 use crate::putting::{put_number, put_refused, put_word};
@@ -27,6 +27,32 @@ pub fn refused_word(alloc: Global, refusal: Refusal, word: &[u8]) -> Result<Byte
     put_word(&mut line, word)?;
     line.byte(b'\n')?;
     Ok(line.into_bytes())
+}
+
+/// Puts the line of a refusal of a number behind a text.
+pub fn put_refused_number(line: &mut Out, refusal: Refusal, number: u64) -> Result<(), AllocError>
+    ensures { OnOk result (line.new ≡ line.old ++ refused_number refusal number) }
+{
+    put_refused(line, refusal)?;
+    put_number(line, number)?;
+    line.byte(b'\n')?;
+    Ok(())
+}
+
+/// Puts the line of a refusal of two numbers behind a text.
+pub fn put_refused_numbers(
+    line: &mut Out,
+    refusal: Refusal,
+    first: u64,
+    second: u64,
+) -> Result<(), AllocError>
+    ensures { OnOk result (line.new ≡ line.old ++ refused_numbers refusal first second) }
+{
+    put_refused(line, refusal)?;
+    put_number(line, first)?;
+    put_number(line, second)?;
+    line.byte(b'\n')?;
+    Ok(())
 }
 
 /// The line of a refusal of a number.
