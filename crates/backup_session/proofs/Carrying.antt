@@ -25,8 +25,11 @@ use Rattle.backup_session.specs.Cells.{CellAnswer, cell_answer, IsAnswer}
 use Rattle.backup_session.specs.Verdicts.{verdict}
 use Rattle.backup_session.specs.Turns.{said, length_with}
 use Rattle.tape_frames.specs.declared.label.LabelFields.{LabelFields}
-use Rattle.backup_words.specs.declared.command.Command.TheVariants.{Labeltape, Readlabel}
+use Rattle.backup_words.specs.declared.command.Command.TheVariants.{Labeltape, Readlabel, Scantape}
 use Rattle.backup_session.specs.Labels.{label_of}
+use Rattle.tape_config.specs.declared.port.PortFields.{PortFields}
+use Rattle.backup_session.specs.Scanning.{port_of, scan_turn, slots_here}
+use Rattle.backup_session.proofs.ScanLaws.{slots_cells}
 use Rattle.backup_session.specs.Tapes.{slot_of, new_label, taken, labeled, label_turn, read_turn, tape_turn}
 use Rattle.backup_session.specs.Machine.{committed, replaced, carried, on_cell, on_plant, done, turn}
 use Rattle.backup_session.specs.Fitting.{Fits, Turned, OnTheWay, FitsPlant, TurnedPlant}
@@ -105,6 +108,11 @@ tape_cells w (Readlabel offset slot) = go (slot_of w.setting (after w.log).hosts
     go : (r : Result ℕ (List ℕ)) → (read_turn w r).cells ≡ []
     go (Err text) = refl
     go (Ok k) = refl
+tape_cells w (Scantape dbadd offset) = go (port_of w.setting.config (after w.log).hosts offset)
+  where
+    go : (r : Result PortFields (List ℕ)) → (scan_turn w dbadd r).cells ≡ []
+    go (Err text) = refl
+    go (Ok port) = slots_cells w dbadd (slots_here w.setting.present port)
 tape_cells w command = refl
 
 pub plant_cells : (w : World) (command : Command) → (on_plant w command).cells ≡ []
@@ -124,7 +132,7 @@ module _ {D E : Type 0} (P : Plant D) (C : Cell E) (w : World) (old : D) (site :
     time = time ∙ ap (λ (t : ℕ). max t (min now 4294967295)) fits.time;
     config = config ∙ fits.config;
     state = fits.state;
-    loaded = fits.loaded;
+    settled = fits.settled;
     present = fits.present;
   }
 
@@ -138,7 +146,7 @@ module _ {D E : Type 0} (P : Plant D) (C : Cell E) (w : World) (old : D) (site :
       time = turned.fits.time;
       config = turned.fits.config;
       state = turned.fits.state;
-      loaded = turned.fits.loaded;
+      settled = turned.fits.settled;
       present = turned.fits.present;
       cell = fits.cell ∙ sym (ap (last_cell w.cell) cells);
     };
@@ -159,7 +167,7 @@ module _ {D E : Type 0} (P : Plant D) (C : Cell E) (w : World) (old : D) (site :
           time = plant.time;
           config = plant.config;
           state = plant.state;
-          loaded = plant.loaded;
+          settled = plant.settled;
           present = plant.present;
           cell = answer.list ∙ ap (λ (l : List Stored). last_cell l (cell_answer (C.list site) later.time command).cells) fits.cell ∙ ap (λ (a : CellAnswer). last_cell w.cell a.cells) same;
         };

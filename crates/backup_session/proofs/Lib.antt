@@ -2,7 +2,10 @@ pub mod Patterns
 pub mod Lists
 pub mod Entries
 pub mod CellLaws
+pub mod ScanLaws
+pub mod ScanForms
 pub mod Carrying
 pub mod Shortening
 pub mod LabelLaws
 pub mod Taking
+pub mod Settling

@@ -1,15 +1,15 @@
 -- How a tape is labeled, behind a commit where there is one.
 use Rattle.std.proofs.Common.{◌≡◌, ⊎_elim, ℕ, ◌+◌, ◌<◌, ◌≤◌, Bool, true, false, List, [], ◌∷◌, ◌++◌, length, refl, sym, ◌∙◌, ap, subst, arith}
-use Rattle.std.specs.Prelude.{nat_lt, ◌==◌, if◌then◌else◌, Option, Some, None, Result, Ok, Err}
+use Rattle.std.specs.Prelude.{nat_lt, if◌then◌else◌, Option, Some, None, Result, Ok, Err}
 use Rattle.std.specs.Option.{unwrap_or}
 use Rattle.std.proofs.lemmas.Bool.Decides.{nat_tests}
 use Rattle.std.proofs.lemmas.Bool.{cases_lt}
 use Rattle.tape_config.specs.declared.port.PortFields.{PortFields}
 use Rattle.tape_config.specs.Configs.{Settings, port_in}
 use Rattle.plant_core.specs.declared.plant.Plant.{Ghosts as Plant}
-use Rattle.plant_core.specs.Crashes.{State}
-use Rattle.plant_core.specs.Effects.{commits, settles, come}
-use Rattle.plant_effects.specs.Runs.{state_of, loaded_of, Done, Leaves, SameNumbers}
+use Rattle.plant_core.specs.Crashes.{State, IsSettled}
+use Rattle.plant_core.specs.Effects.{commits, come}
+use Rattle.plant_effects.specs.Runs.{state_of, Done, Leaves, SameNumbers}
 use Rattle.plant_effects.proofs.States.{alike_both, alike_come}
 use Rattle.plant_effects.proofs.Joining.{Fits as FitsImages, nothing_done, nothing_left, done_both, leaves_both, leaves_more}
 use Rattle.budb_changes.specs.declared.change.Change.{Change}
@@ -27,8 +27,9 @@ use Rattle.backup_replies.specs.Labels.{labeled_lines}
 use Rattle.backup_session.specs.Views.{SessionView, ReplyView}
 use Rattle.backup_session.specs.Worlds.{World, Turn}
 use Rattle.backup_session.specs.Turns.{said, length_with}
-use Rattle.backup_session.specs.Tapes.{slot_in, slot_at, slot_of, putting_label, labeling, labeled, new_label, taken, label_turn}
+use Rattle.backup_session.specs.Tapes.{slot_in, slot_at, slot_of, putting_label, labeled, new_label, taken, label_turn}
 use Rattle.backup_session.specs.Fitting.{FitsPlant, TurnedPlant}
+use Rattle.backup_session.proofs.Settling.{settled_alike, settled_commit, settled_label}
 
 full_true : (a b : ℕ) → a < b → nat_lt a b ≡ true
 full_true a b lt = grind (arith, nat_tests)
@@ -37,13 +38,16 @@ room_false : (a b : ℕ) → b ≤ a → nat_lt a b ≡ false
 room_false a b le = grind (arith, nat_tests)
 
 -- labeling leaves the log
-log_stays : (loaded : Option ℕ) (slot : ℕ) (a : LabelFields) (s : State) → (come (labeling loaded slot a) s).log ≡ s.log
-log_stays None slot a s = refl
-log_stays (Some k) slot a s = go (k == slot)
-  where
-    go : (b : Bool) → (come ((if b then [] else (settles k ∷ [])) ++ putting_label slot a) s).log ≡ s.log
-    go true = refl
-    go false = refl
+log_stays : (slot : ℕ) (a : LabelFields) (s : State) → (come (putting_label slot a) s).log ≡ s.log
+log_stays slot a s = refl
+
+-- a plant that fits is settled, and still is behind a commit
+pub settled_there : {D : Type 0} (P : Plant D) (w : World) (old : D) (session : SessionView) → FitsPlant P w old session → IsSettled (state_of P old)
+settled_there P w old session fits = settled_alike w.state (state_of P old) fits.state fits.settled
+
+pub settled_behind : {D : Type 0} (P : Plant D) (w : World) (old mid : D) (session : SessionView) (bytes : List ℕ) → FitsPlant P w old session → Done P (commits bytes ∷ []) old mid → P.tells → IsSettled (state_of P mid)
+settled_behind P w old mid session bytes fits done told =
+    settled_alike (come (commits bytes ∷ []) (state_of P old)) (state_of P mid) (done.state told) (settled_commit bytes (state_of P old) (settled_there P w old session fits))
 
 -- calls that only read
 pub still_fits : {D : Type 0} (P : Plant D) (w : World) (old new : D) (session : SessionView) → P.tells → FitsPlant P w old session → Done P [] old new → SameNumbers P old new → (P.view new).present ≡ (P.view old).present → FitsPlant P w new session
@@ -52,7 +56,7 @@ still_fits P w old new session told fits done numbers present = record {
   time = fits.time;
   config = fits.config;
   state = alike_both w.state (state_of P old) (state_of P new) fits.state (done.state told);
-  loaded = numbers.tape.loaded ∙ fits.loaded;
+  settled = fits.settled;
   present = λ k. ap (λ (p : ℕ → Bool). p k) present ∙ fits.present k;
 }
 
@@ -61,7 +65,7 @@ module _ {D : Type 0} (P : Plant D) (w : World) (old : D) (session : SessionView
   full_turn = said w (refused_number LogFull (length_with w (c ∷ [])))
 
   made_turn : Turn
-  made_turn = record { effects = commits (encoded (c ∷ [])) ∷ labeling w.loaded slot a; reply = labeled_lines a.afs a.permanent slot; log = w.log ++ c ∷ []; time = w.time; cells = []; loaded = Some slot }
+  made_turn = record { effects = commits (encoded (c ∷ [])) ∷ putting_label slot a; reply = labeled_lines a.afs a.permanent slot; log = w.log ++ c ∷ []; time = w.time; cells = [] }
 
   size_is : (P.view old).log_size ≡ length (encoded w.log)
   size_is = size ∙ ap length (fits.state.log ∙ fits.keeps.is)
@@ -83,7 +87,7 @@ module _ {D : Type 0} (P : Plant D) (w : World) (old : D) (session : SessionView
   commit_leaves mid images over leaves = ⊎_elim
       (λ (full : 268435456 < length_with w (c ∷ [])). subst (λ (t : Turn). Leaves P t.effects old mid) (sym (when_full full))
       (subst (λ s. Leaves P [] old s) (sym (over (omega (arith, size_is, full)))) (nothing_left P [] old images)))
-      (λ (room : length_with w (c ∷ []) ≤ 268435456). subst (λ (t : Turn). Leaves P t.effects old mid) (sym (with_room room)) (leaves_more P (commits (encoded (c ∷ [])) ∷ []) (labeling w.loaded slot a) old mid leaves))
+      (λ (room : length_with w (c ∷ []) ≤ 268435456). subst (λ (t : Turn). Leaves P t.effects old mid) (sym (with_room room)) (leaves_more P (commits (encoded (c ∷ [])) ∷ []) (putting_label slot a) old mid leaves))
       (cases_lt 268435456 (length_with w (c ∷ [])))
 
   -- the log had no room
@@ -99,24 +103,20 @@ module _ {D : Type 0} (P : Plant D) (w : World) (old : D) (session : SessionView
         fits = fits;
       })))
 
-  module _ (mid new : D) (never : 268435456 < (P.view old).log_size + length (encoded (c ∷ [])) → ⊥) (done : Done P (commits (encoded (c ∷ [])) ∷ []) old mid) (same : loaded_of P mid ≡ loaded_of P old) where
-    loaded_is : loaded_of P mid ≡ w.loaded
-    loaded_is = same ∙ fits.loaded
-
+  module _ (mid new : D) (never : 268435456 < (P.view old).log_size + length (encoded (c ∷ [])) → ⊥) (done : Done P (commits (encoded (c ∷ [])) ∷ []) old mid) where
     -- and the label
-    pub both_leave : Leaves P (commits (encoded (c ∷ [])) ∷ []) old mid → Leaves P (labeling (loaded_of P mid) slot a) mid new → Leaves P (labeled w slot a (c ∷ [])).effects old new
+    pub both_leave : Leaves P (commits (encoded (c ∷ [])) ∷ []) old mid → Leaves P (putting_label slot a) mid new → Leaves P (labeled w slot a (c ∷ [])).effects old new
     unfolding full_turn made_turn
     both_leave first second = subst (λ (t : Turn). Leaves P t.effects old new) (sym (with_room (roomy never)))
-        (leaves_both P (commits (encoded (c ∷ [])) ∷ []) (labeling w.loaded slot a) old mid new done first (subst (λ (l : Option ℕ). Leaves P (labeling l slot a) mid new) loaded_is second))
+        (leaves_both P (commits (encoded (c ∷ [])) ∷ []) (putting_label slot a) old mid new done first second)
 
-    pub both_turned : (later : SessionView) (reply : ReplyView) → P.tells → Done P (labeling (loaded_of P mid) slot a) mid new → loaded_of P new ≡ Some slot → ((k : ℕ) → (P.view new).present k ≡ (P.view old).present k)
+    pub both_turned : (later : SessionView) (reply : ReplyView) → P.tells → Done P (putting_label slot a) mid new → ((k : ℕ) → (P.view new).present k ≡ (P.view old).present k)
         → Keeps (w.log ++ c ∷ []) (state_of P mid).log later.budb → later.time ≡ session.time → later.config ≡ session.config → reply.text ≡ labeled_lines a.afs a.permanent slot → TurnedPlant P w (labeled w slot a (c ∷ [])) old new later reply
     unfolding full_turn made_turn
-    both_turned later reply told labels loaded present keeps time config text =
-        let second = subst (λ (l : Option ℕ). Done P (labeling l slot a) mid new) loaded_is labels in
-        let all = done_both P (commits (encoded (c ∷ [])) ∷ []) (labeling w.loaded slot a) old mid new done second in
+    both_turned later reply told second present keeps time config text =
+        let all = done_both P (commits (encoded (c ∷ [])) ∷ []) (putting_label slot a) old mid new done second in
         let here = alike_both (come (commits (encoded (c ∷ [])) ∷ []) w.state) (come (commits (encoded (c ∷ [])) ∷ []) (state_of P old)) (state_of P mid) (alike_come (commits (encoded (c ∷ [])) ∷ []) w.state (state_of P old) fits.state) (done.state told) in
-        let log_is : (come (commits (encoded (c ∷ [])) ∷ labeling w.loaded slot a) w.state).log ≡ (state_of P mid).log = log_stays w.loaded slot a (come (commits (encoded (c ∷ [])) ∷ []) w.state) ∙ sym here.log in
+        let log_is : (come (commits (encoded (c ∷ [])) ∷ putting_label slot a) w.state).log ≡ (state_of P mid).log = log_stays slot a (come (commits (encoded (c ∷ [])) ∷ []) w.state) ∙ sym here.log in
         subst (λ (t : Turn). TurnedPlant P w t old new later reply) (sym (with_room (roomy never))) (record {
           done = all;
           text = text;
@@ -124,8 +124,8 @@ module _ {D : Type 0} (P : Plant D) (w : World) (old : D) (session : SessionView
             keeps = subst (λ (l : List ℕ). Keeps (w.log ++ c ∷ []) l later.budb) (sym log_is) keeps;
             time = time ∙ fits.time;
             config = config ∙ fits.config;
-            state = alike_both (come (commits (encoded (c ∷ [])) ∷ labeling w.loaded slot a) w.state) (come (commits (encoded (c ∷ [])) ∷ labeling w.loaded slot a) (state_of P old)) (state_of P new) (alike_come (commits (encoded (c ∷ [])) ∷ labeling w.loaded slot a) w.state (state_of P old) fits.state) (all.state told);
-            loaded = loaded;
+            state = alike_both (come (commits (encoded (c ∷ [])) ∷ putting_label slot a) w.state) (come (commits (encoded (c ∷ [])) ∷ putting_label slot a) (state_of P old)) (state_of P new) (alike_come (commits (encoded (c ∷ [])) ∷ putting_label slot a) w.state (state_of P old) fits.state) (all.state told);
+            settled = settled_label slot a (come (commits (encoded (c ∷ [])) ∷ []) w.state) (settled_commit (encoded (c ∷ [])) w.state fits.settled);
             present = λ k. present k ∙ fits.present k;
           };
         })

@@ -40,7 +40,7 @@ asks_cell (VosRemove volume) = true
 asks_cell VosListvol = true
 asks_cell command = false
 
--- a command on the label of a tape
+-- a command on the label of a tape; scans have their turn in Scanning, and are not asked for yet
 abbrev pub asks_tape : Command → Bool
 asks_tape (Labeltape name pname portoffset slot) = true
 asks_tape (Readlabel portoffset slot) = true

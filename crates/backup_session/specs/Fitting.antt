@@ -1,8 +1,8 @@
 -- A session fits a plant and a cell in a world, and what a turn leaves.
-use Rattle.std.specs.Prelude.{◌≡◌, ℕ, List, ◌∷◌, Contains}
+use Rattle.std.specs.Prelude.{◌≡◌, ℕ, List, ◌∷◌, ◌++◌, Contains}
 use Rattle.plant_core.specs.declared.plant.Plant.{Ghosts as Plant}
-use Rattle.plant_core.specs.Crashes.{Alike}
-use Rattle.plant_effects.specs.Runs.{state_of, loaded_of, Done}
+use Rattle.plant_core.specs.Crashes.{Alike, IsSettled}
+use Rattle.plant_effects.specs.Runs.{state_of, Done}
 use Rattle.cell_core.specs.declared.cell.Cell.{Ghosts as Cell}
 use Rattle.cell_core.specs.declared.stored.Stored.{Stored}
 use Rattle.budb.specs.Kept.{Keeps}
@@ -10,13 +10,13 @@ use Rattle.backup_session.specs.Views.{SessionView, ReplyView}
 use Rattle.backup_session.specs.Worlds.{World, Turn, before_reply}
 
 -- What stands there is this world: the log's bytes are those of the changes, the database is what they make, and time, configuration,
--- state, loaded tape, slots and the cell's list are the world's.
+-- state, slots and the cell's list are the world's. All that was put is settled, as it is between two commands.
 pub record Fits {D E : Type 0} (P : Plant D) (C : Cell E) (w : World) (plant : D) (site : E) (session : SessionView) : Type 0 where
   pub keeps : Keeps w.log w.state.log session.budb
   pub time : session.time ≡ w.time
   pub config : session.config ≡ w.setting.config
   pub state : Alike w.state (state_of P plant)
-  pub loaded : loaded_of P plant ≡ w.loaded
+  pub settled : IsSettled w.state
   pub present : (k : ℕ) → (P.view plant).present k ≡ w.setting.present k
   pub cell : C.list site ≡ w.cell
 
@@ -38,10 +38,16 @@ pub record FitsPlant {D : Type 0} (P : Plant D) (w : World) (plant : D) (session
   pub time : session.time ≡ w.time
   pub config : session.config ≡ w.setting.config
   pub state : Alike w.state (state_of P plant)
-  pub loaded : loaded_of P plant ≡ w.loaded
+  pub settled : IsSettled w.state
   pub present : (k : ℕ) → (P.view plant).present k ≡ w.setting.present k
 
 pub record TurnedPlant {D : Type 0} (P : Plant D) (w : World) (t : Turn) (old new : D) (session : SessionView) (reply : ReplyView) : Type 0 where
   pub done : Done P t.effects old new
   pub text : reply.text ≡ t.reply
+  pub fits : FitsPlant P (before_reply w t) new session
+
+-- a part of a turn was done, and its text was put behind what was there to be told
+pub record Stepped {D : Type 0} (P : Plant D) (w : World) (t : Turn) (old new : D) (session : SessionView) (before after : List ℕ) : Type 0 where
+  pub done : Done P t.effects old new
+  pub text : after ≡ before ++ t.reply
   pub fits : FitsPlant P (before_reply w t) new session

@@ -5,6 +5,7 @@ pub mod Cells
 pub mod Asks
 pub mod Labels
 pub mod Turns
+pub mod Scanning
 pub mod Tapes
 pub mod Machine
 pub mod Views

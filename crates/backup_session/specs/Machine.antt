@@ -19,11 +19,11 @@ use Rattle.backup_session.specs.Tapes.{tape_turn}
 
 -- changes are made by one commit
 abbrev pub committed : World → List Change → List ℕ → Turn
-committed w changes text = record { effects = commits (encoded changes) ∷ []; reply = text; log = w.log ++ changes; time = w.time; cells = []; loaded = w.loaded }
+committed w changes text = record { effects = commits (encoded changes) ∷ []; reply = text; log = w.log ++ changes; time = w.time; cells = [] }
 
 -- these changes become the whole log, as one effect
 abbrev pub replaced : World → List Change → Turn
-replaced w changes = record { effects = replaces (encoded changes) ∷ []; reply = ok_line; log = changes; time = w.time; cells = []; loaded = w.loaded }
+replaced w changes = record { effects = replaces (encoded changes) ∷ []; reply = ok_line; log = changes; time = w.time; cells = [] }
 
 -- where they have room
 abbrev pub shortened : World → List Change → Turn
@@ -38,9 +38,9 @@ carried w Shortens = shortened w (checkpoint (after w.log))
 
 -- What a command on the cell is answered: no effect on the plant.
 abbrev pub on_cell : World → CellAnswer → Turn
-on_cell w answer = record { effects = []; reply = answer.reply; log = w.log; time = w.time; cells = answer.cells; loaded = w.loaded }
+on_cell w answer = record { effects = []; reply = answer.reply; log = w.log; time = w.time; cells = answer.cells }
 
--- what a command on a label or on the database makes of it
+-- what a command on tapes or on the database makes of it
 abbrev pub on_plant : World → Command → Turn
 on_plant w command = if asks_tape command then tape_turn w command else carried w (verdict (after w.log) command)
 

@@ -1,5 +1,5 @@
 -- The world in which a session begins.
-use Rattle.std.specs.Prelude.{ℕ, max, List, Option, Result, Ok, Err}
+use Rattle.std.specs.Prelude.{ℕ, max, List, Result, Ok, Err}
 use Rattle.std.specs.List.{fold}
 use Rattle.vnode_model.specs.declared.listed.EntryState.{EntryState}
 use Rattle.vnode_model.specs.declared.listed.EntryState.TheVariants.{Good, Bad}
@@ -43,8 +43,8 @@ abbrev pub first_time : List Change → List Stored → ℕ
 first_time log cell = fold with_stored (database_time (after log)) cell
 
 -- the world of a log's changes, a cell's list, and what stands in a plant
-abbrev pub opened : Setting → List Change → List Stored → State → Option ℕ → World
-opened setting log cell state loaded = record { setting = setting; log = log; time = first_time log cell; cell = cell; state = state; loaded = loaded }
+abbrev pub opened : Setting → List Change → List Stored → State → World
+opened setting log cell state = record { setting = setting; log = log; time = first_time log cell; cell = cell; state = state }
 
 -- A database that keeps the log; where the log is no list of changes, the place at which it stops being one; unless the plant fails
 -- or memory runs out.

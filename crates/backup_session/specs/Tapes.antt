@@ -1,11 +1,11 @@
--- WHAT A COMMAND ON A LABEL MAKES OF A WORLD.
+-- WHAT A COMMAND ON TAPES MAKES OF A WORLD; of scans see Scanning.
 use Rattle.std.specs.Prelude.{◌≡◌, ℕ, List, [], ◌∷◌, ◌++◌, Bool, ◌&&◌, nat_le, nat_lt, if◌then◌else◌, Option, Some, None, Result, Ok, Err, codes}
 use Rattle.std.specs.List.{list_any}
 use Rattle.std.specs.Option.{unwrap_or}
 use Rattle.tape_config.specs.declared.port.PortFields.{PortFields}
 use Rattle.tape_config.specs.Configs.{port_in}
 use Rattle.plant_core.specs.Records.{Record, block_with, mark}
-use Rattle.plant_core.specs.Effects.{Effect, commits, puts, settles, cuts, putting_away}
+use Rattle.plant_core.specs.Effects.{Effect, commits, puts, settles, cuts}
 use Rattle.tape_frames.specs.declared.label.LabelFields.{LabelFields}
 use Rattle.tape_frames.specs.declared.frame.Frame.TheVariants.{Label}
 use Rattle.tape_frames.specs.Frames.{spelling}
@@ -16,13 +16,14 @@ use Rattle.budb_changes.specs.Bytes.{encoded}
 use Rattle.budb_fold.specs.declared.database.HostPort.{HostPort}
 use Rattle.budb_fold.specs.Database.{after, has_port, is_initial}
 use Rattle.backup_words.specs.declared.command.Command.{Command}
-use Rattle.backup_words.specs.declared.command.Command.TheVariants.{Labeltape, Readlabel}
+use Rattle.backup_words.specs.declared.command.Command.TheVariants.{Labeltape, Readlabel, Scantape}
 use Rattle.backup_replies.specs.declared.refusals.Refusal.TheVariants.{BadValue, NoSuchPort, SlotEmpty, NoLabel, LogFull}
 use Rattle.backup_replies.specs.Texts.{refused_word, refused_number}
 use Rattle.backup_replies.specs.Labels.{labeled_lines, label_lines}
 use Rattle.backup_session.specs.Worlds.{Setting, World, Turn}
 use Rattle.backup_session.specs.Turns.{said, length_with}
 use Rattle.backup_session.specs.Labels.{label_of}
+use Rattle.backup_session.specs.Scanning.{port_of, scan_turn}
 
 -- ---- where the tape is
 
@@ -67,25 +68,20 @@ abbrev pub taken : List DumpRecordFields → Option LabelFields → List Change
 taken listed None = []
 taken listed (Some a) = if list_any (is_initial a.initial) listed then Take a.initial ∷ [] else []
 
--- the loaded tape is cut to nothing, and the label is put, and a mark
+-- the tape is cut to nothing, and the label is put, and a mark
 abbrev pub putting_label : ℕ → LabelFields → List Effect
 putting_label slot a = cuts slot 0 ∷ (puts slot (block_with (spelling (Label a))) ∷ (puts slot mark ∷ (settles slot ∷ [])))
 
--- the tape is loaded first
-abbrev pub labeling : Option ℕ → ℕ → LabelFields → List Effect
-labeling loaded slot a = putting_away loaded slot ++ putting_label slot a
-
 -- The journal is committed before the tape is cut.
 abbrev pub labeled : World → ℕ → LabelFields → List Change → Turn
-labeled w slot a [] = record { effects = labeling w.loaded slot a; reply = labeled_lines a.afs a.permanent slot; log = w.log; time = w.time; cells = []; loaded = Some slot }
+labeled w slot a [] = record { effects = putting_label slot a; reply = labeled_lines a.afs a.permanent slot; log = w.log; time = w.time; cells = [] }
 labeled w slot a (change ∷ changes) =
     if nat_lt 268435456 (length_with w (change ∷ changes)) then said w (refused_number LogFull (length_with w (change ∷ changes))) else record {
-      effects = commits (encoded (change ∷ changes)) ∷ labeling w.loaded slot a;
+      effects = commits (encoded (change ∷ changes)) ∷ putting_label slot a;
       reply = labeled_lines a.afs a.permanent slot;
       log = w.log ++ change ∷ changes;
       time = w.time;
       cells = [];
-      loaded = Some slot;
     }
 
 abbrev pub label_turn : World → Option (List ℕ) → Option (List ℕ) → Result ℕ (List ℕ) → Turn
@@ -97,6 +93,7 @@ label_turn w name pname (Ok slot) = labeled w slot (new_label (label_of (w.state
 abbrev pub tape_turn : World → Command → Turn
 tape_turn w (Labeltape name pname offset slot) = label_turn w name pname (slot_of w.setting (after w.log).hosts offset slot)
 tape_turn w (Readlabel offset slot) = read_turn w (slot_of w.setting (after w.log).hosts offset slot)
+tape_turn w (Scantape dbadd offset) = scan_turn w dbadd (port_of w.setting.config (after w.log).hosts offset)
 -- of other commands it isn't asked
 tape_turn w command = said w []
 

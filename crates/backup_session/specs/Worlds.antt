@@ -1,5 +1,5 @@
 -- What the machine knows between two commands, and what comes of one.
-use Rattle.std.specs.Prelude.{ℕ, List, [], ◌∷◌, Bool, Option, min, max}
+use Rattle.std.specs.Prelude.{ℕ, List, [], ◌∷◌, Bool, min, max}
 use Rattle.plant_core.specs.Crashes.{State}
 use Rattle.plant_core.specs.Effects.{Effect, tells, come}
 use Rattle.cell_core.specs.declared.stored.Stored.{Stored}
@@ -11,25 +11,24 @@ pub record Setting : Type 0 where
   pub config : Settings
   pub present : ℕ → Bool
 
--- What a command finds: the changes of the journal, the session's time, the cell's list, the plant's state (its log's bytes are those of
--- the changes), and the loaded slot.
+-- What a command finds: the changes of the journal, the session's time, the cell's list, and the plant's state (its log's bytes are those
+-- of the changes).
 pub record World : Type 0 where
   pub setting : Setting
   pub log : List Change
   pub time : ℕ
   pub cell : List Stored
   pub state : State
-  pub loaded : Option ℕ
 
 -- What comes of a command: its effects on the plant but for the reply; the reply; the changes of the journal and the session's time after
--- it; the lists that the cell has on the way, after each change of it, none where it isn't changed; and the loaded slot.
+-- it; and the lists that the cell has on the way, after each change of it, none where it isn't changed. Loading a tape is no effect: what is
+-- put away is settled already between two commands.
 pub record Turn : Type 0 where
   pub effects : List Effect
   pub reply : List ℕ
   pub log : List Change
   pub time : ℕ
   pub cells : List (List Stored)
-  pub loaded : Option ℕ
 
 -- the last of these lists; this one where there is none
 abbrev pub last_cell : List Stored → List (List Stored) → List Stored
@@ -38,7 +37,7 @@ last_cell cell (c ∷ cs) = last_cell c cs
 
 -- the world when a command is done, and its reply isn't told yet
 abbrev pub before_reply : World → Turn → World
-before_reply w t = record { setting = w.setting; log = t.log; time = t.time; cell = last_cell w.cell t.cells; state = come t.effects w.state; loaded = t.loaded }
+before_reply w t = record { setting = w.setting; log = t.log; time = t.time; cell = last_cell w.cell t.cells; state = come t.effects w.state }
 
 -- a text is told
 abbrev pub with_told : World → List ℕ → World

@@ -25,7 +25,7 @@ fn is_dump(dump: &DumpRecord, id: u32) -> bool
 }
 
 /// Whether one of these dumps has this id.
-fn any_of_id(listed: &[DumpRecord], id: u32) -> bool
+pub(crate) fn any_of_id(listed: &[DumpRecord], id: u32) -> bool
     ensures { result ≡ has_dump listed.now id }
 {
     for dump in listed {

@@ -259,7 +259,7 @@ impl Session {
         }
     }
 
-    /// A command on the label of a tape. Another command has no reply.
+    /// A command on tapes. Another command has no reply.
     pub(crate) fn on_tape<P: Plant>(
         &mut self,
         alloc: Global,
@@ -282,6 +282,9 @@ impl Session {
                 slot,
             } => self.label(alloc, plant, name, pname, *portoffset, *slot),
             Command::Readlabel { portoffset, slot } => self.read(alloc, plant, *portoffset, *slot),
+            Command::Scantape { dbadd, portoffset } => {
+                self.scan(alloc, plant, *dbadd, *portoffset)
+            }
             Command::Addvolset { .. }
             | Command::Delvolset { .. }
             | Command::Addvolentry { .. }
@@ -295,7 +298,6 @@ impl Session {
             | Command::Checkpoint
             | Command::Addhost { .. }
             | Command::Delhost { .. }
-            | Command::Scantape { .. }
             | Command::Dump { .. }
             | Command::Deletedump { .. }
             | Command::Dumpinfo { .. }

@@ -1,6 +1,7 @@
 //! The session of the backup service: what each command makes of the journal, the tapes and the cell, and what it replies.
 #![tactic(auto)]
 
+mod adding;
 mod asks;
 mod decide;
 mod dumps;
@@ -10,6 +11,7 @@ mod labels;
 mod levels;
 mod opening;
 mod reply;
+mod scanning;
 mod session;
 mod sets;
 mod stops;

@@ -36,7 +36,7 @@ pub(crate) fn open_database<P: Plant>(alloc: Global, plant: &mut P) -> Result<Bu
 }
 
 /// The greatest of a time and the clone times of a listed dump.
-fn with_clones(time: u32, dump: &DumpRecord) -> u32
+pub(crate) fn with_clones(time: u32, dump: &DumpRecord) -> u32
     ensures { result ≡ with_clones time dump.now }
 {
     let mut greatest = time;

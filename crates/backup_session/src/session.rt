@@ -7,7 +7,8 @@ ghost use Rattle.budb_changes.specs.declared.change.Change.{Change as AnyChange}
 ghost use Rattle.budb_changes.specs.Bytes.{encoded};
 ghost use Rattle.budb_changes.specs.Forms.{AreChanges, IsLog};
 ghost use Rattle.budb_fold.specs.Database.{after};
-ghost use Rattle.plant_effects.specs.Runs.{state_of, loaded_of, Done, Leaves, SameNumbers, StaysQuiet};
+ghost use Rattle.plant_core.specs.Crashes.{IsSettled};
+ghost use Rattle.plant_effects.specs.Runs.{state_of, Done, Leaves, SameNumbers, StaysQuiet};
 ghost use Rattle.backup_session.specs.declared.verdict.Verdict.TheVariants.{Makes, Shortens};
 ghost use Rattle.backup_session.specs.Worlds.{World, Setting};
 ghost use Rattle.backup_session.specs.Verdicts.{verdict};
@@ -63,7 +64,7 @@ impl Session {
         cell: &mut C,
     ) -> Result<Session, OpenStop>
         requires { P.sound plant.old }
-        ensures fits { P.tells → C.tells → IfOk result (λ session. (log : AnyList AnyChange) × AreChanges log × ((state_of P.Plant plant.old).log ≡ encoded log) × Fits P.Plant C.Cell (opened (record { config = config; present = (P.view plant.old).present }) log (C.list cell.old) (state_of P.Plant plant.old) (loaded_of P.Plant plant.old)) plant.new cell.new session) }
+        ensures fits { P.tells → C.tells → IfOk result (λ session. (log : AnyList AnyChange) × AreChanges log × ((state_of P.Plant plant.old).log ≡ encoded log) × (IsSettled (state_of P.Plant plant.old) → Fits P.Plant C.Cell (opened (record { config = config; present = (P.view plant.old).present }) log (C.list cell.old) (state_of P.Plant plant.old)) plant.new cell.new session)) }
         ensures bad { P.tells → (at : ℕ) → result ≡ Err (OpenStop.BadLog at) → FailsAt IsLog (state_of P.Plant plant.old).log at }
         ensures listed { P.tells → result ≡ Err OpenStop.Cell → IsLog (state_of P.Plant plant.old).log }
         ensures done { UnlessFailed result (Done P.Plant [] plant.old plant.new) }
@@ -168,7 +169,7 @@ impl Session {
         self.carry(alloc, plant, verdict)
     }
 
-    /// A command on the label of a tape or on the database, at the session's time.
+    /// A command on tapes or on the database, at the session's time.
     fn on_plant<P: Plant>(
         &mut self,
         alloc: Global,
