@@ -3,7 +3,7 @@ use Rattle.std.specs.Prelude.{◌≡◌, ◌⊎◌, ℕ, List, Result, Ok, Err, 
 use Rattle.std.specs.Str.Lines.{lines}
 use Rattle.plant_core.specs.declared.plant.Plant.{Ghosts as Plant}
 use Rattle.plant_core.specs.Crashes.{Alike}
-use Rattle.plant_effects.specs.Runs.{state_of, loaded_of, Done}
+use Rattle.plant_effects.specs.Runs.{state_of, Done}
 use Rattle.cell_core.specs.declared.cell.Cell.{Ghosts as Cell}
 use Rattle.tape_config.specs.Configs.{Settings}
 use Rattle.budb_changes.specs.declared.change.Change.{Change}
@@ -19,7 +19,7 @@ use Rattle.backup_script.specs.Running.{Took, TookAll, TookToQuit, TookTooMany}
 
 -- the world of a plant and a cell, for the changes of the plant's log
 abbrev pub world_on : {D E : Type 0} → Plant D → Cell E → Settings → List Change → D → E → World
-world_on P C config log plant site = opened (record { config = config; present = (P.view plant).present }) log (C.list site) (state_of P plant) (loaded_of P plant)
+world_on P C config log plant site = opened (record { config = config; present = (P.view plant).present }) log (C.list site) (state_of P plant)
 
 -- All of this was done, and plant, cell and clock are as they are behind it.
 pub record Ends {D E : Type 0} (P : Plant D) (C : Cell E) (s : Outcome) (old new : D) (site : E) (left : List ℕ) : Type 0 where

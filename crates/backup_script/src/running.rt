@@ -7,6 +7,7 @@ ghost use Rattle.crash_moments.specs.Moments.{HasCauseAt};
 ghost use Rattle.budb_changes.specs.declared.change.Change.{Change as AnyChange};
 ghost use Rattle.budb_changes.specs.Bytes.{encoded};
 ghost use Rattle.budb_changes.specs.Forms.{AreChanges, IsLog};
+ghost use Rattle.plant_core.specs.Crashes.{IsSettled};
 ghost use Rattle.plant_effects.specs.Runs.{state_of, Done, Stays};
 ghost use Rattle.backup_script.specs.Scripts.{script};
 ghost use Rattle.backup_script.specs.Running.{Left};
@@ -101,15 +102,15 @@ pub fn run_on<P: Plant, C: Cell, K: Clock, S: Source>(
     requires { P.sound plant.old }
 
     // All lines were run; cut short by a read or the limit, those that were ended.
-    ensures ran { P.tells → C.tells → K.tells → S.tells → (log : AnyList AnyChange) → AreChanges log → (state_of P.Plant plant.old).log ≡ encoded log
+    ensures ran { P.tells → C.tells → K.tells → S.tells → IsSettled (state_of P.Plant plant.old) → (log : AnyList AnyChange) → AreChanges log → (state_of P.Plant plant.old).log ≡ encoded log
         → let s = script (world_on P.Plant C.Cell config log plant.old cell.old) (K.moments clock.old) (lines (S.left source.old)) in
         IfOk result (λ refused. Ends P.Plant C.Cell s plant.old plant.new cell.new (K.moments clock.new) × (refused ≡ s.refused)) }
-    ensures read_short { P.tells → C.tells → K.tells → S.tells → (log : AnyList AnyChange) → AreChanges log → (state_of P.Plant plant.old).log ≡ encoded log
+    ensures read_short { P.tells → C.tells → K.tells → S.tells → IsSettled (state_of P.Plant plant.old) → (log : AnyList AnyChange) → AreChanges log → (state_of P.Plant plant.old).log ≡ encoded log
         → result ≡ Err RunStop.Read → EndsShort P.Plant C.Cell (world_on P.Plant C.Cell config log plant.old cell.old) (K.moments clock.old) (S.left source.old) (S.left source.new) plant.old plant.new cell.new (K.moments clock.new) }
-    ensures long_short { P.tells → C.tells → K.tells → S.tells → (log : AnyList AnyChange) → AreChanges log → (state_of P.Plant plant.old).log ≡ encoded log
+    ensures long_short { P.tells → C.tells → K.tells → S.tells → IsSettled (state_of P.Plant plant.old) → (log : AnyList AnyChange) → AreChanges log → (state_of P.Plant plant.old).log ≡ encoded log
         → result ≡ Err RunStop.TooLong → EndsShort P.Plant C.Cell (world_on P.Plant C.Cell config log plant.old cell.old) (K.moments clock.old) (S.left source.old) (S.left source.new) plant.old plant.new cell.new (K.moments clock.new) }
     // However it ended.
-    ensures left { P.tells → C.tells → K.tells → S.tells → (log : AnyList AnyChange) → AreChanges log → (state_of P.Plant plant.old).log ≡ encoded log
+    ensures left { P.tells → C.tells → K.tells → S.tells → IsSettled (state_of P.Plant plant.old) → (log : AnyList AnyChange) → AreChanges log → (state_of P.Plant plant.old).log ≡ encoded log
         → Left P.Plant C.Cell (world_on P.Plant C.Cell config log plant.old cell.old) (K.moments clock.old) (lines (S.left source.old)) plant.old plant.new cell.new }
     ensures takes { S.tells → TakesBytes (S.left source.old) (S.left source.new) result }
     ensures stays { Stays P.Plant plant.old plant.new }
