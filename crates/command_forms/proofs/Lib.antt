@@ -1,0 +1,3 @@
+pub mod Expirations
+pub mod Values
+pub mod Lines
