@@ -1,0 +1,4 @@
+pub mod Following
+pub mod Verdicts
+pub mod Turns
+pub mod Scripts
