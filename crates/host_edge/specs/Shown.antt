@@ -1,7 +1,9 @@
 -- What files in a folder show.
-use Rattle.std.specs.Prelude.{ℕ, Bool, Option}
+use Rattle.std.specs.Prelude.{◌≡◌, ℕ, Bool, Option, Some}
+use Rattle.std.specs.declared.io.Error.{Error}
 use Rattle.host_edge.specs.Slots.{file_among, is_here}
 use Rattle.host_edge.specs.declared.dir_media.DirMedia.{DirMedia}
+use Rattle.host_edge.specs.declared.refusal.Refusal.{Refusal}
 
 -- the output
 abbrev pub output_of : {F W : Type 0} → DirMedia F W → W
@@ -21,3 +23,11 @@ present_of media f = is_here media.slots.items f
 -- the file of a number, where it is here
 abbrev pub file_of : {F W : Type 0} → DirMedia F W → ℕ → Option F
 file_of media f = file_among media.journal media.slots.items f
+
+-- the call on a file that was refused last
+abbrev pub refused_of : {F W : Type 0} → DirMedia F W → Option Refusal
+refused_of media = media.refused
+
+-- it was one on this file
+abbrev pub IsRefusalAt : ℕ → Option Refusal → Type 0
+IsRefusalAt f refused = (cause : Error) × (refused ≡ Some (record { file = f; cause = cause }))

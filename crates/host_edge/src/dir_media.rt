@@ -1,6 +1,6 @@
 //! Files of a folder as a media.
 
-ghost use Rattle.std.specs.Prelude.{◌≡◌, ◌≢◌, ◌≤◌, length, IfOk, OnOk, IfSome, Some, Err};
+ghost use Rattle.std.specs.Prelude.{◌≡◌, ◌≢◌, ◌≤◌, length, IfOk, OnOk, OnErr, IfSome, Some, Err};
 ghost use Rattle.std.specs.Io.KnownBytes.{WriteAppends};
 ghost use Rattle.crash_moments.specs.Moments.{HasCause};
 ghost use Rattle.host_edge.specs.declared.fault.EdgeFault.TheVariants.{TooMany};
@@ -9,17 +9,20 @@ use crate::counting::counted;
 use crate::disk_file::DiskFile;
 use crate::fault::{EdgeFault, at_path};
 use crate::files::{make_folder, sync_folder};
+use crate::refusal::{Explains, ExplainsMedia, Refusal};
 use crate::slots::{
-    changed, file_among, lengths_of, note_length, open_journal, open_slots, same_length, slot_at,
+    changed, file_among, lengths_of, note_length, open_journal, open_slots, path_of, same_length,
+    slot_at,
 };
 use crash_moments::raised;
 use media_core::{Failed, Media};
-use std::io::{self, Write};
+use std::alloc::AllocError;
+use std::io::{self, ErrorKind, Write};
 use std::rt::Files;
 
 /// The files `journal` and `slot0` to `slot255` of a folder, and an output. File 0 is the journal; a slot is here where its
 /// file is there at the opening. `lengths` are the lengths that the opening found and the writes of this program left: a file
-/// of another length is a fault.
+/// of another length is a fault. The refusals are the last ones.
 #[derive(Drop)]
 pub struct DirMedia<F: Drop, W: Drop> {
     journal: F,
@@ -28,6 +31,9 @@ pub struct DirMedia<F: Drop, W: Drop> {
     output: W,
     faults: u64,
     tell_faults: u64,
+    folder: String,
+    refused: Option<Refusal>,
+    output_refused: Option<io::Error>,
     ghost all_slots: { length slots.items ≡ 256 },
 }
 
@@ -58,6 +64,9 @@ impl<F: DiskFile + Drop, W: Write + Drop> DirMedia<F, W> {
             output,
             faults: 0,
             tell_faults: 0,
+            folder: String::from_str(alloc, folder)?,
+            refused: None,
+            output_refused: None,
         })
     }
 
@@ -101,7 +110,7 @@ impl<F: DiskFile + Drop, W: Write + Drop> Media for DirMedia<F, W> {
     ghost use Rattle.crash_moments.specs.Moments.{silent};
     ghost use Rattle.media_core.specs.Media.{nothing};
     ghost use Rattle.host_edge.specs.Here.{here_below};
-    ghost use Rattle.host_edge.specs.Shown.{file_of, output_of, present_of, faults_of, tell_faults_of};
+    ghost use Rattle.host_edge.specs.Shown.{file_of, output_of, present_of, faults_of, tell_faults_of, refused_of, IsRefusalAt};
 
     ghost tells = { ⊥ };
 
@@ -147,9 +156,10 @@ impl<F: DiskFile + Drop, W: Write + Drop> Media for DirMedia<F, W> {
         ensures present { present_of self.new ≡ present_of self.old }
         ensures cause { HasCause (faults_of self.old) (faults_of self.new) result }
         ensures tell_faults { tell_faults_of self.new ≡ tell_faults_of self.old }
+        ensures refused { OnErr result (IsRefusalAt f (refused_of self.new)) }
     {
         let answer = self.len_of(f);
-        counted(&mut self.faults, answer)
+        counted(&mut self.faults, &mut self.refused, f, answer)
     }
 
     fn read(&mut self, f: u32, at: u64, into: &mut [u8]) -> Result<(), Failed>
@@ -158,9 +168,10 @@ impl<F: DiskFile + Drop, W: Write + Drop> Media for DirMedia<F, W> {
         ensures present { present_of self.new ≡ present_of self.old }
         ensures cause { HasCause (faults_of self.old) (faults_of self.new) result }
         ensures tell_faults { tell_faults_of self.new ≡ tell_faults_of self.old }
+        ensures refused { OnErr result (IsRefusalAt f (refused_of self.new)) }
     {
         let answer = self.read_from(f, at, into);
-        counted(&mut self.faults, answer)
+        counted(&mut self.faults, &mut self.refused, f, answer)
     }
 
     fn write(&mut self, f: u32, at: u64, from: &[u8]) -> Result<(), Failed>
@@ -169,9 +180,10 @@ impl<F: DiskFile + Drop, W: Write + Drop> Media for DirMedia<F, W> {
         ensures present { present_of self.new ≡ present_of self.old }
         ensures cause { HasCause (faults_of self.old) (faults_of self.new) result }
         ensures tell_faults { tell_faults_of self.new ≡ tell_faults_of self.old }
+        ensures refused { OnErr result (IsRefusalAt f (refused_of self.new)) }
     {
         let answer = self.write_to(f, at, from);
-        counted(&mut self.faults, answer)?;
+        counted(&mut self.faults, &mut self.refused, f, answer)?;
         note_length(&mut self.lengths, f, at.saturating_add(from.len() as u64));
         Ok(())
     }
@@ -182,9 +194,10 @@ impl<F: DiskFile + Drop, W: Write + Drop> Media for DirMedia<F, W> {
         ensures present { present_of self.new ≡ present_of self.old }
         ensures cause { HasCause (faults_of self.old) (faults_of self.new) result }
         ensures tell_faults { tell_faults_of self.new ≡ tell_faults_of self.old }
+        ensures refused { OnErr result (IsRefusalAt f (refused_of self.new)) }
     {
         let answer = self.sync_of(f);
-        counted(&mut self.faults, answer)
+        counted(&mut self.faults, &mut self.refused, f, answer)
     }
 
     fn tell(&mut self, piece: &[u8]) -> Result<usize, Failed>
@@ -196,12 +209,46 @@ impl<F: DiskFile + Drop, W: Write + Drop> Media for DirMedia<F, W> {
         ensures cause { HasCause (tell_faults_of self.old) (tell_faults_of self.new) result }
         ensures faults { faults_of self.new ≡ faults_of self.old }
     {
-        match self.output.write(piece) {
-            Ok(count) if count > 0 || piece.is_empty() => Ok(count),
-            _ => {
-                self.tell_faults = raised(self.tell_faults);
-                Err(Failed)
+        let cause = match self.output.write(piece) {
+            Ok(count) if count > 0 || piece.is_empty() => return Ok(count),
+            Ok(_) => io::Error::from(ErrorKind::WriteZero),
+            Err(cause) => cause,
+        };
+        self.output_refused = Some(cause);
+        self.tell_faults = raised(self.tell_faults);
+        Err(Failed)
+    }
+}
+
+impl<F: DiskFile + Drop, W: Write + Drop> DirMedia<F, W> {
+    /// The path of the file of a number.
+    fn path(&self, f: u32) -> Result<String, AllocError> {
+        path_of(*self.lengths.allocator(), self.folder.as_str(), f)
+    }
+}
+
+impl<F: DiskFile + Drop, W: Write + Drop> Explains for DirMedia<F, W> {
+    fn explain_fault<E: Write>(&self, errors: &mut E) -> io::Result<()> {
+        match &self.refused {
+            None => Ok(()),
+            Some(refusal) => {
+                let path = self.path(refusal.file)?;
+                writeln!(errors, "{path}: {}", refusal.cause)
             }
         }
+    }
+}
+
+impl<F: DiskFile + Drop, W: Write + Drop> ExplainsMedia for DirMedia<F, W> {
+    fn explain_output<E: Write>(&self, errors: &mut E) -> io::Result<()> {
+        match &self.output_refused {
+            None => Ok(()),
+            Some(cause) => writeln!(errors, "standard output: {cause}"),
+        }
+    }
+
+    fn explain_log<E: Write>(&self, errors: &mut E, at: u64) -> io::Result<()> {
+        let path = self.path(0)?;
+        writeln!(errors, "{path}: no list of changes from byte {at} on")
     }
 }

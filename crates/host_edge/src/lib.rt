@@ -15,6 +15,7 @@ mod files;
 mod lists;
 mod lock;
 mod opening;
+mod refusal;
 mod slots;
 mod source;
 
@@ -27,4 +28,5 @@ pub use files::{make_folder, open_file, path_in, sync_folder};
 pub use lists::add;
 pub use lock::{FolderLock, lock_folder};
 pub use opening::{Doors, Opened, Place, Unopened, open_all};
+pub use refusal::{Explains, ExplainsMedia, Refusal};
 pub use source::StdSource;

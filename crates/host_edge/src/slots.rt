@@ -4,7 +4,7 @@ ghost use Rattle.std.specs.Prelude.{◌≡◌, ◌≢◌, ◌++◌, codes, lengt
 ghost use Rattle.std.specs.String.{string_bytes};
 ghost use Rattle.std.specs.Option.{option_copied};
 ghost use Rattle.std.specs.Fmt.{decimal};
-ghost use Rattle.host_edge.specs.Slots.{slot_at, file_among};
+ghost use Rattle.host_edge.specs.Slots.{slot_at, file_among, path_of};
 ghost use Rattle.host_edge.specs.Streams.{IsAboveStreams};
 ghost use Rattle.host_edge.specs.declared.fault.EdgeFault.TheVariants.{TooMany};
 
@@ -37,6 +37,17 @@ fn slot_path(alloc: Global, folder: &str, slot: usize) -> Result<String, AllocEr
     ensures { IfOk result (λ path. string_bytes path ≡ folder.now ++ (codes "/slot" ++ decimal slot)) }
 {
     format!(in alloc; "{folder}/slot{slot}")
+}
+
+/// The path of the file of a number.
+pub(crate) fn path_of(alloc: Global, folder: &str, f: u32) -> Result<String, AllocError>
+    ensures { IfOk result (λ path. string_bytes path ≡ path_of folder.now f) }
+{
+    if f == 0 {
+        format!(in alloc; "{folder}/journal")
+    } else {
+        slot_path(alloc, folder, f as usize - 1)
+    }
 }
 
 /// A file, or none where it is absent.

@@ -4,9 +4,10 @@ ghost use Rattle.std.specs.Prelude.{◌≡◌, ◌≤◌, length, IfOk};
 ghost use Rattle.std.specs.Io.KnownBytes.{ReadConsumes};
 ghost use Rattle.crash_moments.specs.Moments.{HasCause};
 
+use crate::refusal::Explains;
 use crash_moments::raised;
 use media_core::{Failed, Source};
-use std::io::Read;
+use std::io::{self, Read, Write};
 
 /// A reader of the system as a source. What a system gives is not told; of a reader that knows its bytes, as a list in
 /// memory does, a read gives the next ones, none is lost, and it gives none only at their end. A read that is refused takes
@@ -15,6 +16,7 @@ use std::io::Read;
 pub struct StdSource<R: Read + Drop> {
     reader: R,
     faults: u64,
+    refused: Option<io::Error>,
 }
 
 impl<R: Read + Drop> StdSource<R> {
@@ -23,7 +25,11 @@ impl<R: Read + Drop> StdSource<R> {
         ensures faults { result.faults ≡ 0 }
         ensures reader { result.reader ≡ reader }
     {
-        StdSource { reader, faults: 0 }
+        StdSource {
+            reader,
+            faults: 0,
+            refused: None,
+        }
     }
 }
 
@@ -43,10 +49,20 @@ impl<R: Read + Drop> Source for StdSource<R> {
     {
         match self.reader.read(into) {
             Ok(count) => Ok(count),
-            Err(_) => {
+            Err(cause) => {
+                self.refused = Some(cause);
                 self.faults = raised(self.faults);
                 Err(Failed)
             }
+        }
+    }
+}
+
+impl<R: Read + Drop> Explains for StdSource<R> {
+    fn explain_fault<E: Write>(&self, errors: &mut E) -> io::Result<()> {
+        match &self.refused {
+            None => Ok(()),
+            Some(cause) => writeln!(errors, "standard input: {cause}"),
         }
     }
 }
