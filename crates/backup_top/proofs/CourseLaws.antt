@@ -31,10 +31,13 @@ use Rattle.backup_script.specs.Scripts.{Outcome, script, Stage, IsStage}
 use Rattle.backup_script.specs.Running.{Took, TookTooMany, Left}
 use Rattle.backup_script.specs.Ended.{Ends, EndsShort, TakesBytes, IsRefusedLog}
 use Rattle.backup_script.proofs.StageLaws.{stage_whole}
+use Rattle.script_journals.specs.Journals.{IsJournalAfter}
+use Rattle.script_journals.proofs.Following.{journal_front, journal_form, journal_bytes}
+use Rattle.script_journals.proofs.Scripts.{script_follows}
 use Rattle.backup_top.specs.declared.status.Status.{Status}
 use Rattle.backup_top.specs.declared.status.Status.TheVariants.{Done, SomeRefused, Usage, ReadFault, MediaFault, CellFault, Memory, BadConfig, BadLog, OutputFault, ScriptTooLong}
 use Rattle.backup_top.specs.Answers.{run_status, opening_status}
-use Rattle.backup_top.specs.Courses.{Course, IsWithin, IsComplete, outcome, Leaves, LeavesShort, Runs, TakesBy, Journal, IsBadLog, RefusesJournal, LeftImage, LeavesImages, EndsAt, HasCauseAs}
+use Rattle.backup_top.specs.Courses.{Course, IsWithin, IsComplete, outcome, Leaves, LeavesShort, Runs, TakesBy, Journal, IsBadLog, RefusesJournal, Reopens, LeftImage, LeavesImages, EndsAt, HasCauseAs}
 use Rattle.backup_top.proofs.Lowering.{alike_same, log_come, log_whole}
 
 -- ---- what was done
@@ -152,24 +155,64 @@ told_whole start effects old new joint before after reply is some whole = elim (
   | inr within ↦ absurd (omega (arith, some, whole, told_short start effects before (tells reply ∷ after) old new joint is within))
 ]
 
-pub image_of : (start : State) (effects : List Effect) (old new : Stock) → start.log_settled ≡ length start.log → Joint start effects old new → LeftImage start effects old new
-image_of start effects old new settled joint = record {
-  joint = joint;
-  events = joint.left.log ∙ ap (λ (l : List ℕ). Some l) (log_whole (come (take joint.count effects) start) (log_come (take joint.count effects) start settled));
-  acknowledged = told_whole start effects old new joint;
-}
+-- The effects of a world whose log is settled: what its journal is after the first of them.
+pub record Journaled (w : World) (effects : List Effect) : Type 0 where
+  pub settled : w.state.log_settled ≡ length w.state.log
+  pub form : AreChanges w.log
+  pub is : w.state.log ≡ encoded w.log
+  pub last : List Change
+  pub after : IsJournalAfter w.log effects last
 
-pub images_of : {D : Type 0} (time : Moments D Image) (old new : D) (start : State) (effects : List Effect) → start.log_settled ≡ length start.log → LeavesSince time old new (λ a b. Joint start effects (stock_of a) (stock_of b)) → LeavesImages time old new start effects
-images_of time old new start effects settled images = λ c left. let at = images c left in record { from = at.from; was = at.was; step = image_of start effects (stock_of at.from) (stock_of c) settled at.step }
+front_journal : (w : World) (effects : List Effect) (n : ℕ) → Journaled w effects → (mid : List Change) × IsJournalAfter w.log (take n effects) mid
+front_journal w effects n j = journal_front (take n effects) (drop n effects) w.log j.last (subst (λ (es : List Effect). IsJournalAfter w.log es j.last) (sym (take-append-drop n effects)) j.after)
+
+-- the journal that is found opens
+opens_again : (w : World) (effects : List Effect) (n : ℕ) (found : Option (List ℕ)) → Journaled w effects → found ≡ Some (come (take n effects) w.state).log → Reopens w.log (take n effects) found
+opens_again w effects n found j is =
+    let mid = front_journal w effects n j in
+    let form = journal_form (take n effects) w.log mid.0 j.form mid.1 in
+    let bytes : found ≡ Some (encoded mid.0) = is ∙ ap (λ (l : List ℕ). Some l) (journal_bytes (take n effects) w.state w.log mid.0 j.is mid.1) in
+    record {
+      changes = mid.0;
+      after = mid.1;
+      form = form;
+      is = bytes;
+      never_bad = λ at bad. (subst (λ (l : Option (List ℕ)). IsBadLog l at) bytes bad).not_whole (mid.0, form, refl);
+    }
+
+image_of : (w : World) (effects : List Effect) (old new : Stock) → Journaled w effects → Joint w.state effects old new → LeftImage w effects old new
+image_of w effects old new j joint =
+    let events : new.log ≡ Some (come (take joint.count effects) w.state).log
+    = joint.left.log ∙ ap (λ (l : List ℕ). Some l) (log_whole (come (take joint.count effects) w.state) (log_come (take joint.count effects) w.state j.settled)) in
+    record {
+      joint = joint;
+      events = events;
+      reopens = opens_again w effects joint.count new.log j events;
+      acknowledged = told_whole w.state effects old new joint;
+    }
+
+pub images_of : {D : Type 0} (time : Moments D Image) (old new : D) (w : World) (effects : List Effect) → Journaled w effects → LeavesSince time old new (λ a b. Joint w.state effects (stock_of a) (stock_of b)) → LeavesImages time old new w effects
+images_of time old new w effects j images = λ c left. let at = images c left in record { from = at.from; was = at.was; step = image_of w effects (stock_of at.from) (stock_of c) j at.step }
+
+-- the script of a course
+pub journaled : (c : Course) → c.world.state.log_settled ≡ length c.world.state.log → AreChanges c.world.log → c.world.state.log ≡ encoded c.world.log → Journaled c.world (outcome c).effects
+journaled c settled form is = record { settled = settled; form = form; is = is; last = (outcome c).world.log; after = script_follows c.world c.moments (lines c.input) form }
+
+-- a stage of it
+stage_journaled : (c : Course) (stage : Stage) → IsStage [] c.world c.moments (lines c.input) stage → Journaled c.world (outcome c).effects → Journaled c.world stage.effects
+stage_journaled c stage on j =
+    let more = stage_whole [] c.world c.moments (lines c.input) stage on in
+    let front = journal_front stage.effects more.0 c.world.log j.last (subst (λ (es : List Effect). IsJournalAfter c.world.log es j.last) more.1 j.after) in
+    record { settled = j.settled; form = j.form; is = j.is; last = front.0; after = front.1 }
 
 -- however it ended
-pub ends_at : {D : Type 0} (time : Moments D Image) (seen : D → Image) (old new : D) (c : Course) (stage : Stage) → IsStage [] c.world c.moments (lines c.input) stage → c.cell ≡ stage.cell → c.world.state.log_settled ≡ length c.world.state.log
+pub ends_at : {D : Type 0} (time : Moments D Image) (seen : D → Image) (old new : D) (c : Course) (stage : Stage) → IsStage [] c.world c.moments (lines c.input) stage → c.cell ≡ stage.cell → Journaled c.world (outcome c).effects
     → time.moment old ≤ time.moment new → time.may_leave new (seen new) → LeavesSince time old new (λ a b. Joint c.world.state stage.effects (stock_of a) (stock_of b)) → EndsAt time seen old new c
-ends_at time seen old new c stage on cell settled later reads images = record {
+ends_at time seen old new c stage on cell j later reads images = record {
   stage = stage;
   on_the_way = on;
   cell = cell;
-  image = images_of time old new c.world.state stage.effects settled images (seen new) (time.counts_now new (time.moment old) (seen new) later reads);
+  image = images_of time old new c.world stage.effects (stage_journaled c stage on j) images (seen new) (time.counts_now new (time.moment old) (seen new) later reads);
 }
 
 -- what was left of a stage was left of the script

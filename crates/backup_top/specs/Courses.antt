@@ -20,6 +20,7 @@ use Rattle.backup_session.specs.Opening.{opened}
 use Rattle.backup_script.specs.Lines.{ended, has_quit, most_script}
 use Rattle.backup_script.specs.Scripts.{Outcome, script, Stage, IsStage}
 use Rattle.backup_script.specs.Running.{Took, TookAll, TookToQuit, TookTooMany}
+use Rattle.script_journals.specs.Journals.{IsJournalAfter}
 use Rattle.backup_top.specs.Answers.{config_status}
 use Rattle.backup_top.specs.declared.status.Status.{Status}
 use Rattle.backup_top.specs.declared.status.Status.TheVariants.{Done, SomeRefused, Usage, ReadFault, MediaFault, CellFault, Memory, BadConfig, BadLog, OutputFault, ScriptTooLong}
@@ -53,10 +54,9 @@ IsBadLog (Some bytes) at = FailsAt IsLog bytes at
 abbrev pub at_rest : List ℕ → Stock → State
 at_rest log stock = record { log = log; tape = stock.tape; told = stock.told; log_settled = length log; settled = λ k. length (stock.tape k) }
 
--- The world that a run finds: the configuration, the changes of the journal, the cell, and what stands on the media, of which no tape is
--- loaded.
+-- The world that a run finds: the configuration, the changes of the journal, the cell, and what stands on the media.
 abbrev pub world_at : Settings → (ℕ → Bool) → List Change → List Stored → Stock → World
-world_at config present log cell stock = opened (record { config = config; present = slots_here present }) log cell (at_rest (encoded log) stock) None
+world_at config present log cell stock = opened (record { config = config; present = slots_here present }) log cell (at_rest (encoded log) stock)
 
 -- ---- a course: a run of a script from its entry to its exit
 
@@ -170,17 +170,28 @@ IsComplete status = ⊥
 
 -- ---- images
 
--- What a crash leaves of a run, from what was left at the entry: what the crash model leaves after the first effects of the script, for
--- ONE count of them. The journal isn't damaged, and is that after these effects. A reply that was told whole is among them.
-pub record LeftImage (start : State) (effects : List Effect) (old new : Stock) : Type 0 where
-  pub joint : Joint start effects old new
-  pub events : new.log ≡ Some (come (take joint.count effects) start).log
+-- What an opening finds: the journal isn't refused, whatever the place, but is a list of changes: those that the effects make of these. So
+-- the database that opens is that of the journal after the effects.
+pub record Reopens (log : List Change) (effects : List Effect) (found : Option (List ℕ)) : Type 0 where
+  pub changes : List Change
+  pub after : IsJournalAfter log effects changes
+  pub form : AreChanges changes
+  pub is : found ≡ Some (encoded changes)
+  pub never_bad : (at : ℕ) → IsBadLog found at → ⊥
+
+-- What a crash leaves of a run, from the world at the entry: what the crash model leaves after the first effects of the script, for
+-- ONE count of them. The journal isn't damaged, and is that after these effects, so that it opens again. A reply that was told whole is
+-- among them.
+pub record LeftImage (w : World) (effects : List Effect) (old new : Stock) : Type 0 where
+  pub joint : Joint w.state effects old new
+  pub events : new.log ≡ Some (come (take joint.count effects) w.state).log
+  pub reopens : Reopens w.log (take joint.count effects) new.log
   pub acknowledged : (before after : List Effect) (reply : List ℕ) → effects ≡ before ++ tells reply ∷ after → 0 < length reply
-      → length start.told + length (told_by before) + length reply ≤ length new.told → length before < joint.count
+      → length w.state.told + length (told_by before) + length reply ≤ length new.told → length before < joint.count
 
 -- each image since the entry
-abbrev pub LeavesImages : {D : Type 0} → Moments D Image → D → D → State → List Effect → Type 0
-LeavesImages time old new start effects = LeavesSince time old new (λ a b. LeftImage start effects (stock_of a) (stock_of b))
+abbrev pub LeavesImages : {D : Type 0} → Moments D Image → D → D → World → List Effect → Type 0
+LeavesImages time old new w effects = LeavesSince time old new (λ a b. LeftImage w effects (stock_of a) (stock_of b))
 
 -- However a run ends, what reads give is such an image of a stage of the script, and the cell has the list of this stage. So the cell has
 -- the changes of each command whose reply was told.
@@ -188,7 +199,7 @@ pub record EndsAt {D : Type 0} (time : Moments D Image) (seen : D → Image) (ol
   pub stage : Stage
   pub on_the_way : IsStage [] c.world c.moments (lines c.input) stage
   pub cell : c.cell ≡ stage.cell
-  pub image : Stepped time old (λ a b. LeftImage c.world.state stage.effects (stock_of a) (stock_of b)) (seen new)
+  pub image : Stepped time old (λ a b. LeftImage c.world stage.effects (stock_of a) (stock_of b)) (seen new)
 
 -- ---- causes
 

@@ -11,10 +11,10 @@ ghost use Rattle.backup_top.specs.declared.words.Asked.TheVariants.{Nothing};
 ghost use Rattle.backup_top.specs.declared.status.Status.TheVariants.{Usage, ReadFault, Memory, OutputFault};
 
 use crate::status::Status;
-use crate::stdin::StdSource;
 use crate::top::run;
 use cell_core::CellMem;
-use media_core::{ClockMem, MemMedia};
+use host_edge::StdSource;
+use media_core::{ClockMem, MemMedia, Source};
 use std::alloc::{AllocError, Global};
 use std::env::{self, Env};
 use std::io::{self, ErrorKind, Read, Write};
@@ -66,18 +66,18 @@ pub fn explain<E: Write>(errors: &mut E, status: Status) -> io::Result<()>
 }
 
 /// Runs on a source with these words, and prints what was told.
-fn run_over<I: Read + Drop, O: Write>(
+fn run_over<S: Source, O: Write>(
     alloc: Global,
     words: &Vec<String>,
-    source: &mut StdSource<I>,
+    source: &mut S,
     output: &mut O,
 ) -> Status
     ensures usage { result ≡ Usage → asked words.now.items ≡ Nothing }
     ensures other_words { asked words.now.items ≡ Nothing → ((result ≡ Usage) ⊎ ((result ≡ OutputFault) ⊎ (result ≡ Memory))) × (source.new ≡ source.old) }
     ensures usage_line { result ≡ Usage → Appends (O.contents output.old) (O.contents output.new) usage_line }
     ensures grows { result ≢ OutputFault → Grows (O.contents output.old) (O.contents output.new) }
-    ensures read_fault { result ≡ ReadFault → Rose source.old.faults source.new.faults }
-    ensures no_fault { (result ≢ ReadFault) × (result ≢ OutputFault) → source.new.faults ≡ source.old.faults }
+    ensures read_fault { result ≡ ReadFault → Rose (S.faults source.old) (S.faults source.new) }
+    ensures no_fault { (result ≢ ReadFault) × (result ≢ OutputFault) → S.faults source.new ≡ S.faults source.old }
 {
     let Ok(media) = MemMedia::new(alloc, FILES) else {
         return Status::Memory;

@@ -9,7 +9,6 @@ mod run_mode;
 mod running;
 mod status;
 mod statuses;
-mod stdin;
 mod telling;
 mod top;
 mod words;

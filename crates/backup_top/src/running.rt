@@ -28,7 +28,7 @@ pub fn run_media<M: Media, C: Cell, K: Clock, S: Source>(
         → Runs (course M.seen M.present config journal.log media result.1 (C.list cell.old) (C.list cell.new) (K.moments clock.old) (K.moments clock.new) (S.left source.old) (S.left source.new)) result.0 }
     ensures images { M.tells → C.tells → K.tells → S.tells → AreStill M.time M.seen media → (journal : Journal (stock_of (M.seen media)))
         → let c = course M.seen M.present config journal.log media result.1 (C.list cell.old) (C.list cell.new) (K.moments clock.old) (K.moments clock.new) (S.left source.old) (S.left source.new) in
-        LeavesImages M.time media result.1 c.world.state (outcome c).effects }
+        LeavesImages M.time media result.1 c.world (outcome c).effects }
     ensures ends { M.tells → C.tells → K.tells → S.tells → AreStill M.time M.seen media → (journal : Journal (stock_of (M.seen media)))
         → EndsAt M.time M.seen media result.1 (course M.seen M.present config journal.log media result.1 (C.list cell.old) (C.list cell.new) (K.moments clock.old) (K.moments clock.new) (S.left source.old) (S.left source.new)) }
     ensures takes { S.tells → TakesBy (S.left source.old) (S.left source.new) result.0 }

@@ -135,11 +135,12 @@ pub fn run<M: Media, C: Cell, K: Clock, S: Source>(
     // A script, over media whose journal is a list of changes, and by a configuration of the form: what was done, by the status.
     ensures runs { asked words.now.items ≡ Run → M.tells → C.tells → K.tells → S.tells → (entry : Entry config.now (stock_of (M.seen media)))
         → Runs (course_of M.seen M.present media entry result.1 (C.list cell.old) (C.list cell.new) (K.moments clock.old) (K.moments clock.new) (S.left source.old) (S.left source.new)) result.0 }
-    // Each image since the entry, where no write of before waits for a sync.
+    // Each image since the entry, where no write of before waits for a sync. Its journal opens again: it is the list of changes that the
+    // first of the script's effects make, and each reply that was told whole is among them.
     ensures images { asked words.now.items ≡ Run → M.tells → C.tells → K.tells → S.tells → AreStill M.time M.seen media → (entry : Entry config.now (stock_of (M.seen media)))
         → let c = course_of M.seen M.present media entry result.1 (C.list cell.old) (C.list cell.new) (K.moments clock.old) (K.moments clock.new) (S.left source.old) (S.left source.new) in
-        LeavesImages M.time media result.1 c.world.state (outcome c).effects }
-    // However it ended.
+        LeavesImages M.time media result.1 c.world (outcome c).effects }
+    // However it ended, what reads give is such an image.
     ensures ends { asked words.now.items ≡ Run → M.tells → C.tells → K.tells → S.tells → AreStill M.time M.seen media → (entry : Entry config.now (stock_of (M.seen media)))
         → EndsAt M.time M.seen media result.1 (course_of M.seen M.present media entry result.1 (C.list cell.old) (C.list cell.new) (K.moments clock.old) (K.moments clock.new) (S.left source.old) (S.left source.new)) }
     // What is taken of the source. A script is too long exactly where more came than it may have, with no end and no `quit`.

@@ -5,7 +5,7 @@ use Rattle.plant_core.specs.Stock.{Stock}
 use Rattle.plant_media.specs.Slots.{slots_here}
 use Rattle.crash_log.specs.Log.{is_damaged}
 use Rattle.plant_media.specs.Stock.{stock_of, journal_of}
-use Rattle.plant_media.specs.State.{shown_of, loaded_of}
+use Rattle.plant_media.specs.State.{shown_of}
 use Rattle.budb_changes.specs.Bytes.{encoded}
 use Rattle.backup_session.specs.Worlds.{World}
 use Rattle.backup_session.specs.Opening.{opened}
@@ -15,7 +15,7 @@ use Rattle.backup_top.specs.declared.status.Status.{Status}
 use Rattle.backup_top.specs.declared.status.Status.TheVariants.{MediaFault, BadLog}
 use Rattle.backup_top.specs.Courses.{Course, course, outcome, at_rest, Runs, RefusesJournal, IsBadLog, HasCauseAs}
 use Rattle.backup_top.proofs.Lowering.{opened_rests, shown_log, settled_whole, journal_damaged, still_left, nothing_since, images_left, images_later, alike_same, none_some}
-use Rattle.backup_top.proofs.CourseLaws.{leaves_media, runs_of, runs_not_opened, bad_log_answer, refuses_journal, opening_bad, opening_cause, bad_journal, damaged_journal, images_of, ends_at, left_whole}
+use Rattle.backup_top.proofs.CourseLaws.{leaves_media, runs_of, runs_not_opened, bad_log_answer, refuses_journal, opening_bad, opening_cause, bad_journal, damaged_journal, journaled, images_of, ends_at, left_whole}
 use Rattle.backup_top.proofs.running.run_media.Goals as goal
 
 pub returns-in-Ok-clause-runs : goal.returns-in-Ok-clause-runs
@@ -31,12 +31,12 @@ returns-in-Ok-clause-runs g c = λ told tells_cell tells_clock source journal.
     let log_is : shown.log ≡ encoded journal.log = shown_log (encoded journal.log) stock shown (e.stock told) journal.is in
     let rests : at_rest (encoded journal.log) stock ≡ shown = opened_rests (encoded journal.log) stock shown (e.stock told) journal.is (e.settled told) in
     let k : Course = course M.seen M.present c.args.config journal.log media c.into_media.result (g.C.Cell.list c.args.cell.now) (g.C.Cell.list n.cell) (g.K.Clock.moments c.args.clock.now) (g.K.Clock.moments n.clock) (g.S.Source.left c.args.source.now) (g.S.Source.left n.source) in
-    let same : opened (record { config = c.args.config; present = slots_here (M.present plant.media) }) journal.log (g.C.Cell.list c.args.cell.now) shown (loaded_of plant) ≡ k.world
-    = λ i. opened (record { config = c.args.config; present = slots_here (e.present i) }) journal.log (g.C.Cell.list c.args.cell.now) (sym rests i) (e.loaded i) in
+    let same : opened (record { config = c.args.config; present = slots_here (M.present plant.media) }) journal.log (g.C.Cell.list c.args.cell.now) shown ≡ k.world
+    = λ i. opened (record { config = c.args.config; present = slots_here (e.present i) }) journal.log (g.C.Cell.list c.args.cell.now) (sym rests i) in
     subst (λ (s : Status). Runs k s) (sym c.of_run.ensures)
     (runs_of _ g.C.Cell k _ plant n.plant n.cell same
     (λ s ends. leaves_media k s shown (shown_of M.seen n.plant) rests refl refl (c.into_media.ensures.stock told ends.done.sound) (ends.done.state told) ends.state ends.form ends.log ends.cell ends.moments)
-    c.run_on-answer.result (r.ran told tells_cell tells_clock source journal.log journal.form log_is) (r.read_short told tells_cell tells_clock source journal.log journal.form log_is) (r.long_short told tells_cell tells_clock source journal.log journal.form log_is)
+    c.run_on-answer.result (r.ran told tells_cell tells_clock source (e.settled told) journal.log journal.form log_is) (r.read_short told tells_cell tells_clock source (e.settled told) journal.log journal.form log_is) (r.long_short told tells_cell tells_clock source (e.settled told) journal.log journal.form log_is)
     (λ at bad. (r.bad_log told at bad).not_whole (journal.log, journal.form, log_is)))
 
 pub returns-in-Ok-clause-images : goal.returns-in-Ok-clause-images
@@ -53,11 +53,11 @@ returns-in-Ok-clause-images g c = λ told tells_cell tells_clock source still jo
     let log_is : shown.log ≡ bytes = shown_log bytes stock shown (e.stock told) journal.is in
     let rests : at_rest bytes stock ≡ shown = opened_rests bytes stock shown (e.stock told) journal.is (e.settled told) in
     let k : Course = course M.seen M.present c.args.config journal.log media c.into_media.result (g.C.Cell.list c.args.cell.now) (g.C.Cell.list n.cell) (g.K.Clock.moments c.args.clock.now) (g.K.Clock.moments n.clock) (g.S.Source.left c.args.source.now) (g.S.Source.left n.source) in
-    let same : opened (record { config = c.args.config; present = slots_here (M.present plant.media) }) journal.log (g.C.Cell.list c.args.cell.now) shown (loaded_of plant) ≡ k.world
-    = λ i. opened (record { config = c.args.config; present = slots_here (e.present i) }) journal.log (g.C.Cell.list c.args.cell.now) (sym rests i) (e.loaded i) in
-    let left = r.left told tells_cell tells_clock source journal.log journal.form log_is in
+    let same : opened (record { config = c.args.config; present = slots_here (M.present plant.media) }) journal.log (g.C.Cell.list c.args.cell.now) shown ≡ k.world
+    = λ i. opened (record { config = c.args.config; present = slots_here (e.present i) }) journal.log (g.C.Cell.list c.args.cell.now) (sym rests i) in
+    let left = r.left told tells_cell tells_clock source (e.settled told) journal.log journal.form log_is in
     let leaves = left_whole _ g.C.Cell _ k.world k.moments (lines k.input) plant n.plant n.cell same left in
-    images_of M.time media c.into_media.result k.world.state (outcome k).effects refl
+    images_of M.time media c.into_media.result k.world (outcome k).effects (journaled k refl journal.form refl)
     (images_left M.time M.seen media bytes c.into_media.result (outcome k).effects (still_left M.time M.seen media bytes still (λ image was. g.met.M.Media.told_left media image told was) journal.is)
     shown plant n.plant c.into_media.ensures.media rests (e.crash told) (leaves.crash told (e.survives told still)))
 
@@ -76,12 +76,12 @@ returns-in-Ok-clause-ends g c = λ told tells_cell tells_clock source still jour
     let log_is : shown.log ≡ bytes = shown_log bytes stock shown (e.stock told) journal.is in
     let rests : at_rest bytes stock ≡ shown = opened_rests bytes stock shown (e.stock told) journal.is (e.settled told) in
     let k : Course = course M.seen M.present c.args.config journal.log media back (g.C.Cell.list c.args.cell.now) (g.C.Cell.list n.cell) (g.K.Clock.moments c.args.clock.now) (g.K.Clock.moments n.clock) (g.S.Source.left c.args.source.now) (g.S.Source.left n.source) in
-    let same : opened (record { config = c.args.config; present = slots_here (M.present plant.media) }) journal.log (g.C.Cell.list c.args.cell.now) shown (loaded_of plant) ≡ k.world
-    = λ i. opened (record { config = c.args.config; present = slots_here (e.present i) }) journal.log (g.C.Cell.list c.args.cell.now) (sym rests i) (e.loaded i) in
-    let left = r.left told tells_cell tells_clock source journal.log journal.form log_is in
+    let same : opened (record { config = c.args.config; present = slots_here (M.present plant.media) }) journal.log (g.C.Cell.list c.args.cell.now) shown ≡ k.world
+    = λ i. opened (record { config = c.args.config; present = slots_here (e.present i) }) journal.log (g.C.Cell.list c.args.cell.now) (sym rests i) in
+    let left = r.left told tells_cell tells_clock source (e.settled told) journal.log journal.form log_is in
     let fits = still_left M.time M.seen media bytes still (λ image was. g.met.M.Media.told_left media image told was) journal.is in
     let crash = left.leaves.crash told (e.survives told still) in
-    ends_at M.time M.seen media back k left.stage (subst (λ (w : World). IsStage [] w k.moments (lines k.input) left.stage) same left.on_the_way) left.cell refl
+    ends_at M.time M.seen media back k left.stage (subst (λ (w : World). IsStage [] w k.moments (lines k.input) left.stage) same left.on_the_way) left.cell (journaled k refl journal.form refl)
     (images_later M.time M.seen media bytes back left.stage.effects fits shown plant n.plant c.into_media.ensures.media rests (e.crash told) crash)
     (g.met.M.Media.seen_may_be_left back told)
     (images_left M.time M.seen media bytes back left.stage.effects fits shown plant n.plant c.into_media.ensures.media rests (e.crash told) crash)
@@ -123,7 +123,7 @@ returns-in-Err-clause-images g c = λ told tells_cell tells_clock source still j
     let media = c.args.media in
     let bytes = encoded journal.log in
     let k : Course = course M.seen M.present c.args.config journal.log media c.in-Err.unopened.media (g.C.Cell.list c.args.cell.now) (g.C.Cell.list c.args.cell.now) (g.K.Clock.moments c.args.clock.now) (g.K.Clock.moments c.args.clock.now) (g.S.Source.left c.args.source.now) (g.S.Source.left c.args.source.now) in
-    images_of M.time media c.in-Err.unopened.media k.world.state (outcome k).effects refl
+    images_of M.time media c.in-Err.unopened.media k.world (outcome k).effects (journaled k refl journal.form refl)
     (nothing_since M.time M.seen media bytes c.in-Err.unopened.media (outcome k).effects (still_left M.time M.seen media bytes still (λ image was. g.met.M.Media.told_left media image told was) journal.is) (c.in-Err.ensures.crash told))
 
 pub returns-in-Err-clause-ends : goal.returns-in-Err-clause-ends
@@ -133,7 +133,7 @@ returns-in-Err-clause-ends g c = λ told tells_cell tells_clock source still jou
     let back = c.in-Err.unopened.media in
     let bytes = encoded journal.log in
     let k : Course = course M.seen M.present c.args.config journal.log media back (g.C.Cell.list c.args.cell.now) (g.C.Cell.list c.args.cell.now) (g.K.Clock.moments c.args.clock.now) (g.K.Clock.moments c.args.clock.now) (g.S.Source.left c.args.source.now) (g.S.Source.left c.args.source.now) in
-    ends_at M.time M.seen media back k (between [] k.world) (stage_front [] k.world k.moments (lines k.input)) refl refl (c.in-Err.ensures.crash told).later (g.met.M.Media.seen_may_be_left back told)
+    ends_at M.time M.seen media back k (between [] k.world) (stage_front [] k.world k.moments (lines k.input)) refl (journaled k refl journal.form refl) (c.in-Err.ensures.crash told).later (g.met.M.Media.seen_may_be_left back told)
     (nothing_since M.time M.seen media bytes back [] (still_left M.time M.seen media bytes still (λ image was. g.met.M.Media.told_left media image told was) journal.is) (c.in-Err.ensures.crash told))
 
 pub returns-in-Err-clause-bad_log : goal.returns-in-Err-clause-bad_log

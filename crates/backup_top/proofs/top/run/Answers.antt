@@ -6,7 +6,7 @@ use Rattle.backup_script.specs.Scripts.{between}
 use Rattle.backup_script.proofs.StageLaws.{stage_front}
 use Rattle.backup_top.specs.Courses.{Course, course_of, outcome}
 use Rattle.backup_top.proofs.Lowering.{still_left, nothing_since}
-use Rattle.backup_top.proofs.CourseLaws.{images_of, ends_at, complete_by}
+use Rattle.backup_top.proofs.CourseLaws.{journaled, images_of, ends_at, complete_by}
 use Rattle.backup_top.proofs.top.run.Goals as goal
 
 pub returns-in-Err-clause-images : goal.returns-in-Err-clause-images
@@ -15,7 +15,7 @@ returns-in-Err-clause-images g c = λ runs told tells_cell tells_clock source st
     let media = c.args.media in
     let bytes = encoded entry.journal.log in
     let k : Course = course_of M.seen M.present media entry media (g.C.Cell.list c.args.cell.now) (g.C.Cell.list c.args.cell.now) (g.K.Clock.moments c.args.clock.now) (g.K.Clock.moments c.args.clock.now) (g.S.Source.left c.args.source.now) (g.S.Source.left c.args.source.now) in
-    images_of M.time media media k.world.state (outcome k).effects refl
+    images_of M.time media media k.world (outcome k).effects (journaled k refl entry.journal.form refl)
     (nothing_since M.time M.seen media bytes media (outcome k).effects (still_left M.time M.seen media bytes still (λ image was. g.met.M.Media.told_left media image told was) entry.journal.is) (stays M.time media))
 
 pub returns-in-Err-clause-ends : goal.returns-in-Err-clause-ends
@@ -24,7 +24,7 @@ returns-in-Err-clause-ends g c = λ runs told tells_cell tells_clock source stil
     let media = c.args.media in
     let bytes = encoded entry.journal.log in
     let k : Course = course_of M.seen M.present media entry media (g.C.Cell.list c.args.cell.now) (g.C.Cell.list c.args.cell.now) (g.K.Clock.moments c.args.clock.now) (g.K.Clock.moments c.args.clock.now) (g.S.Source.left c.args.source.now) (g.S.Source.left c.args.source.now) in
-    ends_at M.time M.seen media media k (between [] k.world) (stage_front [] k.world k.moments (lines k.input)) refl refl (stays M.time media).later (g.met.M.Media.seen_may_be_left media told)
+    ends_at M.time M.seen media media k (between [] k.world) (stage_front [] k.world k.moments (lines k.input)) refl (journaled k refl entry.journal.form refl) (stays M.time media).later (g.met.M.Media.seen_may_be_left media told)
     (nothing_since M.time M.seen media bytes media [] (still_left M.time M.seen media bytes still (λ image was. g.met.M.Media.told_left media image told was) entry.journal.is) (stays M.time media))
 
 pub returns-in-Ok-Run-clause-complete : goal.returns-in-Ok-Run-clause-complete
