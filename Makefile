@@ -32,7 +32,9 @@ bench: afsbackup
 	bench/stream.sh crates/stream_bench/out/stream_bench
 
 # Tests the files in a real folder by a small program: closed standard streams, refused opens, kills, what is on the disk when
-# a line is told, and images of volumes against a model.
-edge-tests:
+# a line is told, and images of volumes against a model. Then the program itself: scripts after one another, closed and full outputs,
+# refused opens, a full device and 200 kills, each told reply's change in the journal.
+edge-tests: afsbackup
 	cd crates/edge_probe && rt run > /dev/null && rm -r media cell
 	bench/edge/tests.py crates/edge_probe/out/edge_probe
+	bench/edge/program.py ./afsbackup

@@ -6,7 +6,7 @@ ghost use Rattle.backup_top.specs.Statuses.{status_number, line_of_status};
 
 use backup_top::{Asked, Status, asked_by, explain, run, words_of};
 use cell_core::Cell;
-use host_edge::{Doors, Opened, StdSource, Unopened, open_all};
+use host_edge::{Doors, Explains, ExplainsMedia, Opened, StdSource, Unopened, open_all};
 use media_core::{Clock, Media};
 use std::alloc::{AllocError, Global};
 use std::env::Env;
@@ -34,14 +34,39 @@ fn end<E: Write>(errors: &mut E, status: Status) -> u8
     status.number()
 }
 
-/// Runs a script in what was opened, which is locked until the end.
-fn run_opened<L: Drop, M: Media + Drop, C: Cell + Drop, K: Clock, I: Read + Drop>(
+/// Prints the path and the cause of what ended a run, where the system refused a call, or the journal is no list of changes.
+fn tell_cause<M: ExplainsMedia, S: Explains, E: Write>(
+    errors: &mut E,
+    status: Status,
+    media: &M,
+    source: &S,
+) -> io::Result<()> {
+    match status {
+        Status::ReadFault => source.explain_fault(errors),
+        Status::MediaFault => media.explain_fault(errors),
+        Status::OutputFault => media.explain_output(errors),
+        Status::BadLog { at } => media.explain_log(errors, at),
+        _ => Ok(()),
+    }
+}
+
+/// Runs a script in what was opened, which is locked until the end, and says the exit status. The errors take the line of the status,
+/// where it told nothing of how it ended, and behind it the path and the cause.
+fn run_opened<
+    L: Drop,
+    M: Media + ExplainsMedia + Drop,
+    C: Cell + Drop,
+    K: Clock,
+    I: Read + Drop,
+    E: Write,
+>(
     alloc: Global,
     words: &Vec<String>,
     opened: Opened<L, M, C>,
     clock: &mut K,
     input: I,
-) -> Status {
+    errors: &mut E,
+) -> u8 {
     let Opened {
         media,
         mut cell,
@@ -49,7 +74,7 @@ fn run_opened<L: Drop, M: Media + Drop, C: Cell + Drop, K: Clock, I: Read + Drop
         lock: _lock,
     } = opened;
     let mut source = StdSource::new(input);
-    let (status, _media) = run(
+    let (status, media) = run(
         alloc,
         words,
         config.as_slice(),
@@ -58,7 +83,9 @@ fn run_opened<L: Drop, M: Media + Drop, C: Cell + Drop, K: Clock, I: Read + Drop
         clock,
         &mut source,
     );
-    status
+    let number = end(errors, status);
+    let _ = tell_cause(errors, status, &media, &source);
+    number
 }
 
 /// What the words of an environment ask for, and the words.
@@ -69,12 +96,13 @@ fn asked_of<R: Env + AllocGlobal>(rt: &R) -> Result<(Asked, Vec<String>), AllocE
 }
 
 /// Runs on an input with the words after the program's name, and says the exit status. A script is run in what the doors open,
-/// to whose media its replies are told; all else tells to the output. The errors take one line where a run told nothing that
-/// says how it ended, and what couldn't be opened with its cause.
+/// to whose media its replies are told; all else tells to the output. Where a run told nothing that says how it ended, the errors take
+/// a line that does, and behind it one with the path and the cause of what the system refused; and what couldn't be opened with its
+/// cause.
 pub fn program<
     R: Env + AllocGlobal,
     L: Drop,
-    M: Media + Drop,
+    M: Media + ExplainsMedia + Drop,
     C: Cell + Drop,
     D: Doors<Lock = L, Media = M, Cell = C>,
     K: Clock,
@@ -86,10 +114,7 @@ pub fn program<
         Err(_) => end(errors, Status::Memory),
         Ok((Asked::Run, words)) => match open_all(doors) {
             Err(unopened) => end_unopened(errors, unopened),
-            Ok(opened) => {
-                let status = run_opened(rt.alloc(), &words, opened, clock, input);
-                end(errors, status)
-            }
+            Ok(opened) => run_opened(rt.alloc(), &words, opened, clock, input, errors),
         },
         Ok(_) => backup_top::program(rt, input, output, errors).number(),
     }
