@@ -1,32 +1,26 @@
 -- What a begin does: loads, and then one commit.
-use Rattle.std.proofs.Common.{◌≡◌, ◌≢◌, inl, inr, ℕ, ◌+◌, ◌*◌, ◌<◌, ◌≤◌, List, [], ◌∷◌, ◌++◌, map, length, refl, sym, ◌∙◌, ap, subst, arith, length-append}
-use Rattle.std.specs.Prelude.{Option, Some, None, Bool, Result, Ok, Err, IsTrue}
-use Rattle.bk_text.specs.Alphabets.{IsHost}
-use Rattle.byte_formats.specs.Forms.{IsMaybe}
+use Rattle.std.proofs.Common.{◌≡◌, ℕ, ◌+◌, ◌*◌, ◌≤◌, List, [], ◌∷◌, ◌++◌, map, length, refl, sym, ◌∙◌, ap, subst, arith, length-append}
+use Rattle.std.specs.Prelude.{Option, Some, None, Bool, IsTrue}
 use Rattle.byte_formats.specs.Bytes.{four}
 use Rattle.plant_core.specs.declared.plant.Plant.{Ghosts as Plant}
-use Rattle.plant_core.specs.Crashes.{State}
-use Rattle.plant_core.specs.Effects.{Effect, commits, settles, comes, come}
+use Rattle.plant_core.specs.Effects.{Effect, commits, settles}
 use Rattle.plant_core.specs.Records.{Record, NoBad}
 use Rattle.plant_effects.specs.Runs.{state_of, Done, Leaves, StaysQuiet}
 use Rattle.plant_effects.proofs.Joining.{done_both, leaves_both, leaves_more}
 use Rattle.tape_config.specs.declared.port.PortFields.{PortFields}
 use Rattle.tape_frames.specs.declared.label.LabelFields.{LabelFields}
-use Rattle.tape_frames.specs.Layouts.{IsDumpHead}
-use Rattle.tape_writer.specs.Room.{Counts, HasRoom, with_label}
+use Rattle.tape_writer.specs.Room.{HasRoom, with_label}
 use Rattle.budb_changes.specs.declared.change.Change.{Change}
-use Rattle.budb_changes.specs.declared.change.Change.TheVariants.{Begin, Take}
 use Rattle.budb_changes.specs.declared.records.DumpRecordFields.{DumpRecordFields}
 use Rattle.budb_changes.specs.Bytes.{encoded, encoded_change, kind_of, fields_of}
 use Rattle.budb.specs.Views.{BudbView}
 use Rattle.budb.specs.Kept.{Keeps}
-use Rattle.tape_choice.specs.Choice.{takes}
 use Rattle.tape_scan.specs.Looking.{Loads, LeavesLoads}
 use Rattle.tape_scan.proofs.Looking.{settling_keeps_log}
 use Rattle.dump_job.specs.declared.order.DumpOrder.{DumpOrder}
 use Rattle.dump_job.specs.declared.first_tapes.FirstTape.{FirstTape}
 use Rattle.dump_job.specs.declared.fields.JobFields.{JobFields}
-use Rattle.dump_job.specs.Reels.{records_on, counts_on}
+use Rattle.dump_job.specs.Reels.{records_on}
 use Rattle.dump_job.specs.Faults.{DoneBehindLoads, LeavesBehindLoads}
 use Rattle.dump_job.specs.Beginning.{begin_changes, length_with, begun_job, fresh, IsBlankOrRoomy, IsStart, Stands, IsReady}
 

@@ -7,7 +7,7 @@ use Rattle.std.proofs.lemmas.List.Elements.{All-nil}
 use Rattle.crash_moments.specs.Moments.{Rose}
 use Rattle.plant_core.specs.declared.fault.Failed.{Failed}
 use Rattle.plant_core.specs.declared.plant.Plant.{Ghosts as Plant}
-use Rattle.plant_core.specs.Crashes.{State, Alike}
+use Rattle.plant_core.specs.Crashes.{State}
 use Rattle.plant_core.specs.Effects.{Effect, commits, puts, settles, come, comes, putting_away}
 use Rattle.plant_effects.specs.Runs.{state_of, loaded_of, Done, Leaves, SameNumbers, StaysQuiet}
 use Rattle.plant_effects.proofs.Joining.{Fits, leaves_both, leaves_more, done_both, quiet_both, nothing_done, nothing_left, nothing_quiet, same_numbers, numbers_both}
@@ -16,7 +16,7 @@ use Rattle.tape_text.specs.Items.{Item, Says, Filemark, Nothing, record_for}
 use Rattle.tape_writer.specs.Puts.{puts_on}
 use Rattle.budb_changes.specs.declared.change.Change.{Change}
 use Rattle.budb_changes.specs.Bytes.{encoded}
-use Rattle.budb_changes.specs.Forms.{IsChange, AreChanges}
+use Rattle.budb_changes.specs.Forms.{IsChange}
 use Rattle.budb_fold.specs.declared.database.Database.{Database}
 use Rattle.budb_fold.specs.Database.{after_from}
 use Rattle.budb.specs.declared.fault.CommitFault.{CommitFault}
@@ -24,7 +24,7 @@ use Rattle.budb.specs.declared.fault.CommitFault.TheVariants as commit
 use Rattle.budb.specs.Views.{BudbView}
 use Rattle.budb.specs.Kept.{Keeps}
 use Rattle.dump_job.specs.Reels.{turn_of, Puts}
-use Rattle.dump_job.specs.Closing.{committing, length_with, is_too_long, HasEnded, Commits, Closes, Makes}
+use Rattle.dump_job.specs.Closing.{committing, length_with, is_too_long, Commits, Closes, Makes}
 
 -- ---- puts leave the log
 

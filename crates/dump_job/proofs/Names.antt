@@ -10,7 +10,7 @@ use Rattle.std.proofs.lemmas.Bool.{and_parts, leb-true}
 use Rattle.std.proofs.lemmas.Fmt.{decimal_is_IsNumeral, length-decimal-le}
 use Rattle.std.proofs.lemmas.List.Elements.{All-nil, All-cons, All-append, All-head, All-tail, All-weaker}
 use Rattle.bk_text.specs.Alphabets.{IsNameByte, IsSetNameByte, IsElement, IsSetName, IsTapeName}
-use Rattle.bk_text.specs.LevelPaths.{elements_of, IsPathOf, IsLevelPath}
+use Rattle.bk_text.specs.LevelPaths.{IsPathOf, IsLevelPath}
 use Rattle.bk_text.proofs.DigitLaws.{own}
 use Rattle.bk_text.proofs.LevelParts.{has_last, elements_are}
 use Rattle.tape_frames.specs.TapeNames.{numbered}

@@ -1,5 +1,5 @@
 -- The part end, joined of the choice of the next tape and of what was done then.
-use Rattle.std.proofs.Common.{◌≡◌, ℕ, ◌<◌, ◌≤◌, Bool, true, false, List, [], ◌∷◌, ◌++◌, Option, Some, None, refl, sym, ◌∙◌, ap, subst, arith}
+use Rattle.std.proofs.Common.{◌≡◌, ℕ, ◌<◌, ◌≤◌, Bool, true, false, List, [], ◌++◌, Option, Some, None, refl, sym, subst, arith}
 use Rattle.std.specs.Prelude.{Result, Ok, Err, IsTrue, IfSome}
 use Rattle.crash_moments.specs.Moments.{Rose}
 use Rattle.plant_core.specs.declared.plant.Plant.{Ghosts as Plant}
@@ -19,7 +19,7 @@ use Rattle.dump_job.specs.Reels.{records_on, turn_of}
 use Rattle.dump_job.specs.Taping.{IsFor}
 use Rattle.dump_job.specs.Ending.{part_end_items}
 use Rattle.dump_job.specs.Closing.{committing, Closes, Makes}
-use Rattle.dump_job.specs.Passing.{next_name, next_wanting, next_choice, next_changes, part_passed, closing_of, GoesBy, IsPassed, UnlessCutOff, PartEnds}
+use Rattle.dump_job.specs.Passing.{next_name, next_wanting, next_choice, next_changes, closing_of, GoesBy, IsPassed, UnlessCutOff, PartEnds}
 use Rattle.dump_job.proofs.Closings.{closes_memory, closes_cut_off, closes_behind, makes_failed, makes_memory, makes_behind}
 
 unless_cut_off : (result : Result Bool JobFault) (T : Type 0) → T → UnlessCutOff result T

@@ -1,21 +1,20 @@
 -- A begin that is refused, before its commit and in it.
-use Rattle.std.proofs.Common.{◌≡◌, ◌≢◌, ⊎_elim, ℕ, ◌≤◌, List, [], ◌∷◌, refl, sym, ◌∙◌, ap, subst, arith}
-use Rattle.std.specs.Prelude.{◌⊎◌, Bool, Result, Ok, Err, OnErr}
+use Rattle.std.proofs.Common.{◌≡◌, ⊎_elim, ℕ, ◌≤◌, [], ◌∷◌, sym, ◌∙◌, ap, subst}
+use Rattle.std.specs.Prelude.{◌⊎◌, Result, Ok, Err, OnErr}
 use Rattle.crash_moments.specs.Moments.{Rose, HasCauseAt}
 use Rattle.plant_core.specs.declared.plant.Plant.{Ghosts as Plant}
-use Rattle.plant_core.specs.Effects.{Effect, commits}
-use Rattle.plant_effects.specs.Runs.{Leaves, StaysQuiet}
+use Rattle.plant_core.specs.Effects.{commits}
+use Rattle.plant_effects.specs.Runs.{Leaves}
 use Rattle.budb_changes.specs.Bytes.{encoded}
-use Rattle.tape_scan.specs.Slots.{Slot}
 use Rattle.tape_choice.specs.declared.places.Appending.{Appending}
 use Rattle.tape_scan.specs.Looking.{Loads}
 use Rattle.dump_job.specs.declared.fault.JobFault.{JobFault}
 use Rattle.dump_job.specs.declared.fault.JobFault.TheVariants.{Failed, Memory}
 use Rattle.dump_job.specs.declared.first_tapes.FirstTape.{FirstTape}
 use Rattle.dump_job.specs.declared.fields.JobFields.{JobFields}
-use Rattle.dump_job.specs.Faults.{UnlessFailed, Answers, Searches, LeavesBehindLoads}
+use Rattle.dump_job.specs.Faults.{UnlessFailed, Answers, LeavesBehindLoads}
 use Rattle.dump_job.specs.Beginning.{begin_changes, begin_effects, Refuses}
-use Rattle.dump_job.proofs.Searching.{unless_err, refused, fault_same}
+use Rattle.dump_job.proofs.Searching.{refused, fault_same}
 use Rattle.dump_job.proofs.Beginnings.{leaves_behind}
 
 -- ---- before the commit

@@ -1,16 +1,16 @@
 -- What searches for a tape did, joined; and their answers, handed on.
-use Rattle.std.proofs.Common.{◌≡◌, ◌≢◌, ℕ, ◌<◌, ◌≤◌, List, [], ◌++◌, map, length, refl, sym, ◌∙◌, ap, subst, arith}
-use Rattle.std.specs.Prelude.{Option, Some, None, Result, Ok, Err}
+use Rattle.std.proofs.Common.{◌≡◌, ◌≢◌, ℕ, ◌≤◌, List, [], length, refl, sym, ◌∙◌, ap, subst, arith}
+use Rattle.std.specs.Prelude.{Result, Ok, Err}
 use Rattle.crash_moments.specs.Moments.{Rose, HasCauseAt}
 use Rattle.plant_core.specs.declared.plant.Plant.{Ghosts as Plant}
 use Rattle.plant_core.specs.Records.{Record, NoBad}
-use Rattle.plant_effects.specs.Runs.{state_of, Done, Leaves, SameNumbers, StaysQuiet}
+use Rattle.plant_effects.specs.Runs.{Done, Leaves, SameNumbers, StaysQuiet}
 use Rattle.plant_effects.proofs.Joining.{Fits, nothing_quiet, quiet_both}
 use Rattle.tape_choice.specs.declared.fault.ChoiceFault.{ChoiceFault}
 use Rattle.tape_choice.specs.declared.fault.ChoiceFault.TheVariants as choice
 use Rattle.tape_choice.specs.declared.places.Appending.{Appending}
 use Rattle.tape_choice.specs.declared.places.Appending.TheVariants.{NoSet, NotFound, Found}
-use Rattle.tape_scan.specs.Looking.{Loads, LeavesLoads}
+use Rattle.tape_scan.specs.Looking.{Loads}
 use Rattle.tape_choice.specs.Scene.{UnlessFailed as UnlessChoiceFailed}
 use Rattle.tape_scan.proofs.Looking.{loads_none, leaves_loads, loads_both, leaves_after, reads_are_loads, reads_leave, loads_keep_tape}
 use Rattle.dump_job.specs.declared.fault.JobFault.{JobFault}

@@ -1,5 +1,5 @@
 -- A tape that is loaded and cut at its own length.
-use Rattle.std.proofs.Common.{◌≡◌, ℕ, List, [], ◌∷◌, ◌++◌, length, subst}
+use Rattle.std.proofs.Common.{◌≡◌, List, subst}
 use Rattle.crash_moments.specs.Moments.{Leads}
 use Rattle.plant_core.specs.declared.plant.Plant.{Ghosts as Plant}
 use Rattle.plant_core.specs.Crashes.{Alike}

@@ -1,6 +1,6 @@
 -- The slots of a plant: they are never without some reading. What is found on them to append to stands there.
-use Rattle.std.proofs.Common.{◌≡◌, inl, inr, ℕ, zero, suc, ◌+◌, ◌<◌, ◌≤◌, Bool, true, false, List, [], ◌∷◌, length, refl, sym, ◌∙◌, ap, subst, arith}
-use Rattle.std.specs.Prelude.{Option, Some, None, find, slice_get, nat_le, ◌↔◌, ◌&&◌, ◌==◌, if◌then◌else◌, IsTrue}
+use Rattle.std.proofs.Common.{◌≡◌, inl, inr, ℕ, zero, suc, ◌+◌, ◌≤◌, Bool, true, false, List, [], ◌∷◌, length, refl, sym, ◌∙◌, ap, subst, arith}
+use Rattle.std.specs.Prelude.{Option, Some, None, find, slice_get, nat_le, ◌&&◌, IsTrue}
 use Rattle.std.proofs.lemmas.Bool.{cases_Bool, cases_lt, and_parts, leb-true}
 use Rattle.plant_core.specs.declared.plant.Plant.{Ghosts as Plant}
 use Rattle.plant_core.specs.Records.{Record, block_with, mark, bad, NoBad}
@@ -16,8 +16,8 @@ use Rattle.tape_choice.specs.declared.places.Place.{Place}
 use Rattle.tape_choice.specs.declared.places.Appending.{Appending}
 use Rattle.tape_choice.specs.declared.places.Appending.TheVariants.{NoSet, NotFound, Found}
 use Rattle.tape_choice.specs.Choice.{is_among}
-use Rattle.tape_choice.specs.Append.{AreWhole, LastPart, append_passes, append_slot, append_set, last_part, latest_of, no_tape, found_in, place_behind, appending, appending_behind, appending_to, is_as_told}
-use Rattle.dump_job.specs.Beginning.{Stands, FoundStands}
+use Rattle.tape_choice.specs.Append.{AreWhole, LastPart, append_passes, append_slot, append_set, last_part, no_tape, found_in, place_behind, appending, appending_behind, appending_to, is_as_told}
+use Rattle.dump_job.specs.Beginning.{FoundStands}
 
 -- ---- slots one by one
 

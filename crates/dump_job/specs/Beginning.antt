@@ -34,10 +34,9 @@ use Rattle.tape_scan.specs.Looking.{HasSlots}
 use Rattle.tape_choice.specs.Choice.{chosen, choice_of, takes, initials_above, permanent_in}
 use Rattle.tape_choice.specs.Append.{AreWhole, appending}
 use Rattle.dump_job.specs.declared.fault.JobFault.{JobFault}
-use Rattle.dump_job.specs.declared.fault.JobFault.TheVariants.{NothingToAppend, NoTape, CapacityTooSmall, IdsSpent, LogFull, Failed, Memory}
+use Rattle.dump_job.specs.declared.fault.JobFault.TheVariants.{NothingToAppend, NoTape, CapacityTooSmall, IdsSpent, LogFull}
 use Rattle.dump_job.specs.declared.order.DumpOrder.{DumpOrder}
 use Rattle.dump_job.specs.declared.first_tapes.FirstTape.{FirstTape}
-use Rattle.dump_job.specs.declared.fields.Reel.{Reel}
 use Rattle.dump_job.specs.declared.fields.JobFields.{JobFields}
 use Rattle.dump_job.specs.declared.fields.Phase.TheVariants as phase
 use Rattle.dump_job.specs.Reels.{records_on, counts_on, has_room}

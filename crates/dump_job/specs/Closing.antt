@@ -1,5 +1,5 @@
 -- The end of a part and what is committed behind it: the last two kinds of steps.
-use Rattle.std.specs.Prelude.{◌≡◌, ◌≢◌, ℕ, ◌+◌, Bool, true, false, nat_lt, Option, None, Result, Ok, Err, List, [], ◌∷◌, ◌++◌, length, IsTrue}
+use Rattle.std.specs.Prelude.{◌≡◌, ◌≢◌, ℕ, ◌+◌, Bool, true, false, nat_lt, None, Result, Ok, Err, List, [], ◌∷◌, ◌++◌, length, IsTrue}
 use Rattle.crash_moments.specs.Moments.{HasCauseAt}
 use Rattle.plant_core.specs.declared.plant.Plant.{Ghosts as Plant}
 use Rattle.plant_core.specs.Effects.{Effect, commits, putting_away}

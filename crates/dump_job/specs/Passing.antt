@@ -1,5 +1,5 @@
 -- The part end: the dump goes on on the next tape, where a slot has one that passes.
-use Rattle.std.specs.Prelude.{◌≡◌, ◌≢◌, ℕ, ◌+◌, ◌≤◌, Bool, true, false, ◌&&◌, nat_lt, if◌then◌else◌, Option, Some, None, Result, Ok, Err, List, [], ◌∷◌, ◌++◌, length, map, IsSome, IfSome, IsTrue}
+use Rattle.std.specs.Prelude.{◌≡◌, ℕ, ◌+◌, ◌≤◌, Bool, true, false, ◌&&◌, nat_lt, if◌then◌else◌, Option, Some, None, Result, Ok, Err, List, [], ◌∷◌, ◌++◌, length, map, IsSome, IfSome, IsTrue}
 use Rattle.plant_core.specs.declared.plant.Plant.{Ghosts as Plant}
 use Rattle.tape_frames.specs.declared.label.LabelFields.{LabelFields}
 use Rattle.tape_frames.specs.declared.dump_head.DumpHeadFields.{DumpHeadFields}

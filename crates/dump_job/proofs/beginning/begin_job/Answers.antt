@@ -1,5 +1,5 @@
-use Rattle.std.proofs.Common.{ℕ, ◌≡◌, ◌+◌, List, [], ◌∷◌, ◌++◌, length, refl, sym, ◌∙◌, ap, subst, rules}
-use Rattle.std.specs.Prelude.{Bool, Ok, Err, Result}
+use Rattle.std.proofs.Common.{ℕ, ◌≡◌, ◌+◌, List, [], ◌∷◌, ◌++◌, length, ◌∙◌, ap, subst, rules}
+use Rattle.std.specs.Prelude.{Err}
 use Rattle.std.proofs.lemmas.Result.{err_from_is_err_and}
 use Rattle.plant_core.specs.Effects.{commits}
 use Rattle.plant_effects.specs.Runs.{state_of, Done, Leaves}
@@ -11,7 +11,7 @@ use Rattle.budb_fold.specs.declared.database.Database.{Database}
 use Rattle.budb.specs.Kept.{Keeps}
 use Rattle.tape_scan.specs.Looking.{Loads}
 use Rattle.dump_job.specs.declared.fault.JobFault.{JobFault}
-use Rattle.dump_job.specs.Beginning.{new_id, id_of, begin_changes, begun_job, length_with, first_tape}
+use Rattle.dump_job.specs.Beginning.{new_id, id_of, begin_changes, begun_job}
 use Rattle.dump_job.proofs.Beginnings.{keeps_loaded, done_behind, leaves_loads_alone, ready}
 use Rattle.dump_job.proofs.Refusals.{refuses, commit_refuses, commit_left, begin_leaves, cause_then}
 use Rattle.dump_job.proofs.beginning.begin_job.Goals as goal

@@ -1,4 +1,4 @@
-use Rattle.std.proofs.Common.{◌≡◌, ◌∙◌, ℕ, ◌+◌, ap, arith}
+use Rattle.std.proofs.Common.{◌∙◌, ℕ, ◌+◌, ap}
 use Rattle.dump_job.proofs.Beginnings.{length_alone, length_taking}
 use Rattle.dump_job.proofs.checking.length_with.Goals as goal
 

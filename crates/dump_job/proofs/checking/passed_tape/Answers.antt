@@ -1,8 +1,7 @@
 use Rattle.std.proofs.Common.{ℕ, ◌≡◌, List, refl, sym, ◌∙◌, ap, subst, rules}
-use Rattle.std.specs.Prelude.{Bool, Ok, Err, Result}
+use Rattle.std.specs.Prelude.{Ok, Err}
 use Rattle.budb_changes.specs.declared.records.DumpRecordFields.{DumpRecordFields}
 use Rattle.budb_fold.specs.declared.database.Database.{Database}
-use Rattle.dump_job.specs.declared.fault.JobFault.{JobFault}
 use Rattle.dump_job.specs.declared.first_tapes.FirstTape.{FirstTape}
 use Rattle.dump_job.specs.Faults.{Answers}
 use Rattle.dump_job.specs.Beginning.{new_id, id_of, tape_found, tape_passed, unless_refused, first_tape}

@@ -1,6 +1,4 @@
-use Rattle.std.proofs.Common.{ℕ, ◌≡◌, sym, ap, subst, rules}
-use Rattle.std.specs.Prelude.{Ok, Result}
-use Rattle.std.proofs.lemmas.Result.{err_from_is_err_and}
+use Rattle.std.proofs.Common.{◌≡◌, sym, subst, rules}
 use Rattle.tape_choice.specs.declared.places.Appending.{Appending}
 use Rattle.tape_choice.specs.Append.{appending}
 use Rattle.tape_scan.proofs.Looking.{slots_later}

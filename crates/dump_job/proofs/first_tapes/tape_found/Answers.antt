@@ -1,5 +1,3 @@
-use Rattle.std.proofs.Common.{ℕ, ◌≡◌, refl, sym, ap, subst, true}
-use Rattle.std.specs.Prelude.{Bool, Result, if◌then◌else◌}
 use Rattle.std.proofs.lemmas.Result.{err_from_is_err_and}
 use Rattle.dump_job.proofs.Searching.{no_memory}
 use Rattle.dump_job.proofs.first_tapes.tape_found.Goals as goal

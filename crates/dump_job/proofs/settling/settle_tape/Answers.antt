@@ -1,5 +1,5 @@
-use Rattle.std.proofs.Common.{◌≡◌, ℕ, List, [], ◌∷◌, ◌++◌, length, ◌∙◌, ap}
-use Rattle.plant_core.specs.Effects.{Effect, cuts, putting_away}
+use Rattle.std.proofs.Common.{◌≡◌, ℕ, [], ◌∷◌, ◌++◌, length, ◌∙◌, ap}
+use Rattle.plant_core.specs.Effects.{cuts, putting_away}
 use Rattle.plant_effects.specs.Runs.{state_of, loaded_of}
 use Rattle.plant_effects.proofs.Joining.{leaves_both, leaves_more, done_both}
 use Rattle.dump_job.proofs.Joins.{tapes_stay}
