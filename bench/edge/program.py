@@ -7,39 +7,22 @@ import os
 import random
 import subprocess
 import sys
-import tempfile
 import time
 
-PROGRAM = os.path.realpath(sys.argv[1])
-ROOT = sys.argv[2] if len(sys.argv) > 2 else tempfile.mkdtemp(prefix="afsbackup-")
+sys.dont_write_bytecode = True
+from checks import PROGRAM, check, finish, folder, shell
+
 random.seed(17)
-failures = []
-count = 0
 
 ENTRY = "addvolentry -name users -server .* -partition .* -volumes "
 
 
-def check(name, holds, more=""):
-    global count
-    count += 1
-    if not holds:
-        failures.append(name)
-        print("FAILED:", name, more)
-
-
-def folder():
-    return tempfile.mkdtemp(dir=ROOT)
+def text(lines):
+    return "".join(line + "\n" for line in lines).encode()
 
 
 def run(place, *lines, **more):
-    given = "".join(line + "\n" for line in lines).encode()
-    return subprocess.run([PROGRAM, "run"], cwd=place, input=given, capture_output=True, timeout=120, **more)
-
-
-def shell(place, line, *lines):
-    """Runs the program by a line of sh, in which it is $P; the shell's own streams are whole."""
-    given = "".join(line + "\n" for line in lines).encode()
-    return subprocess.run(["sh", "-c", line], cwd=place, env=dict(os.environ, P=PROGRAM), input=given, capture_output=True, timeout=120)
+    return subprocess.run([PROGRAM, "run"], cwd=place, input=text(lines), capture_output=True, timeout=120, **more)
 
 
 def sets(place):
@@ -86,14 +69,14 @@ def streams():
         ("> /dev/full", 9, True, "the output took no more", "standard output: "),
     ]:
         place = folder()
-        done = shell(place, '"$P" run ' + closed, *add)
+        done = shell(place, '"$P" run ' + closed, text(add))
         says("streams " + closed, done, status, line, cause)
         check("what was done stays " + closed, has_set(place, "one") == kept and not has_set(place, "two"), sets(place))
     place = folder()
-    done = shell(place, '"$P" run 2>&-', *add)
+    done = shell(place, '"$P" run 2>&-', text(add))
     check("closed errors", done.returncode == 0 and has_set(place, "two"), done)
     place = folder()
-    done = shell(place, '(sleep 0.3; "$P" run; echo $? > status) | true', *add)
+    done = shell(place, '(sleep 0.3; "$P" run; echo $? > status) | true', text(add))
     check("a broken pipe", open(os.path.join(place, "status")).read() == "9\n" and has_set(place, "one"), done)
 
 
@@ -186,5 +169,4 @@ streams()
 opening()
 full()
 kills(int(os.environ.get("KILLS", "200")))
-print("%d checks, %d failed" % (count, len(failures)))
-sys.exit(1 if failures else 0)
+finish()

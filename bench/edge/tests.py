@@ -10,26 +10,12 @@ import shutil
 import signal
 import subprocess
 import sys
-import tempfile
 import time
 
-PROGRAM = os.path.realpath(sys.argv[1])
-ROOT = sys.argv[2] if len(sys.argv) > 2 else tempfile.mkdtemp(prefix="edge-")
+sys.dont_write_bytecode = True
+from checks import PROGRAM, check, finish, folder, shell
+
 random.seed(7)
-failures = []
-count = 0
-
-
-def check(name, holds, more=""):
-    global count
-    count += 1
-    if not holds:
-        failures.append(name)
-        print("FAILED:", name, more)
-
-
-def folder():
-    return tempfile.mkdtemp(dir=ROOT)
 
 
 def journal(place):
@@ -39,12 +25,6 @@ def journal(place):
 
 def run(place, *words, given=b"", **more):
     return subprocess.run([PROGRAM, *words], cwd=place, input=given, capture_output=True, timeout=120, **more)
-
-
-def shell(place, line, given=b""):
-    """Runs the program by a line of sh, in which it is $P; the shell's own streams are whole."""
-    env = dict(os.environ, P=PROGRAM)
-    return subprocess.run(["sh", "-c", line], cwd=place, env=env, input=given, capture_output=True, timeout=120)
 
 
 # ---- standard streams
@@ -400,7 +380,4 @@ def cell_kills(runs):
 
 for test in [streams, opening, second, limits, lambda: kills(200), synced, images, lambda: modelled(300), lambda: cell_kills(120)]:
     test()
-if len(sys.argv) <= 2:
-    shutil.rmtree(ROOT, ignore_errors=True)
-print("%d checks, %d failed" % (count, len(failures)))
-sys.exit(1 if failures else 0)
+finish()
