@@ -97,6 +97,14 @@ impl Budb {
         Ok(())
     }
 
+    /// Drops the changes that are prepared, where some are. Log and database stay. It takes no memory.
+    pub fn unprepare(&mut self)
+        ensures nothing { self.new.prepared ≡ None }
+        ensures database { self.new.database ≡ self.old.database }
+    {
+        self.prepared = None;
+    }
+
     /// Takes the prepared changes away.
     fn take_prepared(&mut self) -> Prepared
         requires { IsSome self.old.prepared }
