@@ -8,3 +8,9 @@ mod Beginnings
 mod Refusals
 mod Passings
 mod Settlings
+pub mod Streams
+pub mod Jobs
+pub mod Left
+pub mod Events
+pub mod Fits
+pub mod Turns

@@ -1,5 +1,5 @@
 -- The end of a part and what is committed behind it: the last two kinds of steps.
-use Rattle.std.specs.Prelude.{◌≡◌, ◌≢◌, ℕ, ◌+◌, Bool, true, false, nat_lt, None, Result, Ok, Err, List, [], ◌∷◌, ◌++◌, length, IsTrue}
+use Rattle.std.specs.Prelude.{◌≡◌, ◌≢◌, ℕ, ◌+◌, Bool, true, false, nat_lt, if◌then◌else◌, None, Result, Ok, Err, List, [], ◌∷◌, ◌++◌, length, IsTrue}
 use Rattle.crash_moments.specs.Moments.{HasCauseAt}
 use Rattle.plant_core.specs.declared.plant.Plant.{Ghosts as Plant}
 use Rattle.plant_core.specs.Effects.{Effect, commits, putting_away}
@@ -36,6 +36,10 @@ abbrev pub is_too_long : ℕ → List Change → Bool
 is_too_long size [] = false
 is_too_long size (c ∷ cs) = nat_lt 268435456 (length_with size (c ∷ cs))
 
+-- the changes of a commit that is made: none where the log would be too long
+abbrev pub made_of : ℕ → List Change → List Change
+made_of size changes = if is_too_long size changes then [] else changes
+
 -- the change that lists a dump
 abbrev pub done_changes : JobFields → List Change
 done_changes j = change.Done (done_record j) ∷ []
@@ -58,7 +62,7 @@ pub record Commits {D : Type 0} (P : Plant D) (changes : List Change) (result : 
   pub full : (n : ℕ) → result ≡ Err (commit.LogFull n) → new ≡ old
   pub full_length : (n : ℕ) → result ≡ Err (commit.LogFull n) → IsTrue (is_too_long (P.view old).log_size changes) × (n ≡ length_with (P.view old).log_size changes)
   pub too_long : IsTrue (is_too_long (P.view old).log_size changes) → result ≢ Ok true
-  pub leaves : Leaves P (committing changes) old new
+  pub leaves : Leaves P (committing (made_of (P.view old).log_size changes)) old new
   pub log_size : result ≡ Ok true → (P.view new).log_size ≡ length_with (P.view old).log_size changes
   pub stays : StaysQuiet P old new
   pub cause : HasCauseAt commit.Failed (P.view old).faults (P.view new).faults result
@@ -73,20 +77,22 @@ pub record Closes {D : Type 0} (P : Plant D) (slot : ℕ) (items : List Item) (c
   pub full_length : (n : ℕ) → result ≡ Err (commit.LogFull n) → IsTrue (is_too_long (P.view old).log_size changes) × (n ≡ length_with (P.view old).log_size changes)
   pub too_long : IsTrue (is_too_long (P.view old).log_size changes) → result ≢ Ok true
   pub lost : result ≡ Ok false → Done P (putting_away (loaded_of P old) slot) old new
+  pub lost_size : result ≡ Ok false → (P.view new).log_size ≡ (P.view old).log_size
   pub memory : result ≡ Err commit.Memory → Done P [] old new
+  pub memory_leaves : result ≡ Err commit.Memory → Leaves P [] old new
   pub memory_numbers : result ≡ Err commit.Memory → SameNumbers P old new
-  pub leaves : Leaves P (turn_of P slot (puts_on slot items ++ committing changes) old) old new
+  pub leaves : Leaves P (turn_of P slot (puts_on slot items ++ committing (made_of (P.view old).log_size changes)) old) old new
   pub log_size : result ≡ Ok true → (P.view new).log_size ≡ length_with (P.view old).log_size changes
   pub stays : StaysQuiet P old new
   pub cause : HasCauseAt commit.Failed (P.view old).faults (P.view new).faults result
 
--- What it did to the database: the changes are made and kept in the log; or nothing is changed. Nothing is prepared afterwards, unless
--- the plant failed or the tape hadn't the records that it should.
+-- What it did to the database: the changes are made and kept in the log; or nothing is changed. Whatever was done, nothing is prepared
+-- afterwards.
 pub record Makes {D : Type 0} (P : Plant D) (changes : List Change) (result : Result Bool CommitFault) (budb budb_after : BudbView) (old new : D) : Type 0 where
   pub form : result ≡ Ok true → AreChanges changes
   pub made : result ≡ Ok true → budb_after.database ≡ after_from changes budb.database
   pub same : result ≢ Ok true → budb_after.database ≡ budb.database
-  pub nothing : HasEnded result → budb_after.prepared ≡ None
+  pub nothing : budb_after.prepared ≡ None
   pub memory : result ≡ Err commit.Memory → budb_after ≡ budb
   pub keeps : P.tells → (log : List Change) → Keeps log (state_of P old).log budb → result ≡ Ok true → Keeps (log ++ changes) (state_of P new).log budb_after
   pub full_keeps : P.tells → (log : List Change) → Keeps log (state_of P old).log budb → (n : ℕ) → result ≡ Err (commit.LogFull n) → Keeps log (state_of P new).log budb_after

@@ -6,5 +6,9 @@ pub mod Ending
 pub mod Closing
 pub mod Passing
 pub mod Settling
+pub mod Events
 pub mod Faults
 pub mod Beginning
+pub mod Jobs
+pub mod Left
+pub mod Stepping

@@ -137,11 +137,11 @@ GoesBy name choice (Err NothingToAppend) = ⊥
 GoesBy name choice (Err CapacityTooSmall) = ⊥
 GoesBy name choice (Err IdsSpent) = ⊥
 
--- What the job has then: the next part where a tape was chosen and the part was ended; else the ended one. Where memory was refused it
--- has what it had.
+-- What the job has then: the next part where a tape was chosen and the part was ended; else the ended one. Where memory was refused, or
+-- the tape hasn't the records that it should, it has what it had.
 abbrev pub IsPassed : Bool → Option Chosen → Result Bool JobFault → JobFields → JobFields → Type 0
 IsPassed cut choice (Ok true) old new = (c : Chosen) → choice ≡ Some c → new ≡ part_passed cut c old
-IsPassed cut choice (Ok false) old new = Unit {0}
+IsPassed cut choice (Ok false) old new = new ≡ old
 IsPassed cut choice (Err (NoTape name)) old new = new ≡ part_refused old
 IsPassed cut choice (Err (LogFull n)) old new = new ≡ part_refused old
 IsPassed cut choice (Err Failed) old new = Unit {0}
@@ -165,6 +165,7 @@ UnlessCutOff (Err IdsSpent) holds = Unit {0}
 pub record PartEnds {D : Type 0} (P : Plant D) (cut : Bool) (result : Result Bool JobFault) (budb budb_after : BudbView) (old new : D) (job job_after : JobFields) : Type 0 where
   pub choice : Option Chosen
   pub right : UnlessCutOff result (P.tells → (slots : List Slot) → HasSlots P slots old → next_choice budb.database.listed slots job ≡ choice)
+  pub parts : IfSome choice (λ c. length job.filled + 1 ≤ 65534)
   pub here : IfSome choice (λ c. IsTrue ((P.view old).present c.slot))
   pub first : IfSome choice (λ c. job.port.first ≤ c.slot)
   pub last : IfSome choice (λ c. c.slot ≤ job.port.last)

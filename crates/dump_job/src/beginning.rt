@@ -17,7 +17,8 @@ ghost use Rattle.tape_scan.specs.Slots.{Slot};
 ghost use Rattle.tape_scan.specs.Looking.{HasSlots, Loads};
 ghost use Rattle.tape_choice.specs.Append.{AreWhole};
 ghost use Rattle.dump_job.specs.Faults.{UnlessFailed, LeavesBehindLoads};
-ghost use Rattle.dump_job.specs.Beginning.{id_of, first_tape, begin_changes, begin_effects, first_head, begun_job, IsReady, IsBegun, Refuses};
+ghost use Rattle.tape_writer.specs.Room.{HasRoom};
+ghost use Rattle.dump_job.specs.Beginning.{id_of, first_tape, begin_changes, begin_effects, fresh, first_head, begun_job, IsReady, IsBegun, Refuses};
 
 use crate::checking::{new_id, passed_tape};
 use crate::fault::JobFault;
@@ -164,6 +165,7 @@ pub(crate) fn begin_job<P: Plant>(
     requires cell { IsMaybe IsHost order.cell }
     ensures begun { IfOk result (IsBegun P.Plant order budb.old budb.new plant.old plant.new) }
     ensures ready { IfOk result (λ job. IsReady P.Plant job plant.new) }
+    ensures fresh { OnOk result (HasRoom 6 3 (fresh order.port)) }
     ensures refused { P.tells → (slots : AnyList Slot) (whole : ℕ → Bool) → HasSlots P.Plant slots plant.old → AreWhole P.Plant whole plant.old → Refuses (first_tape budb.old.database slots whole order (P.view plant.old).log_size) result }
     ensures nothing { budb.new.prepared ≡ None }
     ensures same { OnErr result (budb.new ≡ budb.old) }

@@ -75,7 +75,8 @@ fn from_time(parent: &Option<DumpRecord>, name: &[u8], born: u32) -> u32
 /// The next volume as it comes into hand. It takes no memory.
 fn first_hand(alloc: Global, job: &JobFields, index: u32, looked: Looked) -> Hand
     requires { index ≡ length (volumes_done job.now) }
-    ensures { result ≡ first_hand job.now looked.entry looked.clone }
+    ensures is { result ≡ first_hand job.now looked.entry looked.clone }
+    ensures short { length result.stream < 1073741824 }
 {
     let Looked { entry, clone } = looked;
     let Taken { time, born, volume } = clone;
@@ -91,9 +92,10 @@ fn first_hand(alloc: Global, job: &JobFields, index: u32, looked: Looked) -> Han
         server: entry.server,
         partition: entry.partition,
     });
+    let stream = Writer::new(volume, from, time);
     Hand {
         head,
-        stream: Writer::new(volume, from, time),
+        stream,
         frags: List::new(alloc),
         at: 0,
         bytes: 0,
@@ -149,6 +151,7 @@ pub(crate) fn clone_step<C: Cell>(
     requires within { All (λ place. place < C.size cell.old) job.old.places }
     requires good { C.tells → All (λ place. IsTrue (is_good (slice_get (C.list cell.old) place))) job.old.places }
     ensures cloned { OnOk result (Clones C.tells (C.list cell.old) job.old job.new) }
+    ensures short { OnOk result (IfSome job.new.hand (λ h. length h.stream < 1073741824)) }
     ensures err { OnErr result (job.new ≡ job.old) }
     ensures list { C.tells → C.list cell.new ≡ C.list cell.old }
     ensures size { C.size cell.new ≡ C.size cell.old }

@@ -1,6 +1,6 @@
 //! The end of a part with what is committed behind it, and the dump end step.
 
-ghost use Rattle.std.specs.Prelude.{◌≡◌, ◌≢◌, ◌≤◌, [], ◌∷◌, Some, None, Err, IfOk, IfSome, IsSome, All, length};
+ghost use Rattle.std.specs.Prelude.{◌≡◌, ◌≢◌, ◌≤◌, [], ◌∷◌, false, Ok, Some, None, Err, IfOk, IfSome, IsSome, All, length};
 ghost use Rattle.budb.specs.Views.{prepared_of};
 ghost use Rattle.budb_changes.specs.Dumps.{IsNamed};
 ghost use Rattle.tape_writer.specs.Room.{HasRoom};
@@ -46,14 +46,22 @@ fn end_and_commit<P: Plant>(
     requires prepared { IsSome budb.old.prepared }
     requires some { prepared_of budb.old ≢ [] }
     ensures moved { HasEnded result → job.new ≡ record job.old { reel = with_more 1 1 job.old.reel } }
+    ensures same { result ≡ Ok false → job.new ≡ job.old }
     ensures never { result ≢ Err CommitFault.Memory }
+    ensures fit { HasEnded result → IsOn P.Plant job.old.reel.slot (records_on (with_more 1 1 job.old.reel)) plant.new }
     ensures plant { Closes P.Plant job.old.reel.slot (part_end_items more job.old) (prepared_of budb.old) result plant.old plant.new }
     ensures database { Makes P.Plant (prepared_of budb.old) result budb.old budb.new plant.old plant.new }
 {
     match end_part(job, plant, more) {
         Ok(true) => commit_rest(budb, plant),
-        Ok(false) => Ok(false),
-        Err(_) => Err(CommitFault::Failed),
+        Ok(false) => {
+            budb.unprepare();
+            Ok(false)
+        }
+        Err(_) => {
+            budb.unprepare();
+            Err(CommitFault::Failed)
+        }
     }
 }
 
@@ -64,7 +72,9 @@ fn end_alone<P: Plant>(job: &mut JobFields, plant: &mut P, more: u32) -> Result<
     requires room { HasRoom 1 1 (counts_on job.old.port job.old.reel) }
     requires more { more ≤ 1 }
     ensures moved { HasEnded result → job.new ≡ record job.old { reel = with_more 1 1 job.old.reel } }
+    ensures same { result ≡ Ok false → job.new ≡ job.old }
     ensures never { result ≢ Err CommitFault.Memory }
+    ensures fit { HasEnded result → IsOn P.Plant job.old.reel.slot (records_on (with_more 1 1 job.old.reel)) plant.new }
     ensures plant { Closes P.Plant job.old.reel.slot (part_end_items more job.old) [] result plant.old plant.new }
 {
     match end_part(job, plant, more) {
@@ -88,7 +98,9 @@ pub(crate) fn close<P: Plant>(
     requires more { more ≤ 1 }
     requires nothing { budb.old.prepared ≡ None }
     ensures moved { HasEnded result → job.new ≡ record job.old { reel = with_more 1 1 job.old.reel } }
+    ensures same { result ≡ Ok false → job.new ≡ job.old }
     ensures memory_job { result ≡ Err CommitFault.Memory → job.new ≡ job.old }
+    ensures fit { HasEnded result → IsOn P.Plant job.old.reel.slot (records_on (with_more 1 1 job.old.reel)) plant.new }
     ensures plant { Closes P.Plant job.old.reel.slot (part_end_items more job.old) changes.now result plant.old plant.new }
     ensures database { Makes P.Plant changes.now result budb.old budb.new plant.old plant.new }
 {
@@ -135,7 +147,9 @@ pub(crate) fn dump_end_step<P: Plant>(
     requires volumes { length (volumes_done job.old) ≤ 4294967295 }
     requires nothing { budb.old.prepared ≡ None }
     ensures moved { HasEnded result → job.new ≡ dump_ended job.old }
+    ensures same { result ≡ Ok false → job.new ≡ job.old }
     ensures memory { result ≡ Err CommitFault.Memory → job.new ≡ job.old }
+    ensures fit { HasEnded result → IsOn P.Plant job.old.reel.slot (records_on (with_more 1 1 job.old.reel)) plant.new }
     ensures plant { Closes P.Plant job.old.reel.slot (part_end_items 0 job.old) (done_changes job.old) result plant.old plant.new }
     ensures database { Makes P.Plant (done_changes job.old) result budb.old budb.new plant.old plant.new }
 {
@@ -144,10 +158,11 @@ pub(crate) fn dump_end_step<P: Plant>(
         Err(_) => return Err(CommitFault::Memory),
     };
     match close(job, budb, plant, 0, changes.as_slice()) {
-        Ok(there) => {
+        Ok(true) => {
             job.phase = Phase::Over;
-            Ok(there)
+            Ok(true)
         }
+        Ok(false) => Ok(false),
         Err(CommitFault::LogFull { length }) => {
             job.phase = Phase::Over;
             Err(CommitFault::LogFull { length })

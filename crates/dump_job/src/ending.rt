@@ -1,6 +1,6 @@
 //! The end of a part.
 
-ghost use Rattle.std.specs.Prelude.{◌≡◌, ◌+◌, ◌≤◌, true, Ok, IfOk, IfSome, All, length, map};
+ghost use Rattle.std.specs.Prelude.{◌≡◌, ◌+◌, ◌≤◌, true, false, Ok, IfOk, IfSome, All, length, map};
 ghost use Rattle.tape_writer.specs.Room.{HasRoom};
 ghost use Rattle.dump_job.specs.Reels.{records_on, with_more, counts_on, IsOn, Puts};
 ghost use Rattle.dump_job.specs.Ending.{part_end, part_end_items, closed_part, place_of_part, all_parts, done_record};
@@ -41,6 +41,7 @@ pub(crate) fn end_part<P: Plant>(
     requires room { HasRoom 1 1 (counts_on job.old.port job.old.reel) }
     requires more { more ≤ 1 }
     ensures moved { result ≡ Ok true → job.new ≡ record job.old { reel = with_more 1 1 job.old.reel } }
+    ensures same { result ≡ Ok false → job.new ≡ job.old }
     ensures room { result ≡ Ok true → HasRoom 0 0 (counts_on job.new.port job.new.reel) }
     ensures fit { result ≡ Ok true → IsOn P.Plant job.new.reel.slot (records_on job.new.reel) plant.new }
     ensures plant { Puts P.Plant job.old.reel.slot (part_end_items more job.old) result plant.old plant.new }

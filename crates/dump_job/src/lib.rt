@@ -2,6 +2,7 @@
 //! dump leaves what the steps before it made.
 #![tactic(auto)]
 
+mod answer;
 mod beginning;
 mod checking;
 mod cloning;
@@ -10,16 +11,20 @@ mod ending;
 mod fault;
 mod fields;
 mod first_tapes;
+mod job;
 mod naming;
 mod next_tapes;
 mod order;
 mod part_ends;
 mod puts;
 mod settling;
+mod stepping;
 mod taping;
 mod volumes;
 
+pub use answer::StepAnswer;
 pub use fault::JobFault;
 pub use fields::{Filled, Hand, JobFields, Phase, Reel};
 pub use first_tapes::FirstTape;
+pub use job::Job;
 pub use order::DumpOrder;

@@ -1,6 +1,6 @@
 //! The part end step: the next tape is chosen, the part is ended, and the dump goes on there or is refused.
 
-ghost use Rattle.std.specs.Prelude.{◌≡◌, ◌≢◌, ◌≤◌, ◌+◌, ◌++◌, ◌∷◌, [], ℕ, Bool, List as AnyList, None, Some, Ok, Err, true, IfOk, IfSome, length};
+ghost use Rattle.std.specs.Prelude.{◌≡◌, ◌≢◌, ◌≤◌, ◌+◌, ◌++◌, ◌∷◌, [], ℕ, Bool, List as AnyList, None, Some, Ok, Err, true, false, IfOk, IfSome, length};
 ghost use Rattle.plant_effects.specs.Runs.{Leaves};
 ghost use Rattle.tape_scan.specs.Slots.{Slot};
 ghost use Rattle.tape_scan.specs.Looking.{HasSlots};
@@ -10,7 +10,7 @@ ghost use Rattle.tape_writer.specs.Room.{HasRoom};
 ghost use Rattle.dump_job.specs.Reels.{records_on, with_more, counts_on, IsOn, turn_of};
 ghost use Rattle.dump_job.specs.Taping.{IsFor};
 ghost use Rattle.dump_job.specs.Ending.{part_end_items, closed_part};
-ghost use Rattle.dump_job.specs.Closing.{committing, Closes, Makes};
+ghost use Rattle.dump_job.specs.Closing.{committing, made_of, HasEnded, Closes, Makes};
 ghost use Rattle.dump_job.specs.Passing.{next_choice, next_changes, next_name, label_by, head_by, next_frags, hand_with, closing_of, GoesBy, IsPassed, PartEnds};
 
 use crate::closing::close;
@@ -169,7 +169,9 @@ fn close_filled<P: Plant>(
     requires nothing { budb.old.prepared ≡ None }
     ensures moved { result ≡ Ok true → job.new ≡ record job.old { reel = with_more 1 1 job.old.reel; filled = job.old.filled ++ filled ∷ [] } }
     ensures full { (n : ℕ) → result ≡ Err (CommitFault.LogFull n) → job.new ≡ record job.old { reel = with_more 1 1 job.old.reel } }
+    ensures same { result ≡ Ok false → job.new ≡ job.old }
     ensures memory { result ≡ Err CommitFault.Memory → job.new ≡ job.old }
+    ensures fit { HasEnded result → IsOn P.Plant job.old.reel.slot (records_on (with_more 1 1 job.old.reel)) plant.new }
     ensures plant { Closes P.Plant job.old.reel.slot (part_end_items 1 job.old) changes.now result plant.old plant.new }
     ensures database { Makes P.Plant changes.now result budb.old budb.new plant.old plant.new }
 {
@@ -179,7 +181,11 @@ fn close_filled<P: Plant>(
         Err(_) => return Err(CommitFault::Memory),
     }
     match close(job, budb, plant, 1, changes) {
-        Ok(there) => Ok(there),
+        Ok(true) => Ok(true),
+        Ok(false) => {
+            job.filled.truncate(count);
+            Ok(false)
+        }
         Err(fault) => {
             job.filled.truncate(count);
             Err(fault)
@@ -205,6 +211,7 @@ fn end_and_pass<P: Plant>(
     requires nothing { budb.old.prepared ≡ None }
     ensures goes { GoesBy (next_name job.old) (Some chosen) result }
     ensures moved { IsPassed cut (Some chosen) result job.old job.new }
+    ensures fit { HasEnded (closing_of result) → IsOn P.Plant job.old.reel.slot (records_on (with_more 1 1 job.old.reel)) plant.new }
     ensures plant { Closes P.Plant job.old.reel.slot (part_end_items 1 job.old) (takes chosen.take) (closing_of result) plant.old plant.new }
     ensures database { Makes P.Plant (takes chosen.take) (closing_of result) budb.old budb.new plant.old plant.new }
 {
@@ -246,6 +253,7 @@ fn end_and_refuse<P: Plant>(
     ensures goes { GoesBy (next_name job.old) None result }
     ensures never { result ≢ Ok true }
     ensures moved { (cut : Bool) → IsPassed cut None result job.old job.new }
+    ensures fit { HasEnded (closing_of result) → IsOn P.Plant job.old.reel.slot (records_on (with_more 1 1 job.old.reel)) plant.new }
     ensures plant { Closes P.Plant job.old.reel.slot (part_end_items 1 job.old) [] (closing_of result) plant.old plant.new }
 {
     let name = match next_name(alloc, job) {
@@ -280,8 +288,9 @@ pub(crate) fn part_end_step<P: Plant>(
     requires fragment { IfSome job.old.hand (λ h. h.head.fragment ≤ 4294967294) }
     requires nothing { budb.old.prepared ≡ None }
     ensures ended { PartEnds P.Plant cut result budb.old budb.new plant.old plant.new job.old job.new }
-    ensures fit { result ≡ Ok true → IsFor P.Plant job.new.reel.slot (records_on job.new.reel) plant.new }
-    ensures leaves { P.tells → (slots : AnyList Slot) → HasSlots P.Plant slots plant.old → Leaves P.Plant (turn_of P.Plant job.old.reel.slot (puts_on job.old.reel.slot (part_end_items 1 job.old) ++ committing (next_changes (next_choice budb.old.database.listed slots job.old))) plant.old) plant.old plant.new }
+    ensures ready { result ≡ Ok true → IsFor P.Plant job.new.reel.slot (records_on job.new.reel) plant.new }
+    ensures fit { HasEnded (closing_of result) → IsOn P.Plant job.old.reel.slot (records_on (with_more 1 1 job.old.reel)) plant.new }
+    ensures leaves { P.tells → (slots : AnyList Slot) → HasSlots P.Plant slots plant.old → Leaves P.Plant (turn_of P.Plant job.old.reel.slot (puts_on job.old.reel.slot (part_end_items 1 job.old) ++ committing (made_of (P.view plant.old).log_size (next_changes (next_choice budb.old.database.listed slots job.old)))) plant.old) plant.old plant.new }
 {
     let chosen = match choose_next(alloc, plant, budb.database().listed.as_slice(), job) {
         Ok(chosen) => chosen,

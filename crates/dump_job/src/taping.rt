@@ -1,6 +1,6 @@
 //! The tape step. It takes no memory.
 
-ghost use Rattle.std.specs.Prelude.{◌≡◌, ◌≢◌, ◌+◌, ◌*◌, ◌<◌, ◌≤◌, ℕ, List as AnyList, [], ◌∷◌, true, Ok, Some, None, Err, IfOk, OnOk, IsSome, IfSome, slice_index_or};
+ghost use Rattle.std.specs.Prelude.{◌≡◌, ◌≢◌, ◌+◌, ◌*◌, ◌<◌, ◌≤◌, ℕ, List as AnyList, [], ◌∷◌, true, false, Ok, Some, None, Err, IfOk, OnOk, IsSome, IfSome, slice_index_or};
 ghost use Rattle.crash_moments.specs.Moments.{HasCause, HasCauseAt};
 ghost use Rattle.plant_core.specs.Effects.{cuts, putting_away};
 ghost use Rattle.plant_core.specs.Records.{NoBad};
@@ -239,9 +239,15 @@ pub(crate) fn tape_step<P: Plant>(job: &mut JobFields, plant: &mut P) -> Result<
     requires room { HasRoom 5 2 (with_label job.old.label (counts_on job.old.port job.old.reel)) }
     requires spare { job.old.spare ≡ Some job.old.head }
     requires uses { 1 ≤ job.old.head.uses }
+    ensures same { result ≡ Ok false → job.new ≡ job.old }
     ensures taped { result ≡ Ok true → IsTaped P.tells ((state_of P.Plant plant.old).tape job.old.reel.slot) job.old job.new }
     ensures room { result ≡ Ok true → HasRoom 4 2 (counts_on job.new.port job.new.reel) }
     ensures fit { result ≡ Ok true → IsOn P.Plant job.new.reel.slot (records_on job.new.reel) plant.new }
+    ensures told { P.tells → result ≢ Ok false }
+    ensures lost { result ≡ Ok false → Done P.Plant (putting_away (loaded_of P.Plant plant.old) job.old.reel.slot) plant.old plant.new }
+    ensures log_size { OnOk result ((P.view plant.new).log_size ≡ (P.view plant.old).log_size) }
+    ensures stays { StaysQuiet P.Plant plant.old plant.new }
+    ensures cause { HasCause (P.view plant.old).faults (P.view plant.new).faults result }
     ensures plant { (items : AnyList Item) → (P.tells → Read ((state_of P.Plant plant.old).tape job.old.reel.slot) items) → Turns P.Plant job.old.reel.slot (tape_effects (uses_for job.old items) job.old) result plant.old plant.new }
 {
     let first = head_at(&job.port, &job.label, &job.reel);

@@ -1,16 +1,16 @@
 //! The steps that put a volume's fragments: head, piece and volume end. None takes memory.
 
-ghost use Rattle.std.specs.Prelude.{◌≡◌, ◌≢◌, ◌+◌, ◌*◌, ◌≤◌, true, Ok, Some, IsSome, IfSome, [], drop};
+ghost use Rattle.std.specs.Prelude.{◌≡◌, ◌≢◌, ◌+◌, ◌*◌, ◌≤◌, true, false, Ok, Some, IsSome, IfSome, []};
 ghost use Rattle.tape_writer.specs.Room.{HasRoom};
 ghost use Rattle.dump_job.specs.declared.fields.Hand.{Hand as AnyHand};
 ghost use Rattle.dump_job.specs.Reels.{records_on, with_more, counts_on, IsOn, Puts};
-ghost use Rattle.dump_job.specs.Volumes.{phase_behind, head_items, headed, next_used, next_piece, piece_items, pieced, fragment_end, end_items, volume_ended, volume_cut};
+ghost use Rattle.dump_job.specs.Volumes.{phase_behind, head_items, headed, piece_items, pieced, fragment_end, end_items, volume_ended, volume_cut};
 
 use crate::fields::{Hand, JobFields, Phase, Reel};
 use crate::puts::{put_end, put_head, put_piece};
 use plant_core::{Failed, Plant};
 use tape_config::Port;
-use tape_frames::{Data, DataFields, VolEnd, VolEndFields};
+use tape_frames::{VolEnd, VolEndFields};
 
 /// How many records stand on the tape in hand.
 pub(crate) fn count_on(port: &Port, reel: &Reel) -> u32
@@ -31,23 +31,6 @@ fn next_phase(hand: &Hand) -> Phase
     } else {
         Phase::Piece
     }
-}
-
-/// The next piece of the stream, which is then given.
-fn take_piece(hand: &mut Hand) -> Data
-    requires { hand.old.stream ≢ [] }
-    ensures piece { result ≡ next_piece hand.old }
-    ensures hand { hand.new ≡ record hand.old { stream = drop (next_used hand.old) hand.old.stream } }
-{
-    let mut bytes = [0; 16352];
-    let used = hand.stream.next(&mut bytes);
-    let head = hand.head.fields();
-    Data::new(DataFields {
-        dump: head.dump,
-        index: head.index,
-        used: used as u32,
-        bytes,
-    })
 }
 
 /// The end of the open fragment.
@@ -72,6 +55,7 @@ pub(crate) fn head_step<P: Plant>(job: &mut JobFields, plant: &mut P) -> Result<
     requires room { HasRoom 4 2 (counts_on job.old.port job.old.reel) }
     requires hand { IsSome job.old.hand }
     ensures moved { (h : AnyHand) → job.old.hand ≡ Some h → result ≡ Ok true → job.new ≡ headed h job.old }
+    ensures same { result ≡ Ok false → job.new ≡ job.old }
     ensures room { result ≡ Ok true → HasRoom 3 2 (counts_on job.new.port job.new.reel) }
     ensures fit { result ≡ Ok true → IsOn P.Plant job.new.reel.slot (records_on job.new.reel) plant.new }
     ensures plant { (h : AnyHand) → job.old.hand ≡ Some h → Puts P.Plant job.old.reel.slot (head_items h) result plant.old plant.new }
@@ -80,11 +64,13 @@ pub(crate) fn head_step<P: Plant>(job: &mut JobFields, plant: &mut P) -> Result<
     match &mut job.hand {
         None => Ok(false),
         Some(hand) => {
-            let there = put_head(plant, &job.port, &mut job.reel, &hand.head)?;
+            if !put_head(plant, &job.port, &mut job.reel, &hand.head)? {
+                return Ok(false);
+            }
             hand.at = at;
             hand.bytes = 0;
             job.phase = next_phase(hand);
-            Ok(there)
+            Ok(true)
         }
     }
 }
@@ -98,19 +84,19 @@ pub(crate) fn piece_step<P: Plant>(job: &mut JobFields, plant: &mut P) -> Result
     requires left { IfSome job.old.hand (λ h. h.stream ≢ []) }
     requires bytes { IfSome job.old.hand (λ h. h.bytes ≤ 16352 * job.old.reel.blocks) }
     ensures moved { (h : AnyHand) → job.old.hand ≡ Some h → result ≡ Ok true → job.new ≡ pieced h job.old }
+    ensures same { result ≡ Ok false → job.new ≡ job.old }
     ensures room { result ≡ Ok true → HasRoom 2 2 (counts_on job.new.port job.new.reel) }
     ensures fit { result ≡ Ok true → IsOn P.Plant job.new.reel.slot (records_on job.new.reel) plant.new }
     ensures plant { (h : AnyHand) → job.old.hand ≡ Some h → Puts P.Plant job.old.reel.slot (piece_items h) result plant.old plant.new }
 {
-    let _limits = job.port.fields();
     match &mut job.hand {
         None => Ok(false),
         Some(hand) => {
-            let piece = take_piece(hand);
-            let there = put_piece(plant, &job.port, &mut job.reel, &piece)?;
-            hand.bytes += piece.fields().used;
+            if !put_piece(plant, &job.port, &mut job.reel, hand)? {
+                return Ok(false);
+            }
             job.phase = next_phase(hand);
-            Ok(there)
+            Ok(true)
         }
     }
 }
@@ -123,6 +109,7 @@ fn end_fragment<P: Plant>(job: &mut JobFields, plant: &mut P, last: u32) -> Resu
     requires hand { IsSome job.old.hand }
     requires last { last ≤ 1 }
     ensures moved { result ≡ Ok true → job.new ≡ record job.old { reel = with_more 1 1 job.old.reel } }
+    ensures same { result ≡ Ok false → job.new ≡ job.old }
     ensures room { result ≡ Ok true → HasRoom 1 1 (counts_on job.new.port job.new.reel) }
     ensures fit { result ≡ Ok true → IsOn P.Plant job.new.reel.slot (records_on job.new.reel) plant.new }
     ensures plant { (h : AnyHand) → job.old.hand ≡ Some h → Puts P.Plant job.old.reel.slot (end_items last h) result plant.old plant.new }
@@ -160,14 +147,17 @@ pub(crate) fn volume_end_step<P: Plant>(job: &mut JobFields, plant: &mut P) -> R
     requires room { HasRoom 2 2 (counts_on job.old.port job.old.reel) }
     requires hand { IsSome job.old.hand }
     ensures moved { (h : AnyHand) → job.old.hand ≡ Some h → result ≡ Ok true → job.new ≡ volume_ended h job.old }
+    ensures same { result ≡ Ok false → job.new ≡ job.old }
     ensures room { result ≡ Ok true → HasRoom 1 1 (counts_on job.new.port job.new.reel) }
     ensures fit { result ≡ Ok true → IsOn P.Plant job.new.reel.slot (records_on job.new.reel) plant.new }
     ensures plant { (h : AnyHand) → job.old.hand ≡ Some h → Puts P.Plant job.old.reel.slot (end_items 1 h) result plant.old plant.new }
 {
     let phase = phase_after(job);
-    let there = end_fragment(job, plant, 1);
+    if !end_fragment(job, plant, 1)? {
+        return Ok(false);
+    }
     job.phase = phase;
-    there
+    Ok(true)
 }
 
 /// Ends a fragment that doesn't end its volume, since the tape is full.
@@ -177,11 +167,14 @@ pub(crate) fn cut_step<P: Plant>(job: &mut JobFields, plant: &mut P) -> Result<b
     requires room { HasRoom 2 2 (counts_on job.old.port job.old.reel) }
     requires hand { IsSome job.old.hand }
     ensures moved { result ≡ Ok true → job.new ≡ volume_cut job.old }
+    ensures same { result ≡ Ok false → job.new ≡ job.old }
     ensures room { result ≡ Ok true → HasRoom 1 1 (counts_on job.new.port job.new.reel) }
     ensures fit { result ≡ Ok true → IsOn P.Plant job.new.reel.slot (records_on job.new.reel) plant.new }
     ensures plant { (h : AnyHand) → job.old.hand ≡ Some h → Puts P.Plant job.old.reel.slot (end_items 0 h) result plant.old plant.new }
 {
-    let there = end_fragment(job, plant, 0);
+    if !end_fragment(job, plant, 0)? {
+        return Ok(false);
+    }
     job.phase = Phase::PartEnd;
-    there
+    Ok(true)
 }

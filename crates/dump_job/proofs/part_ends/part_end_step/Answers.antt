@@ -1,4 +1,4 @@
-use Rattle.std.proofs.Common.{◌≡◌, ℕ, ◌≤◌, Bool, false, List, Option, None, Some, sym, ◌∙◌, subst}
+use Rattle.std.proofs.Common.{◌≡◌, ℕ, ◌+◌, ◌≤◌, Bool, false, List, length, Option, None, Some, sym, ◌∙◌, subst}
 use Rattle.std.specs.Prelude.{IfSome, IsTrue}
 use Rattle.budb_changes.specs.declared.records.DumpRecordFields.{DumpRecordFields}
 use Rattle.tape_choice.specs.declared.choosing.Chosen.{Chosen}
@@ -17,17 +17,18 @@ returns-in-Some-clause-ended g c =
     let s = c.in-Ok.ensures in
     let e = c.end_and_pass.ensures in
     let listed : c.as_slice.result.now ≡ c.args.budb.now.database.listed = search in
+    let parts = subst (λ (o : Option Chosen). IfSome o (λ x. length j.filled + 1 ≤ 65534)) c.in-Some.is s.parts in
     let here = subst (λ (o : Option Chosen). IfSome o (λ x. IsTrue ((P.view old).present x.slot))) c.in-Some.is s.here in
     let first = subst (λ (o : Option Chosen). IfSome o (λ x. j.port.first ≤ x.slot)) c.in-Some.is s.first in
     let last = subst (λ (o : Option Chosen). IfSome o (λ x. x.slot ≤ j.port.last)) c.in-Some.is s.last in
     let unused = subst (λ (o : Option Chosen). IfSome o (λ x. is_used (next_wanting c.as_slice.result.now j) x.slot ≡ false)) c.in-Some.is s.unused in
     ends_by P c.args.cut c.end_and_pass.result c.args.budb.now c.end_and_pass.new.budb old c.choose_next.new.plant c.end_and_pass.new.plant
-    j c.end_and_pass.new.job (Some c.in-Some.chosen) (λ tells slots has. subst (λ (ds : List DumpRecordFields). next_choice ds slots j ≡ Some c.in-Some.chosen) listed (sym (s.chosen tells slots has) ∙ c.in-Some.is)) here first last
+    j c.end_and_pass.new.job (Some c.in-Some.chosen) (λ tells slots has. subst (λ (ds : List DumpRecordFields). next_choice ds slots j ≡ Some c.in-Some.chosen) listed (sym (s.chosen tells slots has) ∙ c.in-Some.is)) parts here first last
     (subst (λ (ds : List DumpRecordFields). is_used (next_wanting ds j) c.in-Some.chosen.slot ≡ false) listed unused)
     s.done s.leaves s.numbers s.stays (s.cause.stays (λ is. absurd (cc))) e.goes e.moved e.plant e.database
 
-pub returns-in-Some-clause-fit : goal.returns-in-Some-clause-fit
-returns-in-Some-clause-fit g c = λ is.
+pub returns-in-Some-clause-ready : goal.returns-in-Some-clause-ready
+returns-in-Some-clause-ready g c = λ is.
     let P = g.P.Plant in
     let s = c.in-Ok.ensures in
     let e = c.end_and_pass.ensures in
@@ -53,7 +54,7 @@ returns-in-None-clause-ended g c =
     let mid = c.choose_next.new.plant in
     let listed : c.as_slice.result.now ≡ c.args.budb.now.database.listed = search in
     ends_by P c.args.cut c.end_and_refuse.result c.args.budb.now c.args.budb.now c.args.plant.now mid c.end_and_refuse.new.plant
-    j c.end_and_refuse.new.job None (λ tells slots has. subst (λ (ds : List DumpRecordFields). next_choice ds slots j ≡ None) listed (sym (s.chosen tells slots has) ∙ c.in-None.is)) tt tt tt tt
+    j c.end_and_refuse.new.job None (λ tells slots has. subst (λ (ds : List DumpRecordFields). next_choice ds slots j ≡ None) listed (sym (s.chosen tells slots has) ∙ c.in-None.is)) tt tt tt tt tt
     s.done s.leaves s.numbers s.stays (s.cause.stays (λ is. absurd (cc))) e.goes (e.moved c.args.cut) e.plant
     (makes_none P j.reel.slot (part_end_items 1 j) (closing_of c.end_and_refuse.result) c.args.budb.now mid c.end_and_refuse.new.plant e.plant c.requires.nothing)
 

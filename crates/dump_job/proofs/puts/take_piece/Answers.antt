@@ -1,7 +1,7 @@
 use Rattle.std.proofs.Common.{◌≡◌, ◌≤◌, ℕ, min, List, [], ◌∷◌, length, take, drop, ◌∙◌, ap, refl, arith}
 use Rattle.std.proofs.lemmas.List.{length-take-le, drop-replicate, length-replicate}
 use Rattle.std.proofs.lemmas.Slice.{drop-append-drop}
-use Rattle.dump_job.proofs.volumes.take_piece.Goals as goal
+use Rattle.dump_job.proofs.puts.take_piece.Goals as goal
 
 some_of : (s : List ℕ) → (s ≡ [] → ⊥) → 1 ≤ length s
 some_of [] never = absurd (never refl)
