@@ -6,6 +6,7 @@ use Rattle.bk_text.specs.Blanks.{words_of}
 use Rattle.backup_words.specs.declared.kinds.Kind.{Kind}
 use Rattle.backup_words.specs.declared.kinds.Kind.TheVariants.{Addvolset, Delvolset, Addvolentry, Delvolentry, Listvolsets, Adddump, Setexp, Deldump, Listdumps, Listhosts, Checkpoint, Addhost, Delhost, Labeltape, Readlabel, Scantape, Dump, Deletedump, Dumpinfo, Volinfo, Volrestore, Diskrestore, Volsetrestore, VosCreate, VosWrite, VosRmvnode, VosBackup, VosRemove, VosListvol}
 use Rattle.backup_words.specs.declared.options.OptionName.TheVariants as option
+use Rattle.backup_words.specs.declared.options.Need.TheVariants.{Free, NotWith}
 use Rattle.backup_words.specs.declared.options.TextForm.TheVariants as text
 use Rattle.backup_words.specs.declared.command.Command.{Command}
 use Rattle.backup_words.specs.declared.faults.WordFault.{WordFault}
@@ -17,7 +18,7 @@ use Rattle.backup_words.specs.Values.{first_word, word_at}
 use Rattle.backup_words.specs.Commands.{built, refusal, command_with, words_say, is_foreign, command_of}
 use Rattle.backup_words.proofs.FitLaws.{fits_of}
 use Rattle.command_forms.specs.Forms.{HasForms}
-use Rattle.command_forms.proofs.Values.{text_at, pattern_at, levels_at, number_at_most, port_is_two, any_host, any_part, expiry_form}
+use Rattle.command_forms.proofs.Values.{text_at, maybe_text, pattern_at, levels_at, number_at_most, port_is_two, any_host, any_part, expiry_form}
 
 built_form : (kind : Kind) (w : List (List ℕ)) → AllFit w (rules_of kind) → HasForms (built kind w)
 built_form Addvolset w fit = text_at w option.Name text.SetName fit.0
@@ -38,7 +39,7 @@ built_form Listhosts w fit = tt
 built_form Checkpoint w fit = tt
 built_form Addhost w fit = (text_at w option.Tapehost text.Host fit.0, port_is_two w fit.1.0)
 built_form Delhost w fit = port_is_two w fit.1.0
-built_form Labeltape w fit = tt
+built_form Labeltape w fit = (maybe_text w option.Name Free text.TapeName fit.0, maybe_text w option.Pname (NotWith option.Name) text.TapeName fit.1.0)
 built_form Readlabel w fit = tt
 built_form Scantape w fit = tt
 built_form Dump w fit = tt

@@ -1,6 +1,6 @@
 -- The value of an option whose words fit has its form.
 use Rattle.std.proofs.Common.{◌≡◌, inl, inr, ℕ, ◌≤◌, Bool, true, false, not, List, [], ◌∷◌, refl, sym, subst, arith}
-use Rattle.std.specs.Prelude.{All, ◌&&◌, nat_le, is_some, if◌then◌else◌, option_map, unwrap_or, Option, Some, None, Result, Ok, Err, IfOk}
+use Rattle.std.specs.Prelude.{All, ◌&&◌, nat_le, is_some, if◌then◌else◌, option_map, unwrap_or, Option, Some, None, IfSome, Result, Ok, Err, IfOk}
 use Rattle.std.specs.List.{list_all}
 use Rattle.std.proofs.lemmas.Bool.{and_parts, leb-true}
 use Rattle.bk_text.specs.declared.expiry.Expiry.{Expiry}
@@ -19,17 +19,18 @@ use Rattle.budb_changes.specs.Printable.{IsPatternBytes}
 use Rattle.budb_changes.specs.Forms.{IsExpiry}
 use Rattle.backup_words.specs.declared.options.OptionName.{OptionName}
 use Rattle.backup_words.specs.declared.options.OptionName.TheVariants as option
+use Rattle.backup_words.specs.declared.options.Need.{Need}
 use Rattle.backup_words.specs.declared.options.Need.TheVariants.{Required}
 use Rattle.backup_words.specs.declared.options.TextForm.{TextForm}
 use Rattle.backup_words.specs.declared.options.TextForm.TheVariants.{AnyHost, AnyPart}
 use Rattle.backup_words.specs.declared.options.Form.{Form}
 use Rattle.backup_words.specs.declared.options.Form.TheVariants.{Text, Number, Pattern, Levels}
-use Rattle.backup_words.specs.declared.faults.ValueFault.TheVariants.{NoPattern}
+use Rattle.backup_words.specs.declared.faults.ValueFault.TheVariants.{Unfit, NoPattern}
 use Rattle.backup_words.specs.Fitting.{IsText, Fits}
 use Rattle.backup_words.specs.Forms.{is_text, is_any, within, number_within}
 use Rattle.backup_words.specs.Table.{rule, port}
 use Rattle.backup_words.specs.Words.{given}
-use Rattle.backup_words.specs.Values.{unfit_unless, is_flag, values_fault, form_fault, given_fault, first_word, word_at, number_in, number_at, words_at, unless_any, ok_or_else, expiry_at}
+use Rattle.backup_words.specs.Values.{unfit_unless, is_flag, is_excluded, values_fault, form_fault, given_fault, first_word, maybe_word, word_at, number_in, number_at, words_at, unless_any, ok_or_else, expiry_at}
 use Rattle.backup_words.specs.Commands.{port_at}
 use Rattle.backup_words.proofs.FormLaws.{text_form, levels_form}
 use Rattle.backup_words.proofs.PatternLaws.{pattern_form}
@@ -79,6 +80,20 @@ module _ (words : List (List ℕ)) (o : OptionName) where
   levels_at fits =
       let it = is_given Levels refl fits in
       subst (λ (g : Option (List (List ℕ))). All IsLevelPath (unwrap_or g [])) (sym it.is) (levels_form (it.value ∷ it.more) (unfit o (list_all level_path_test (it.value ∷ it.more)) it.good))
+
+-- the word of an option that may be left out
+maybe_values : (words : List (List ℕ)) (o : OptionName) (need : Need) (form : TextForm) (values : Option (List (List ℕ))) → given_fault words (rule o need (Text form)) values ≡ None → IfSome (option_map first_word values) (IsText form)
+maybe_values words o need form None good = tt
+maybe_values words o need form (Some values) good = go (is_excluded words need) good
+  where
+    go : (b : Bool) → (if b then Some (Unfit o) else form_fault o (Text form) values) ≡ None → IfSome (option_map first_word (Some values)) (IsText form)
+    go true bad = absurd (cc)
+    go false fine =
+        let it = some_values o (Text form) values refl fine in
+        subst (λ (g : Option (List (List ℕ))). IfSome (option_map first_word g) (IsText form)) (sym it.is) (text_form form it.value (unfit o (is_text form it.value) it.good))
+
+pub maybe_text : (words : List (List ℕ)) (o : OptionName) (need : Need) (form : TextForm) → Fits words (rule o need (Text form)) → IfSome (maybe_word o words) (IsText form)
+maybe_text words o need form fits = maybe_values words o need form (given o words) fits.good
 
 kept_most : (least most n : ℕ) (b : Bool) → (nat_le least n && nat_le n most) ≡ b → is_some (if b then Some n else None) ≡ true → n ≤ most
 kept_most least most n true is some = leb-true n most (and_parts (nat_le least n) (nat_le n most) is).1
