@@ -1,0 +1,32 @@
+use Rattle.std.proofs.Common.{List, sym, ◌∙◌, ap, subst}
+use Rattle.budb_changes.specs.declared.records.DumpRecordFields.{DumpRecordFields}
+use Rattle.budb_fold.specs.declared.database.Database.{Database}
+use Rattle.tape_scan.proofs.Looking.{loads_none, leaves_loads}
+use Rattle.restore_commands.specs.declared.choices.Choice.{Choice}
+use Rattle.restore_commands.specs.Choices.{disk_choices}
+use Rattle.restore_commands.specs.Answers.{all_answer}
+use Rattle.restore_commands.specs.Leaving.{OnTheWay}
+use Rattle.restore_commands.proofs.EachLaws.{none_put}
+use Rattle.restore_commands.proofs.commands.restore_disk.Goals as goal
+
+pub returns-in-Ok-clause-left : goal.returns-in-Ok-clause-left
+returns-in-Ok-clause-left g c = λ told seen a is.
+    let C = g.C.Cell in
+    let old = C.list c.args.cell.now in
+    let new = C.list c.restore_all.new.cell in
+    let disk = c.args.disk.now in
+    let listed = c.as_slice.ensures ∙ ap (λ (d : Database). d.listed) c.database.ensures ∙ sym is.lists in
+    subst (λ (cs : List Choice). OnTheWay old (all_answer a old c.args.manner.now cs).cells new)
+    (c.as_slice-in-Ok.ensures ∙ c.in-Ok.ensures ∙ ap (λ (l : List DumpRecordFields). disk_choices l disk) listed)
+    (c.restore_all.ensures.left told seen a is)
+
+pub returns-in-Err-clause-may : goal.returns-in-Err-clause-may
+returns-in-Err-clause-may g c = λ seen. none_put c.args.manner.now (disk_choices c.args.budb.now.database.listed c.args.disk.now) (g.C.Cell.list c.args.cell.now)
+
+pub returns-in-Err-clause-done : goal.returns-in-Err-clause-done
+returns-in-Err-clause-done g c = λ _. loads_none g.P.Plant c.args.plant.now c.requires (λ told survives x left. g.met.P.Plant.left c.args.plant.now x told c.requires survives left)
+
+pub returns-in-Err-clause-leaves : goal.returns-in-Err-clause-leaves
+returns-in-Err-clause-leaves g c =
+    let s = c.args.plant.now in
+    leaves_loads g.P.Plant s s (loads_none g.P.Plant s c.requires (λ told survives x left. g.met.P.Plant.left s x told c.requires survives left))

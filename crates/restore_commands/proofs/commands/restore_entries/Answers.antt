@@ -1,0 +1,27 @@
+use Rattle.std.proofs.Common.{List, ◌∙◌, ap, subst}
+use Rattle.budb_changes.specs.declared.records.DumpRecordFields.{DumpRecordFields}
+use Rattle.budb_fold.specs.declared.database.Database.{Database}
+use Rattle.restore_commands.specs.declared.choices.Choice.{Choice}
+use Rattle.restore_commands.specs.Choices.{set_choices}
+use Rattle.restore_commands.specs.Answers.{all_answer}
+use Rattle.restore_commands.specs.Leaving.{OnTheWay}
+use Rattle.restore_commands.proofs.EachLaws.{none_put}
+use Rattle.restore_commands.proofs.Idle.{plant_idle}
+use Rattle.restore_commands.proofs.commands.restore_entries.Goals as goal
+
+pub returns-in-Ok-clause-left : goal.returns-in-Ok-clause-left
+returns-in-Ok-clause-left g c = λ told seen a is.
+    let C = g.C.Cell in
+    let old = C.list c.args.cell.now in
+    let new = C.list c.restore_all.new.cell in
+    let entries = c.args.entries.now in
+    let listed = c.as_slice.ensures ∙ ap (λ (d : Database). d.listed) c.database.ensures in
+    subst (λ (cs : List Choice). OnTheWay old (all_answer a old c.args.manner.now cs).cells new)
+    (c.as_slice-in-Ok.ensures ∙ c.in-Ok.ensures ∙ ap (λ (l : List DumpRecordFields). set_choices l entries) listed)
+    (c.restore_all.ensures.left told seen a is)
+
+pub returns-in-Err-clause-may : goal.returns-in-Err-clause-may
+returns-in-Err-clause-may g c = λ seen. none_put c.args.manner.now (set_choices c.args.budb.now.database.listed c.args.entries.now) (g.C.Cell.list c.args.cell.now)
+
+pub returns-in-Err-clause-looks : goal.returns-in-Err-clause-looks
+returns-in-Err-clause-looks g c = plant_idle g.P.Plant c.args.plant.now _ c.requires (λ told survives x left. g.met.P.Plant.left c.args.plant.now x told c.requires survives left) (λ is. absurd (cc))

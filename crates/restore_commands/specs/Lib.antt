@@ -1,0 +1,5 @@
+pub mod Bases
+pub mod Choices
+pub mod Answers
+pub mod Leaving
+pub mod Steps
