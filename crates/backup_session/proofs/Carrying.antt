@@ -20,7 +20,7 @@ use Rattle.backup_session.specs.declared.verdict.Verdict.{Verdict}
 use Rattle.backup_session.specs.declared.verdict.Verdict.TheVariants.{Refuses, Makes, Shortens, Shows}
 use Rattle.backup_session.specs.Views.{SessionView, ReplyView}
 use Rattle.backup_session.specs.Worlds.{World, Turn, at_moment, last_cell}
-use Rattle.backup_session.specs.Asks.{asks_cell, asks_tape, is_built, first_word}
+use Rattle.backup_session.specs.Asks.{asks_cell, asks_archive, asks_tape, is_built, first_word}
 use Rattle.backup_session.specs.Cells.{CellAnswer, cell_answer, IsAnswer}
 use Rattle.backup_session.specs.Verdicts.{verdict}
 use Rattle.backup_session.specs.Turns.{said, length_with}
@@ -31,6 +31,7 @@ use Rattle.tape_config.specs.declared.port.PortFields.{PortFields}
 use Rattle.backup_session.specs.Scanning.{port_of, scan_turn, slots_here}
 use Rattle.backup_session.proofs.ScanLaws.{slots_cells}
 use Rattle.backup_session.specs.Tapes.{slot_of, new_label, taken, labeled, label_turn, read_turn, tape_turn}
+use Rattle.backup_session.specs.Restores.{archive_turn}
 use Rattle.backup_session.specs.Machine.{committed, replaced, carried, on_cell, on_plant, done, turn}
 use Rattle.backup_session.specs.Fitting.{Fits, Turned, OnTheWay, FitsPlant, TurnedPlant}
 
@@ -65,13 +66,24 @@ turn_done : (w : World) (now : ℕ) (command : Command) → is_built command ≡
 unfolding turn
 turn_done w now command is = ap (λ (b : Bool). if b then done (at_moment w now) command else said w (refused_word NoSuchCommand (first_word command))) is
 
+abbrev not_on_cell : World → ℕ → Command → Turn
+not_on_cell w now command = if asks_archive command then archive_turn (at_moment w now) command else on_plant (at_moment w now) command
+
+turn_off_cell : (w : World) (now : ℕ) (command : Command) → is_built command ≡ true → asks_cell command ≡ false → turn w now command ≡ not_on_cell w now command
+turn_off_cell w now command built off = turn_done w now command built
+    ∙ ap (λ (b : Bool). if b then on_cell (at_moment w now) (cell_answer w.cell (at_moment w now).time command) else not_on_cell w now command) off
+
 pub turn_cell : (w : World) (now : ℕ) (command : Command) → is_built command ≡ true → asks_cell command ≡ true → turn w now command ≡ on_cell (at_moment w now) (cell_answer w.cell (at_moment w now).time command)
 turn_cell w now command built is = turn_done w now command built
-    ∙ ap (λ (b : Bool). if b then on_cell (at_moment w now) (cell_answer w.cell (at_moment w now).time command) else on_plant (at_moment w now) command) is
+    ∙ ap (λ (b : Bool). if b then on_cell (at_moment w now) (cell_answer w.cell (at_moment w now).time command) else not_on_cell w now command) is
 
-pub turn_plant : (w : World) (now : ℕ) (command : Command) → is_built command ≡ true → asks_cell command ≡ false → turn w now command ≡ on_plant (at_moment w now) command
-turn_plant w now command built is = turn_done w now command built
-    ∙ ap (λ (b : Bool). if b then on_cell (at_moment w now) (cell_answer w.cell (at_moment w now).time command) else on_plant (at_moment w now) command) is
+pub turn_archive : (w : World) (now : ℕ) (command : Command) → is_built command ≡ true → asks_cell command ≡ false → asks_archive command ≡ true → turn w now command ≡ archive_turn (at_moment w now) command
+turn_archive w now command built off is = turn_off_cell w now command built off
+    ∙ ap (λ (b : Bool). if b then archive_turn (at_moment w now) command else on_plant (at_moment w now) command) is
+
+pub turn_plant : (w : World) (now : ℕ) (command : Command) → is_built command ≡ true → asks_cell command ≡ false → asks_archive command ≡ false → turn w now command ≡ on_plant (at_moment w now) command
+turn_plant w now command built off is = turn_off_cell w now command built off
+    ∙ ap (λ (b : Bool). if b then archive_turn (at_moment w now) command else on_plant (at_moment w now) command) is
 
 -- a verdict leaves the cell alone
 pub carried_cells : (w : World) (v : Verdict) → (carried w v).cells ≡ []
@@ -133,8 +145,24 @@ module _ {D E : Type 0} (P : Plant D) (C : Cell E) (w : World) (old : D) (site :
     config = config ∙ fits.config;
     state = fits.state;
     settled = fits.settled;
+    slots = fits.slots;
     present = fits.present;
   }
+
+  -- the same with the cell
+  pub all_fits_at : (now : ℕ) (later : SessionView) → later.budb ≡ session.budb → later.config ≡ session.config → later.time ≡ max session.time (min now 4294967295) → Fits P C (at_moment w now) old site later
+  all_fits_at now later budb config time =
+      let plant = fits_at now later budb config time in
+      record {
+        keeps = plant.keeps;
+        time = plant.time;
+        config = plant.config;
+        state = plant.state;
+        settled = plant.settled;
+        slots = plant.slots;
+        present = plant.present;
+        cell = fits.cell;
+      }
 
   -- a turn that leaves the cell alone
   pub turned_by : (now : ℕ) (t : Turn) (new : D) (later : SessionView) (reply : ReplyView) → t.cells ≡ [] → TurnedPlant P (at_moment w now) t old new later reply → Turned P C w t old new site later reply
@@ -147,6 +175,7 @@ module _ {D E : Type 0} (P : Plant D) (C : Cell E) (w : World) (old : D) (site :
       config = turned.fits.config;
       state = turned.fits.state;
       settled = turned.fits.settled;
+      slots = turned.fits.slots;
       present = turned.fits.present;
       cell = fits.cell ∙ sym (ap (last_cell w.cell) cells);
     };
@@ -168,6 +197,7 @@ module _ {D E : Type 0} (P : Plant D) (C : Cell E) (w : World) (old : D) (site :
           config = plant.config;
           state = plant.state;
           settled = plant.settled;
+          slots = plant.slots;
           present = plant.present;
           cell = answer.list ∙ ap (λ (l : List Stored). last_cell l (cell_answer (C.list site) later.time command).cells) fits.cell ∙ ap (λ (a : CellAnswer). last_cell w.cell a.cells) same;
         };

@@ -3,9 +3,10 @@ pub mod Lists
 pub mod Entries
 pub mod CellLaws
 pub mod ScanLaws
-pub mod ScanForms
+pub mod TapeBounds
 pub mod Carrying
 pub mod Shortening
 pub mod LabelLaws
 pub mod Taking
 pub mod Settling
+pub mod RestoreLaws

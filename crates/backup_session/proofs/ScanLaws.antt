@@ -11,7 +11,7 @@ use Rattle.plant_core.specs.declared.plant.Plant.{Ghosts as Plant}
 use Rattle.plant_core.specs.Crashes.{State, Alike, IsSettled}
 use Rattle.plant_core.specs.Records.{Record}
 use Rattle.plant_core.specs.Effects.{Effect, commits, come}
-use Rattle.plant_effects.specs.Runs.{state_of, Done, Leaves}
+use Rattle.plant_effects.specs.Runs.{state_of, Done, Leaves, Stays}
 use Rattle.plant_effects.proofs.States.{alike_both, alike_come, come_append}
 use Rattle.plant_effects.proofs.Joining.{Fits as FitsImages, nothing_done, nothing_left, done_both, leaves_both, leaves_more}
 use Rattle.tape_scan.specs.Looking.{Loads, LeavesLoads}
@@ -111,19 +111,21 @@ module _ {D : Type 0} (P : Plant D) (w : World) where
           config = second.fits.config;
           state = subst (λ (x : State). Alike x (state_of P new)) is second.fits.state;
           settled = subst IsSettled is second.fits.settled;
+          slots = second.fits.slots;
           present = second.fits.present;
         };
       }
 
 -- loads of tapes leave a world that fits
-pub loads_fit : {D : Type 0} (P : Plant D) (w : World) (old new : D) (session : SessionView) → P.tells → FitsPlant P w old session → Loads P old new → (P.view new).present ≡ (P.view old).present → FitsPlant P w new session
-loads_fit P w old new session told fits loads present = record {
+pub loads_fit : {D : Type 0} (P : Plant D) (w : World) (old new : D) (session : SessionView) → P.tells → FitsPlant P w old session → Loads P old new → Stays P old new → FitsPlant P w new session
+loads_fit P w old new session told fits loads stays = record {
   keeps = fits.keeps;
   time = fits.time;
   config = fits.config;
   state = alike_both w.state (state_of P old) (state_of P new) fits.state ((loads_nothing P old new (λ _. settled_there P w old session fits) loads).state told);
   settled = fits.settled;
-  present = λ k. ap (λ (p : ℕ → Bool). p k) present ∙ fits.present k;
+  slots = stays.slots ∙ fits.slots;
+  present = λ k. ap (λ (p : ℕ → Bool). p k) stays.present ∙ fits.present k;
 }
 
 -- ---- one dump
@@ -194,10 +196,10 @@ module _ {D : Type 0} (P : Plant D) (w : World) (old : D) (session : SessionView
   room_is never = sym (ap (λ (s : Step). s.full) (with_room (roomy never)))
 
   pub added_stepped : (mid : D) (later : SessionView) (before after : List ℕ) → P.tells → (268435456 < (P.view old).log_size + length (encoded (change.Found d ∷ [])) → ⊥) → Done P (commits (encoded (change.Found d ∷ [])) ∷ []) old mid
-      → ((k : ℕ) → (P.view mid).present k ≡ (P.view old).present k) → Keeps (w.log ++ change.Found d ∷ []) (state_of P mid).log later.budb → later.time ≡ time_with session.time d → later.config ≡ session.config
+      → Stays P old mid → Keeps (w.log ++ change.Found d ∷ []) (state_of P mid).log later.budb → later.time ≡ time_with session.time d → later.config ≡ session.config
       → after ≡ before ++ added_line d.id → Stepped P w (added w d).turn old mid later before after
   unfolding full_step made_step
-  added_stepped mid later before after told never done present keeps time config text =
+  added_stepped mid later before after told never done stays keeps time config text =
       let es = commits (encoded (change.Found d ∷ [])) ∷ [] in
       let here = alike_both (come es w.state) (come es (state_of P old)) (state_of P mid) (alike_come es w.state (state_of P old) fits.state) (done.state told) in
       subst (λ (s : Step). Stepped P w s.turn old mid later before after) (sym (with_room (roomy never))) (record {
@@ -209,7 +211,8 @@ module _ {D : Type 0} (P : Plant D) (w : World) (old : D) (session : SessionView
           config = config ∙ fits.config;
           state = here;
           settled = settled_commit (encoded (change.Found d ∷ [])) w.state fits.settled;
-          present = λ k. present k ∙ fits.present k;
+          slots = stays.slots ∙ fits.slots;
+          present = λ k. ap (λ (p : ℕ → Bool). p k) stays.present ∙ fits.present k;
         };
       })
 
@@ -360,6 +363,7 @@ module _ {D : Type 0} (P : Plant D) (w : World) (old : D) (session : SessionView
         config = stepped.fits.config;
         state = stepped.fits.state;
         settled = stepped.fits.settled;
+        slots = stepped.fits.slots;
         present = stepped.fits.present;
       };
     })

@@ -4,7 +4,7 @@ use Rattle.std.specs.Prelude.{if◌then◌else◌}
 use Rattle.std.proofs.lemmas.Bool.{cases_lt}
 use Rattle.plant_core.specs.declared.plant.Plant.{Ghosts as Plant}
 use Rattle.plant_core.specs.Effects.{replaces, come}
-use Rattle.plant_effects.specs.Runs.{state_of, Done, Leaves}
+use Rattle.plant_effects.specs.Runs.{state_of, Done, Leaves, Stays}
 use Rattle.plant_effects.proofs.States.{alike_both, alike_come}
 use Rattle.plant_effects.proofs.Joining.{Fits as FitsImages, nothing_done, nothing_left}
 use Rattle.budb_changes.specs.declared.change.Change.{Change}
@@ -48,9 +48,9 @@ list_full P w changes old session reply fits sound full text =
 
 -- the list is the log
 list_turned : {D : Type 0} (P : Plant D) (w : World) (changes : List Change) (old new : D) (session later : SessionView) (reply : ReplyView) → FitsPlant P w old session → P.tells → length (encoded changes) ≤ 268435456
-    → Done P (replaces (encoded changes) ∷ []) old new → ((k : ℕ) → (P.view new).present k ≡ (P.view old).present k)
+    → Done P (replaces (encoded changes) ∷ []) old new → Stays P old new
     → Keeps changes (state_of P new).log later.budb → later.time ≡ session.time → later.config ≡ session.config → reply.text ≡ ok_line → TurnedPlant P w (shortened w changes) old new later reply
-list_turned P w changes old new session later reply fits told room done present keeps time config text =
+list_turned P w changes old new session later reply fits told room done stays keeps time config text =
     subst (λ (t : Turn). TurnedPlant P w t old new later reply) (sym (with_room w changes room)) (record {
       done = done;
       text = text;
@@ -60,7 +60,8 @@ list_turned P w changes old new session later reply fits told room done present 
         config = config ∙ fits.config;
         state = alike_both (come (replaces (encoded changes) ∷ []) w.state) (come (replaces (encoded changes) ∷ []) (state_of P old)) (state_of P new) (alike_come (replaces (encoded changes) ∷ []) w.state (state_of P old) fits.state) (done.state told);
         settled = settled_replace (encoded changes) w.state fits.settled;
-        present = λ k. present k ∙ fits.present k;
+        slots = stays.slots ∙ fits.slots;
+        present = λ k. ap (λ (p : ℕ → Bool). p k) stays.present ∙ fits.present k;
       };
     })
 
@@ -83,10 +84,10 @@ module _ {D : Type 0} (P : Plant D) (w : World) (old : D) (session : SessionView
       (subst (λ (l : List Change). TurnedPlant P w (shortened w l) old old session reply) same (list_full P w (checkpoint session.budb.database) old session reply fits sound full text)))
 
   pub short_turned : (new : D) (later : SessionView) (reply : ReplyView) → P.tells → (268435456 < length (encoded (checkpoint session.budb.database)) → ⊥)
-      → Done P (replaces (encoded (checkpoint session.budb.database)) ∷ []) old new → ((k : ℕ) → (P.view new).present k ≡ (P.view old).present k)
+      → Done P (replaces (encoded (checkpoint session.budb.database)) ∷ []) old new → Stays P old new
       → Keeps (checkpoint (after w.log)) (state_of P new).log later.budb → later.time ≡ session.time → later.config ≡ session.config → reply.text ≡ ok_line → TurnedPlant P w (carried w Shortens) old new later reply
-  short_turned new later reply told never done present keeps time config text =
+  short_turned new later reply told never done stays keeps time config text =
       let room : length (encoded (checkpoint session.budb.database)) ≤ 268435456
       = ⊎_elim (λ (full : 268435456 < length (encoded (checkpoint session.budb.database))). absurd (never full)) (λ (le : length (encoded (checkpoint session.budb.database)) ≤ 268435456). le) (cases_lt 268435456 (length (encoded (checkpoint session.budb.database)))) in
       list_turned P w (checkpoint (after w.log)) old new session later reply fits told (subst (λ (l : List Change). length (encoded l) ≤ 268435456) same room)
-      (subst (λ (l : List Change). Done P (replaces (encoded l) ∷ []) old new) same done) present keeps time config text
+      (subst (λ (l : List Change). Done P (replaces (encoded l) ∷ []) old new) same done) stays keeps time config text

@@ -9,7 +9,7 @@ use Rattle.tape_config.specs.Configs.{Settings, port_in}
 use Rattle.plant_core.specs.declared.plant.Plant.{Ghosts as Plant}
 use Rattle.plant_core.specs.Crashes.{State, IsSettled}
 use Rattle.plant_core.specs.Effects.{commits, come}
-use Rattle.plant_effects.specs.Runs.{state_of, Done, Leaves, SameNumbers}
+use Rattle.plant_effects.specs.Runs.{state_of, Done, Leaves, SameNumbers, Stays}
 use Rattle.plant_effects.proofs.States.{alike_both, alike_come}
 use Rattle.plant_effects.proofs.Joining.{Fits as FitsImages, nothing_done, nothing_left, done_both, leaves_both, leaves_more}
 use Rattle.budb_changes.specs.declared.change.Change.{Change}
@@ -50,14 +50,15 @@ settled_behind P w old mid session bytes fits done told =
     settled_alike (come (commits bytes ∷ []) (state_of P old)) (state_of P mid) (done.state told) (settled_commit bytes (state_of P old) (settled_there P w old session fits))
 
 -- calls that only read
-pub still_fits : {D : Type 0} (P : Plant D) (w : World) (old new : D) (session : SessionView) → P.tells → FitsPlant P w old session → Done P [] old new → SameNumbers P old new → (P.view new).present ≡ (P.view old).present → FitsPlant P w new session
-still_fits P w old new session told fits done numbers present = record {
+pub still_fits : {D : Type 0} (P : Plant D) (w : World) (old new : D) (session : SessionView) → P.tells → FitsPlant P w old session → Done P [] old new → SameNumbers P old new → Stays P old new → FitsPlant P w new session
+still_fits P w old new session told fits done numbers stays = record {
   keeps = fits.keeps;
   time = fits.time;
   config = fits.config;
   state = alike_both w.state (state_of P old) (state_of P new) fits.state (done.state told);
   settled = fits.settled;
-  present = λ k. ap (λ (p : ℕ → Bool). p k) present ∙ fits.present k;
+  slots = stays.slots ∙ fits.slots;
+  present = λ k. ap (λ (p : ℕ → Bool). p k) stays.present ∙ fits.present k;
 }
 
 module _ {D : Type 0} (P : Plant D) (w : World) (old : D) (session : SessionView) (fits : FitsPlant P w old session) (size : (P.view old).log_size ≡ length (state_of P old).log) (slot : ℕ) (a : LabelFields) (c : Change) where
@@ -65,7 +66,7 @@ module _ {D : Type 0} (P : Plant D) (w : World) (old : D) (session : SessionView
   full_turn = said w (refused_number LogFull (length_with w (c ∷ [])))
 
   made_turn : Turn
-  made_turn = record { effects = commits (encoded (c ∷ [])) ∷ putting_label slot a; reply = labeled_lines a.afs a.permanent slot; log = w.log ++ c ∷ []; time = w.time; cells = [] }
+  made_turn = record { effects = commits (encoded (c ∷ [])) ∷ putting_label slot a; reply = labeled_lines a.afs a.permanent slot; log = w.log ++ c ∷ []; time = w.time; cells = []; contents = w.contents }
 
   size_is : (P.view old).log_size ≡ length (encoded w.log)
   size_is = size ∙ ap length (fits.state.log ∙ fits.keeps.is)
@@ -110,10 +111,10 @@ module _ {D : Type 0} (P : Plant D) (w : World) (old : D) (session : SessionView
     both_leave first second = subst (λ (t : Turn). Leaves P t.effects old new) (sym (with_room (roomy never)))
         (leaves_both P (commits (encoded (c ∷ [])) ∷ []) (putting_label slot a) old mid new done first second)
 
-    pub both_turned : (later : SessionView) (reply : ReplyView) → P.tells → Done P (putting_label slot a) mid new → ((k : ℕ) → (P.view new).present k ≡ (P.view old).present k)
+    pub both_turned : (later : SessionView) (reply : ReplyView) → P.tells → Done P (putting_label slot a) mid new → Stays P old new
         → Keeps (w.log ++ c ∷ []) (state_of P mid).log later.budb → later.time ≡ session.time → later.config ≡ session.config → reply.text ≡ labeled_lines a.afs a.permanent slot → TurnedPlant P w (labeled w slot a (c ∷ [])) old new later reply
     unfolding full_turn made_turn
-    both_turned later reply told second present keeps time config text =
+    both_turned later reply told second stays keeps time config text =
         let all = done_both P (commits (encoded (c ∷ [])) ∷ []) (putting_label slot a) old mid new done second in
         let here = alike_both (come (commits (encoded (c ∷ [])) ∷ []) w.state) (come (commits (encoded (c ∷ [])) ∷ []) (state_of P old)) (state_of P mid) (alike_come (commits (encoded (c ∷ [])) ∷ []) w.state (state_of P old) fits.state) (done.state told) in
         let log_is : (come (commits (encoded (c ∷ [])) ∷ putting_label slot a) w.state).log ≡ (state_of P mid).log = log_stays slot a (come (commits (encoded (c ∷ [])) ∷ []) w.state) ∙ sym here.log in
@@ -126,15 +127,16 @@ module _ {D : Type 0} (P : Plant D) (w : World) (old : D) (session : SessionView
             config = config ∙ fits.config;
             state = alike_both (come (commits (encoded (c ∷ [])) ∷ putting_label slot a) w.state) (come (commits (encoded (c ∷ [])) ∷ putting_label slot a) (state_of P old)) (state_of P new) (alike_come (commits (encoded (c ∷ [])) ∷ putting_label slot a) w.state (state_of P old) fits.state) (all.state told);
             settled = settled_label slot a (come (commits (encoded (c ∷ [])) ∷ []) w.state) (settled_commit (encoded (c ∷ [])) w.state fits.settled);
-            present = λ k. present k ∙ fits.present k;
+            slots = stays.slots ∙ fits.slots;
+            present = λ k. ap (λ (p : ℕ → Bool). p k) stays.present ∙ fits.present k;
           };
         })
 
 -- ---- where a tape is
 
 -- only the slot itself is looked at
-pub slot_same : (config : Settings) (p q : ℕ → Bool) (hosts : List HostPort) (offset : ℕ) (slot : Option ℕ) → ((k : ℕ) → p k ≡ q k) → slot_of (record { config = config; present = p }) hosts offset slot ≡ slot_of (record { config = config; present = q }) hosts offset slot
-slot_same config p q hosts offset slot same = ap (λ (r : Result ℕ (List ℕ)). if has_port hosts offset then r else Err (refused_number NoSuchPort offset)) (at_port (port_in offset config.entries))
+pub slot_same : (config : Settings) (m n : ℕ) (p q : ℕ → Bool) (hosts : List HostPort) (offset : ℕ) (slot : Option ℕ) → ((k : ℕ) → p k ≡ q k) → slot_of (record { config = config; slots = m; present = p }) hosts offset slot ≡ slot_of (record { config = config; slots = n; present = q }) hosts offset slot
+slot_same config m n p q hosts offset slot same = ap (λ (r : Result ℕ (List ℕ)). if has_port hosts offset then r else Err (refused_number NoSuchPort offset)) (at_port (port_in offset config.entries))
   where
     in_port : (port : PortFields) (k : ℕ) → slot_in p port k ≡ slot_in q port k
     in_port port k = ap (λ (b : Bool). slot_in (λ j. b) port k) (same k)
@@ -158,10 +160,10 @@ labels_are P w old session fits slot name pname label l listed changes label_is 
 
 -- the slot that a command names is that of the world
 pub slot_is : {D : Type 0} (P : Plant D) (w : World) (old : D) (session : SessionView) → FitsPlant P w old session → (config : Settings) (hosts : List HostPort) (offset : ℕ) (slot : Option ℕ) (found : Result ℕ (List ℕ)) → config ≡ session.config → hosts ≡ session.budb.database.hosts
-    → found ≡ slot_of (record { config = config; present = (P.view old).present }) hosts offset slot → found ≡ slot_of w.setting (after w.log).hosts offset slot
+    → found ≡ slot_of (record { config = config; slots = (P.view old).slots; present = (P.view old).present }) hosts offset slot → found ≡ slot_of w.setting (after w.log).hosts offset slot
 slot_is P w old session fits config hosts offset slot found config_is hosts_are is =
-    is ∙ slot_same config (P.view old).present w.setting.present hosts offset slot fits.present
-    ∙ ap (λ (c : Settings). slot_of (record { config = c; present = w.setting.present }) hosts offset slot) (config_is ∙ fits.config)
+    is ∙ slot_same config (P.view old).slots w.setting.slots (P.view old).present w.setting.present hosts offset slot fits.present
+    ∙ ap (λ (c : Settings). slot_of (record { config = c; slots = w.setting.slots; present = w.setting.present }) hosts offset slot) (config_is ∙ fits.config)
     ∙ ap (λ (h : List HostPort). slot_of w.setting h offset slot) (hosts_are ∙ ap (λ (d : Database). d.hosts) fits.keeps.fold)
 
 -- nothing but a reply

@@ -30,6 +30,13 @@ asks_dumps (Dumpinfo ndumps id) = true
 asks_dumps (Volinfo volume) = true
 asks_dumps command = false
 
+-- a command that asks the archive: what a dump has of a volume
+abbrev pub asks_archive : Command → Bool
+asks_archive (Volrestore server partition volume extension date n) = true
+asks_archive (Diskrestore server partition newserver newpartition extension n) = true
+asks_archive (Volsetrestore name extension n) = true
+asks_archive command = false
+
 -- a command on the cell
 abbrev pub asks_cell : Command → Bool
 asks_cell (VosCreate server partition name) = true
@@ -40,15 +47,16 @@ asks_cell (VosRemove volume) = true
 asks_cell VosListvol = true
 asks_cell command = false
 
--- a command on the label of a tape; scans have their turn in Scanning, and are not asked for yet
+-- a command on tapes: their labels, or what stands on them
 abbrev pub asks_tape : Command → Bool
 asks_tape (Labeltape name pname portoffset slot) = true
 asks_tape (Readlabel portoffset slot) = true
+asks_tape (Scantape dbadd portoffset) = true
 asks_tape command = false
 
 -- a command that has a body
 abbrev pub is_built : Command → Bool
-is_built command = asks_database command || (asks_cell command || asks_tape command)
+is_built command = asks_database command || (asks_cell command || (asks_archive command || asks_tape command))
 
 -- the first word of a command's line
 abbrev pub first_word : Command → List ℕ

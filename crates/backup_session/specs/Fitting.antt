@@ -17,6 +17,7 @@ pub record Fits {D E : Type 0} (P : Plant D) (C : Cell E) (w : World) (plant : D
   pub config : session.config ≡ w.setting.config
   pub state : Alike w.state (state_of P plant)
   pub settled : IsSettled w.state
+  pub slots : (P.view plant).slots ≡ w.setting.slots
   pub present : (k : ℕ) → (P.view plant).present k ≡ w.setting.present k
   pub cell : C.list site ≡ w.cell
 
@@ -39,6 +40,7 @@ pub record FitsPlant {D : Type 0} (P : Plant D) (w : World) (plant : D) (session
   pub config : session.config ≡ w.setting.config
   pub state : Alike w.state (state_of P plant)
   pub settled : IsSettled w.state
+  pub slots : (P.view plant).slots ≡ w.setting.slots
   pub present : (k : ℕ) → (P.view plant).present k ≡ w.setting.present k
 
 pub record TurnedPlant {D : Type 0} (P : Plant D) (w : World) (t : Turn) (old new : D) (session : SessionView) (reply : ReplyView) : Type 0 where

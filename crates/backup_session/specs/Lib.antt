@@ -1,4 +1,5 @@
 pub mod Worlds
+pub mod Bounded
 pub mod Levels
 pub mod Verdicts
 pub mod Cells
@@ -7,7 +8,9 @@ pub mod Labels
 pub mod Turns
 pub mod Scanning
 pub mod Tapes
+pub mod Restores
 pub mod Machine
 pub mod Views
 pub mod Fitting
+pub mod Held
 pub mod Opening

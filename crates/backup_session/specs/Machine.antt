@@ -10,20 +10,21 @@ use Rattle.backup_replies.specs.declared.refusals.Refusal.TheVariants.{NoSuchCom
 use Rattle.backup_replies.specs.Texts.{refused_word, refused_number, ok_line}
 use Rattle.backup_session.specs.declared.verdict.Verdict.{Verdict}
 use Rattle.backup_session.specs.declared.verdict.Verdict.TheVariants.{Refuses, Makes, Shortens, Shows}
-use Rattle.backup_session.specs.Asks.{asks_cell, asks_tape, is_built, first_word}
+use Rattle.backup_session.specs.Asks.{asks_cell, asks_archive, asks_tape, is_built, first_word}
 use Rattle.backup_session.specs.Cells.{CellAnswer, cell_answer}
 use Rattle.backup_session.specs.Verdicts.{verdict}
 use Rattle.backup_session.specs.Worlds.{World, Turn, at_moment}
 use Rattle.backup_session.specs.Turns.{said, length_with}
 use Rattle.backup_session.specs.Tapes.{tape_turn}
+use Rattle.backup_session.specs.Restores.{archive_turn}
 
 -- changes are made by one commit
 abbrev pub committed : World → List Change → List ℕ → Turn
-committed w changes text = record { effects = commits (encoded changes) ∷ []; reply = text; log = w.log ++ changes; time = w.time; cells = [] }
+committed w changes text = record { effects = commits (encoded changes) ∷ []; reply = text; log = w.log ++ changes; time = w.time; cells = []; contents = w.contents }
 
 -- these changes become the whole log, as one effect
 abbrev pub replaced : World → List Change → Turn
-replaced w changes = record { effects = replaces (encoded changes) ∷ []; reply = ok_line; log = changes; time = w.time; cells = [] }
+replaced w changes = record { effects = replaces (encoded changes) ∷ []; reply = ok_line; log = changes; time = w.time; cells = []; contents = w.contents }
 
 -- where they have room
 abbrev pub shortened : World → List Change → Turn
@@ -38,7 +39,7 @@ carried w Shortens = shortened w (checkpoint (after w.log))
 
 -- What a command on the cell is answered: no effect on the plant.
 abbrev pub on_cell : World → CellAnswer → Turn
-on_cell w answer = record { effects = []; reply = answer.reply; log = w.log; time = w.time; cells = answer.cells }
+on_cell w answer = record { effects = []; reply = answer.reply; log = w.log; time = w.time; cells = answer.cells; contents = w.contents }
 
 -- what a command on tapes or on the database makes of it
 abbrev pub on_plant : World → Command → Turn
@@ -46,7 +47,7 @@ on_plant w command = if asks_tape command then tape_turn w command else carried 
 
 -- a command that has a body, at the session's time
 abbrev pub done : World → Command → Turn
-done w command = if asks_cell command then on_cell w (cell_answer w.cell w.time command) else on_plant w command
+done w command = if asks_cell command then on_cell w (cell_answer w.cell w.time command) else (if asks_archive command then archive_turn w command else on_plant w command)
 
 -- ONE COMMAND at a moment of the clock. A command without a body yet is refused as none, in this one place, and isn't one: the
 -- session's time stays.

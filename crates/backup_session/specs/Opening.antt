@@ -17,7 +17,7 @@ use Rattle.bk_text.specs.Places.{FailsAt}
 use Rattle.plant_core.specs.Crashes.{State}
 use Rattle.backup_session.specs.declared.stops.OpenStop.{OpenStop}
 use Rattle.backup_session.specs.declared.stops.OpenStop.TheVariants as stop
-use Rattle.backup_session.specs.Worlds.{World, Setting}
+use Rattle.backup_session.specs.Worlds.{World, Setting, Contents}
 
 -- the greatest of a time and the clone times of a listed dump
 abbrev pub with_clone : ℕ → VolRecordFields → ℕ
@@ -42,9 +42,9 @@ with_stored time stored = with_state time (state_of stored.image)
 abbrev pub first_time : List Change → List Stored → ℕ
 first_time log cell = fold with_stored (database_time (after log)) cell
 
--- the world of a log's changes, a cell's list, and what stands in a plant
-abbrev pub opened : Setting → List Change → List Stored → State → World
-opened setting log cell state = record { setting = setting; log = log; time = first_time log cell; cell = cell; state = state }
+-- the world of a log's changes, a cell's list, the contents of the dumps, and what stands in a plant
+abbrev pub opened : Setting → List Change → List Stored → Contents → State → World
+opened setting log cell contents state = record { setting = setting; log = log; time = first_time log cell; cell = cell; contents = contents; state = state }
 
 -- A database that keeps the log; where the log is no list of changes, the place at which it stops being one; unless the plant fails
 -- or memory runs out.

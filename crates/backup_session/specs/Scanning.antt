@@ -78,6 +78,7 @@ recorded w dump = record {
   log = w.log ++ change.Found dump ∷ [];
   time = time_with w.time dump;
   cells = [];
+  contents = w.contents;
 }
 
 abbrev pub says : World → Bool → List ℕ → Step
@@ -100,7 +101,7 @@ added_if w full dump =
 
 -- one turn after the other, as one turn
 abbrev pub then_turn : Turn → Turn → Turn
-then_turn s t = record { effects = s.effects ++ t.effects; reply = s.reply ++ t.reply; log = t.log; time = t.time; cells = [] }
+then_turn s t = record { effects = s.effects ++ t.effects; reply = s.reply ++ t.reply; log = t.log; time = t.time; cells = []; contents = t.contents }
 
 -- a text in front of a turn's reply, and one behind it
 abbrev pub with_front : List ℕ → Turn → Turn

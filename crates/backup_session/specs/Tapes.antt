@@ -74,7 +74,7 @@ putting_label slot a = cuts slot 0 ∷ (puts slot (block_with (spelling (Label a
 
 -- The journal is committed before the tape is cut.
 abbrev pub labeled : World → ℕ → LabelFields → List Change → Turn
-labeled w slot a [] = record { effects = putting_label slot a; reply = labeled_lines a.afs a.permanent slot; log = w.log; time = w.time; cells = [] }
+labeled w slot a [] = record { effects = putting_label slot a; reply = labeled_lines a.afs a.permanent slot; log = w.log; time = w.time; cells = []; contents = w.contents }
 labeled w slot a (change ∷ changes) =
     if nat_lt 268435456 (length_with w (change ∷ changes)) then said w (refused_number LogFull (length_with w (change ∷ changes))) else record {
       effects = commits (encoded (change ∷ changes)) ∷ putting_label slot a;
@@ -82,6 +82,7 @@ labeled w slot a (change ∷ changes) =
       log = w.log ++ change ∷ changes;
       time = w.time;
       cells = [];
+      contents = w.contents;
     }
 
 abbrev pub label_turn : World → Option (List ℕ) → Option (List ℕ) → Result ℕ (List ℕ) → Turn

@@ -6,7 +6,7 @@ use Rattle.backup_session.specs.Worlds.{World, Turn}
 
 -- nothing but a reply
 abbrev pub said : World → List ℕ → Turn
-said w text = record { effects = []; reply = text; log = w.log; time = w.time; cells = [] }
+said w text = record { effects = []; reply = text; log = w.log; time = w.time; cells = []; contents = w.contents }
 
 -- how long the log is with these changes behind it
 abbrev pub length_with : World → List Change → ℕ

@@ -1,34 +1,48 @@
 -- What the machine knows between two commands, and what comes of one.
-use Rattle.std.specs.Prelude.{ℕ, List, [], ◌∷◌, Bool, min, max}
+use Rattle.std.specs.Prelude.{ℕ, List, [], ◌∷◌, Bool, min, max, Result}
+use Rattle.vnode_model.specs.declared.volumes.VolumeFields.{VolumeFields}
 use Rattle.plant_core.specs.Crashes.{State}
 use Rattle.plant_core.specs.Effects.{Effect, tells, come}
 use Rattle.cell_core.specs.declared.stored.Stored.{Stored}
 use Rattle.budb_changes.specs.declared.change.Change.{Change}
 use Rattle.tape_config.specs.Configs.{Settings}
+use Rattle.tape_answers.specs.Slots.{slots_of}
+use Rattle.archive_model.specs.Archives.{Archive, Refusal}
 
--- What stays during a run: the configuration, and which slots are here.
+-- What stays during a run: the configuration, how many slots there are, and which of them are here.
 pub record Setting : Type 0 where
   pub config : Settings
+  pub slots : ℕ
   pub present : ℕ → Bool
 
--- What a command finds: the changes of the journal, the session's time, the cell's list, and the plant's state (its log's bytes are those
--- of the changes).
+-- What each dump has of a volume: its contents, or the refusal by which its play ends. No call reads them: they are what the tapes mean.
+abbrev pub Contents : Type 0
+Contents = ℕ → List ℕ → Result VolumeFields Refusal
+
+-- What a command finds: the changes of the journal, the session's time, the cell's list, the contents of the dumps, and the plant's state
+-- (its log's bytes are those of the changes).
 pub record World : Type 0 where
   pub setting : Setting
   pub log : List Change
   pub time : ℕ
   pub cell : List Stored
+  pub contents : Contents
   pub state : State
 
+-- the archive of a world
+abbrev pub archive_of : World → Archive
+archive_of w = record { log = w.log; slots = slots_of w.setting.slots w.setting.present w.state.tape; contents = w.contents }
+
 -- What comes of a command: its effects on the plant but for the reply; the reply; the changes of the journal and the session's time after
--- it; and the lists that the cell has on the way, after each change of it, none where it isn't changed. Loading a tape is no effect: what is
--- put away is settled already between two commands.
+-- it; the lists that the cell has on the way, after each change of it, none where it isn't changed; and what the dumps have behind it. Loading
+-- a tape is no effect: what is put away is settled already between two commands.
 pub record Turn : Type 0 where
   pub effects : List Effect
   pub reply : List ℕ
   pub log : List Change
   pub time : ℕ
   pub cells : List (List Stored)
+  pub contents : Contents
 
 -- the last of these lists; this one where there is none
 abbrev pub last_cell : List Stored → List (List Stored) → List Stored
@@ -37,7 +51,7 @@ last_cell cell (c ∷ cs) = last_cell c cs
 
 -- the world when a command is done, and its reply isn't told yet
 abbrev pub before_reply : World → Turn → World
-before_reply w t = record { setting = w.setting; log = t.log; time = t.time; cell = last_cell w.cell t.cells; state = come t.effects w.state }
+before_reply w t = record { setting = w.setting; log = t.log; time = t.time; cell = last_cell w.cell t.cells; contents = t.contents; state = come t.effects w.state }
 
 -- a text is told
 abbrev pub with_told : World → List ℕ → World

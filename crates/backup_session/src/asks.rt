@@ -1,7 +1,7 @@
 //! Which commands have a body, and what each asks.
 
 ghost use Rattle.std.specs.Prelude.{◌≡◌};
-ghost use Rattle.backup_session.specs.Asks.{asks_database, asks_dumps, asks_cell, asks_tape, is_built, first_word};
+ghost use Rattle.backup_session.specs.Asks.{asks_database, asks_dumps, asks_cell, asks_archive, asks_tape, is_built, first_word};
 
 use backup_words::Command;
 
@@ -79,7 +79,44 @@ pub(crate) fn asks_cell(command: &Command) -> bool
     }
 }
 
-/// Whether a command is one on the label of a tape.
+/// Whether a command asks the archive.
+pub(crate) fn asks_archive(command: &Command) -> bool
+    ensures { result ≡ asks_archive command.now }
+{
+    match command {
+        Command::Addvolset { .. } => false,
+        Command::Delvolset { .. } => false,
+        Command::Addvolentry { .. } => false,
+        Command::Delvolentry { .. } => false,
+        Command::Listvolsets { .. } => false,
+        Command::Adddump { .. } => false,
+        Command::Setexp { .. } => false,
+        Command::Deldump { .. } => false,
+        Command::Listdumps => false,
+        Command::Listhosts => false,
+        Command::Checkpoint => false,
+        Command::Addhost { .. } => false,
+        Command::Delhost { .. } => false,
+        Command::Labeltape { .. } => false,
+        Command::Readlabel { .. } => false,
+        Command::Scantape { .. } => false,
+        Command::Dump { .. } => false,
+        Command::Deletedump { .. } => false,
+        Command::Dumpinfo { .. } => false,
+        Command::Volinfo { .. } => false,
+        Command::Volrestore { .. } => true,
+        Command::Diskrestore { .. } => true,
+        Command::Volsetrestore { .. } => true,
+        Command::VosCreate { .. } => false,
+        Command::VosWrite { .. } => false,
+        Command::VosRmvnode { .. } => false,
+        Command::VosBackup { .. } => false,
+        Command::VosRemove { .. } => false,
+        Command::VosListvol => false,
+    }
+}
+
+/// Whether a command is one on tapes.
 pub(crate) fn asks_tape(command: &Command) -> bool
     ensures { result ≡ asks_tape command.now }
 {
@@ -99,7 +136,7 @@ pub(crate) fn asks_tape(command: &Command) -> bool
         Command::Delhost { .. } => false,
         Command::Labeltape { .. } => true,
         Command::Readlabel { .. } => true,
-        Command::Scantape { .. } => false,
+        Command::Scantape { .. } => true,
         Command::Dump { .. } => false,
         Command::Deletedump { .. } => false,
         Command::Dumpinfo { .. } => false,
@@ -157,7 +194,7 @@ pub(crate) fn asks_dumps(command: &Command) -> bool
 pub(crate) fn is_built(command: &Command) -> bool
     ensures { result ≡ is_built command.now }
 {
-    asks_database(command) || (asks_cell(command) || asks_tape(command))
+    asks_database(command) || (asks_cell(command) || (asks_archive(command) || asks_tape(command)))
 }
 
 /// The first word of a command's line.

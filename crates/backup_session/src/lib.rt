@@ -11,6 +11,7 @@ mod labels;
 mod levels;
 mod opening;
 mod reply;
+mod restoring;
 mod scanning;
 mod session;
 mod sets;

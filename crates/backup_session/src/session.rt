@@ -10,11 +10,12 @@ ghost use Rattle.budb_fold.specs.Database.{after};
 ghost use Rattle.plant_core.specs.Crashes.{IsSettled};
 ghost use Rattle.plant_effects.specs.Runs.{state_of, Done, Leaves, SameNumbers, StaysQuiet};
 ghost use Rattle.backup_session.specs.declared.verdict.Verdict.TheVariants.{Makes, Shortens};
-ghost use Rattle.backup_session.specs.Worlds.{World, Setting};
+ghost use Rattle.backup_session.specs.Worlds.{World, Setting, Contents, at_moment};
 ghost use Rattle.backup_session.specs.Verdicts.{verdict};
 ghost use Rattle.backup_session.specs.Machine.{carried, on_plant, turn};
+ghost use Rattle.backup_session.specs.Held.{HeldFor};
 
-use crate::asks::{asks_cell, asks_tape, first_word, is_built};
+use crate::asks::{asks_archive, asks_cell, asks_tape, first_word, is_built};
 use crate::decide::decide;
 use crate::opening::{first_time, open_database};
 use crate::reply::Reply;
@@ -64,7 +65,7 @@ impl Session {
         cell: &mut C,
     ) -> Result<Session, OpenStop>
         requires { P.sound plant.old }
-        ensures fits { P.tells → C.tells → IfOk result (λ session. (log : AnyList AnyChange) × AreChanges log × ((state_of P.Plant plant.old).log ≡ encoded log) × (IsSettled (state_of P.Plant plant.old) → Fits P.Plant C.Cell (opened (record { config = config; present = (P.view plant.old).present }) log (C.list cell.old) (state_of P.Plant plant.old)) plant.new cell.new session)) }
+        ensures fits { P.tells → C.tells → IfOk result (λ session. (log : AnyList AnyChange) × AreChanges log × ((state_of P.Plant plant.old).log ≡ encoded log) × (IsSettled (state_of P.Plant plant.old) → (contents : Contents) → Fits P.Plant C.Cell (opened (record { config = config; slots = (P.view plant.old).slots; present = (P.view plant.old).present }) log (C.list cell.old) contents (state_of P.Plant plant.old)) plant.new cell.new session)) }
         ensures bad { P.tells → (at : ℕ) → result ≡ Err (OpenStop.BadLog at) → FailsAt IsLog (state_of P.Plant plant.old).log at }
         ensures listed { P.tells → result ≡ Err OpenStop.Cell → IsLog (state_of P.Plant plant.old).log }
         ensures done { UnlessFailed result (Done P.Plant [] plant.old plant.new) }
@@ -202,9 +203,9 @@ impl Session {
     ) -> Result<Reply, Stop>
         requires { P.sound plant.old }
         ensures sound { OnOk result (P.sound plant.new) }
-        ensures turned { P.tells → C.tells → (w : World) → Fits P.Plant C.Cell w plant.old cell.old self.old → IfOk result (λ reply. Turned P.Plant C.Cell w (turn w now command.now) plant.old plant.new cell.new self.new reply) }
+        ensures turned { P.tells → C.tells → (w : World) → Fits P.Plant C.Cell w plant.old cell.old self.old → HeldFor (at_moment w now) command.now → IfOk result (λ reply. Turned P.Plant C.Cell w (turn w now command.now) plant.old plant.new cell.new self.new reply) }
         ensures leaves { P.tells → C.tells → (w : World) → Fits P.Plant C.Cell w plant.old cell.old self.old → Leaves P.Plant (turn w now command.now).effects plant.old plant.new }
-        ensures cells { P.tells → C.tells → (w : World) → Fits P.Plant C.Cell w plant.old cell.old self.old → OnTheWay w.cell (turn w now command.now).cells (C.list cell.new) }
+        ensures cells { P.tells → C.tells → (w : World) → Fits P.Plant C.Cell w plant.old cell.old self.old → HeldFor (at_moment w now) command.now → OnTheWay w.cell (turn w now command.now).cells (C.list cell.new) }
         ensures stays { StaysQuiet P.Plant plant.old plant.new }
         ensures plant_cause { HasCauseAt Stop.Plant (P.view plant.old).faults (P.view plant.new).faults result }
         ensures cell_cause { HasCauseAt Stop.Cell (C.faults cell.old) (C.faults cell.new) result }
@@ -216,6 +217,8 @@ impl Session {
         self.time = self.time.max(now.min(4_294_967_295) as u32);
         if asks_cell(command) {
             on_cell(alloc, cell, command, self.time)
+        } else if asks_archive(command) {
+            self.on_archive(alloc, plant, cell, command)
         } else {
             self.on_plant(alloc, plant, command)
         }

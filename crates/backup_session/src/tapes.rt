@@ -63,7 +63,7 @@ pub(crate) fn slot_of<P: Plant>(
     slot: Option<u32>,
 ) -> Result<Result<u32, Bytes>, AllocError>
     requires { P.sound plant.now }
-    ensures is { IfOk result (λ found. found ≡ slot_of (record { config = config.now; present = (P.view plant.now).present }) hosts.now offset slot) }
+    ensures is { IfOk result (λ found. found ≡ slot_of (record { config = config.now; slots = (P.view plant.now).slots; present = (P.view plant.now).present }) hosts.now offset slot) }
     ensures here { IfOk result (λ found. IfOk found (λ k. IsTrue ((P.view plant.now).present k))) }
 {
     if !any_at_port(hosts, offset) {

@@ -1,5 +1,5 @@
 use Rattle.std.proofs.Common.{◌≡◌, ℕ, ◌+◌, ◌<◌, List, [], ◌∷◌, ◌++◌, length, ⊎_elim, ◌∙◌, ap, subst, arith}
-use Rattle.std.specs.Prelude.{Bool, Err}
+use Rattle.std.specs.Prelude.{Err}
 use Rattle.plant_core.specs.Effects.{commits}
 use Rattle.plant_effects.specs.Runs.{state_of, Done}
 use Rattle.budb_changes.specs.declared.records.DumpRecordFields.{DumpRecordFields}
@@ -105,7 +105,7 @@ returns-in-Ok-clause-stepped g c = λ told w fits.
     let kept : Keeps w.log (state_of P old).log c.self.inside.budb = record { form = fits.keeps.form; is = fits.state.log ∙ fits.keeps.is; fold = ap (λ (s : SessionView). s.budb.database) c.self.view_is ∙ fits.keeps.fold } in
     added_stepped P w old c.args.self.now fits (g.met.P.Plant.log_told old told c.requires) c.args.dump.now mid later c.args.lines.now c.put_added.new.line told never
     (subst (λ (l : List Change). Done P (commits (encoded l) ∷ []) old mid) is e.done)
-    (λ k. ap (λ (p : ℕ → Bool). p k) c.commit.ensures.stays.stays.present)
+    c.commit.ensures.stays.stays
     (subst (λ (l : List Change). Keeps (w.log ++ l) (state_of P mid).log c.commit.new.self) is (e.keeps told w.log kept))
     (c.time_with-time.ensures ∙ ap (λ (s : SessionView). time_with s.time c.args.dump.now) c.self.view_is)
     (ap (λ (s : SessionView). s.config) c.self.view_is) (c.in_ok-put_added-in-Ok.ensures ∙ ap (λ (x : DumpRecordFields). c.args.lines.now ++ added_line x.id) c.fields.ensures.value)

@@ -27,7 +27,7 @@ returns-in-None-clause-turned g c = λ told w fits.
     let mid = c.label_of.new.plant in
     let new = c.label_only.new.plant in
     let e = c.in_ok-old.ensures in
-    let here = still_fits P w old mid c.args.self.now told fits e.done e.numbers e.stays.stays.present in
+    let here = still_fits P w old mid c.args.self.now told fits e.done e.numbers e.stays.stays in
     let listed = c.as_slice-3.ensures ∙ ap (λ (d : Database). d.listed) (c.database.ensures ∙ ap (λ (s : SessionView). s.budb.database) c.self.view_is) in
     let is = labels_are P w old c.args.self.now fits c.args.slot c.args.name.now c.args.pname.now c.in_ok-old.old c.in_ok-label.label c.as_slice-3.result.now [] (e.label told) c.in_ok-label.ensures listed c.in-None.ensures in
     subst (λ (t : Turn). IfOk c.label_only.result (λ reply. TurnedPlant P w t old new c.label_only.new.self reply)) is
@@ -40,7 +40,7 @@ returns-in-None-clause-leaves g c = λ told w fits.
     let mid = c.label_of.new.plant in
     let new = c.label_only.new.plant in
     let e = c.in_ok-old.ensures in
-    let here = still_fits P w old mid c.args.self.now told fits e.done e.numbers e.stays.stays.present in
+    let here = still_fits P w old mid c.args.self.now told fits e.done e.numbers e.stays.stays in
     let listed = c.as_slice-3.ensures ∙ ap (λ (d : Database). d.listed) (c.database.ensures ∙ ap (λ (s : SessionView). s.budb.database) c.self.view_is) in
     let is = labels_are P w old c.args.self.now fits c.args.slot c.args.name.now c.args.pname.now c.in_ok-old.old c.in_ok-label.label c.as_slice-3.result.now [] (e.label told) c.in_ok-label.ensures listed c.in-None.ensures in
     subst (λ (t : Turn). Leaves P t.effects old new) is
@@ -53,7 +53,7 @@ returns-clause-turned g c = λ told w fits.
     let mid = c.label_of.new.plant in
     let new = c.take_and_label.new.plant in
     let e = c.in_ok-old.ensures in
-    let here = still_fits P w old mid c.args.self.now told fits e.done e.numbers e.stays.stays.present in
+    let here = still_fits P w old mid c.args.self.now told fits e.done e.numbers e.stays.stays in
     let listed = c.as_slice-3.ensures ∙ ap (λ (d : Database). d.listed) (c.database.ensures ∙ ap (λ (s : SessionView). s.budb.database) c.self.view_is) in
     let is = labels_are P w old c.args.self.now fits c.args.slot c.args.name.now c.args.pname.now c.in_ok-old.old c.in_ok-label.label c.as_slice-3.result.now (Take c.in-Some.initial ∷ []) (e.label told) c.in_ok-label.ensures listed c.in-Some.ensures in
     subst (λ (t : Turn). IfOk c.take_and_label.result (λ reply. TurnedPlant P w t old new c.take_and_label.new.self reply)) is
@@ -66,7 +66,7 @@ returns-clause-leaves g c = λ told w fits.
     let mid = c.label_of.new.plant in
     let new = c.take_and_label.new.plant in
     let e = c.in_ok-old.ensures in
-    let here = still_fits P w old mid c.args.self.now told fits e.done e.numbers e.stays.stays.present in
+    let here = still_fits P w old mid c.args.self.now told fits e.done e.numbers e.stays.stays in
     let listed = c.as_slice-3.ensures ∙ ap (λ (d : Database). d.listed) (c.database.ensures ∙ ap (λ (s : SessionView). s.budb.database) c.self.view_is) in
     let is = labels_are P w old c.args.self.now fits c.args.slot c.args.name.now c.args.pname.now c.in_ok-old.old c.in_ok-label.label c.as_slice-3.result.now (Take c.in-Some.initial ∷ []) (e.label told) c.in_ok-label.ensures listed c.in-Some.ensures in
     subst (λ (t : Turn). Leaves P t.effects old new) is

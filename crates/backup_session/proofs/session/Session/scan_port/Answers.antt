@@ -55,7 +55,7 @@ returns-in_err-tell_dumps-clause-leaves g c = λ told w fits.
     let tapes_are = c.as_slice-2.ensures ∙ e.tapes told in
     let found = c.in_ok-found.found in
     let found_is = c.in_ok-found.ensures (state_of P old).tape slots tapes_are in
-    let here = loads_fit P w old mid c.args.self.now told fits e.loads c.scan_slots.ensures.stays.stays.present in
+    let here = loads_fit P w old mid c.args.self.now told fits e.loads c.scan_slots.ensures.stays.stays in
     let new = c.tell_dumps.new.plant in
     dumps_leave P w old c.args.self.now fits c.args.dbadd c.args.port.now slots slots_are told tapes tapes_are found found_is mid e.loads new
     (subst (λ (l : List DumpRecordFields). Leaves P (dumps_turn w c.args.dbadd l).effects mid new) c.as_slice-4.ensures (c.tell_dumps.ensures.leaves told w here))
@@ -72,7 +72,7 @@ returns-in_err-put_parts-clause-leaves g c = λ told w fits.
     let tapes_are = c.as_slice-2.ensures ∙ e.tapes told in
     let found = c.in_ok-found.found in
     let found_is = c.in_ok-found.ensures (state_of P old).tape slots tapes_are in
-    let here = loads_fit P w old mid c.args.self.now told fits e.loads c.scan_slots.ensures.stays.stays.present in
+    let here = loads_fit P w old mid c.args.self.now told fits e.loads c.scan_slots.ensures.stays.stays in
     let new = c.tell_dumps.new.plant in
     dumps_leave P w old c.args.self.now fits c.args.dbadd c.args.port.now slots slots_are told tapes tapes_are found found_is mid e.loads new
     (subst (λ (l : List DumpRecordFields). Leaves P (dumps_turn w c.args.dbadd l).effects mid new) c.as_slice-4.ensures (c.tell_dumps.ensures.leaves told w here))
@@ -89,7 +89,7 @@ returns-in_err-piece-clause-leaves g c = λ told w fits.
     let tapes_are = c.as_slice-2.ensures ∙ e.tapes told in
     let found = c.in_ok-found.found in
     let found_is = c.in_ok-found.ensures (state_of P old).tape slots tapes_are in
-    let here = loads_fit P w old mid c.args.self.now told fits e.loads c.scan_slots.ensures.stays.stays.present in
+    let here = loads_fit P w old mid c.args.self.now told fits e.loads c.scan_slots.ensures.stays.stays in
     let new = c.tell_dumps.new.plant in
     dumps_leave P w old c.args.self.now fits c.args.dbadd c.args.port.now slots slots_are told tapes tapes_are found found_is mid e.loads new
     (subst (λ (l : List DumpRecordFields). Leaves P (dumps_turn w c.args.dbadd l).effects mid new) c.as_slice-4.ensures (c.tell_dumps.ensures.leaves told w here))
@@ -106,7 +106,7 @@ returns-clause-leaves g c = λ told w fits.
     let tapes_are = c.as_slice-2.ensures ∙ e.tapes told in
     let found = c.in_ok-found.found in
     let found_is = c.in_ok-found.ensures (state_of P old).tape slots tapes_are in
-    let here = loads_fit P w old mid c.args.self.now told fits e.loads c.scan_slots.ensures.stays.stays.present in
+    let here = loads_fit P w old mid c.args.self.now told fits e.loads c.scan_slots.ensures.stays.stays in
     let new = c.tell_dumps.new.plant in
     dumps_leave P w old c.args.self.now fits c.args.dbadd c.args.port.now slots slots_are told tapes tapes_are found found_is mid e.loads new
     (subst (λ (l : List DumpRecordFields). Leaves P (dumps_turn w c.args.dbadd l).effects mid new) c.as_slice-4.ensures (c.tell_dumps.ensures.leaves told w here))
@@ -123,7 +123,7 @@ returns-clause-turned g c = λ told w fits.
     let tapes_are = c.as_slice-2.ensures ∙ e.tapes told in
     let found = c.in_ok-found.found in
     let found_is = c.in_ok-found.ensures (state_of P old).tape slots tapes_are in
-    let here = loads_fit P w old mid c.args.self.now told fits e.loads c.scan_slots.ensures.stays.stays.present in
+    let here = loads_fit P w old mid c.args.self.now told fits e.loads c.scan_slots.ensures.stays.stays in
     let new = c.tell_dumps.new.plant in
     scan_turned P w old c.args.self.now fits c.args.dbadd c.args.port.now slots slots_are told tapes tapes_are found found_is mid e.loads new c.tell_dumps.new.self c.new.result c.put_stops.new.lines c.tell_dumps.new.lines
     (c.in_ok-put_stops.ensures ∙ ap (λ (l : List ℕ). l ++ flat_map stopped_line c.as_slice-3.result.now) c.new-lines.ensures ∙ ap (flat_map stopped_line) (c.as_slice-3.ensures ∙ sym c.as_slice-2.ensures))

@@ -1,8 +1,8 @@
-use Rattle.std.proofs.Common.{◌≡◌, ℕ, ◌+◌, ◌<◌, Bool, List, [], ◌∷◌, ◌++◌, length, ⊎_elim, ◌∙◌, ap, subst, arith}
+use Rattle.std.proofs.Common.{◌≡◌, ◌+◌, ◌<◌, List, [], ◌∷◌, ◌++◌, length, ⊎_elim, ◌∙◌, ap, subst, arith}
 use Rattle.std.specs.Prelude.{Err}
 use Rattle.plant_core.specs.Effects.{commits}
 use Rattle.plant_effects.specs.Runs.{state_of, Done, Leaves}
-use Rattle.plant_effects.proofs.Joining.{nothing_left}
+use Rattle.plant_effects.proofs.Joining.{nothing_left, stays_both}
 use Rattle.budb_changes.specs.declared.change.Change.{Change}
 use Rattle.budb_changes.specs.declared.change.Change.TheVariants.{Take}
 use Rattle.budb_changes.specs.Bytes.{encoded}
@@ -111,7 +111,7 @@ returns-in-Ok-clause-turned g c = λ told w fits.
     let kept : Keeps w.log (state_of P old).log c.self.inside.budb = record { form = fits.keeps.form; is = fits.state.log ∙ fits.keeps.is; fold = ap (λ (s : SessionView). s.budb.database) c.self.view_is ∙ fits.keeps.fold } in
     both_turned P w old c.args.self.now fits (g.met.P.Plant.log_told old told c.requires.sound) c.args.slot c.args.label.now (Take c.args.initial) mid new never
     (subst (λ (l : List Change). Done P (commits (encoded l) ∷ []) old mid) is e.done) later c.new.result told (f.done (settled_behind P w old mid c.args.self.now (encoded c.as_slice.result.now) fits e.done))
-    (λ k. ap (λ (p : ℕ → Bool). p k) (c.write_label.ensures.stays.stays.present ∙ c.commit.ensures.stays.stays.present))
+    (stays_both P old mid new c.commit.ensures.stays.stays c.write_label.ensures.stays.stays)
     (subst (λ (l : List Change). Keeps (w.log ++ l) (state_of P mid).log c.commit.new.self) is (e.keeps told w.log kept))
     (ap (λ (s : SessionView). s.time) c.self.view_is) (ap (λ (s : SessionView). s.config) c.self.view_is) (c.new.ensures ∙ c.requires.reply)
 

@@ -1,0 +1,120 @@
+-- How a restore is a turn: the archive of a world stands on the plant that fits, and loads of tapes are nothing where all is settled.
+use Rattle.std.proofs.Common.{◌≡◌, ℕ, Bool, true, List, [], ◌∷◌, length, refl, sym, ◌∙◌, ap, subst}
+use Rattle.std.specs.Prelude.{slice_get, Option, Some}
+use Rattle.plant_core.specs.declared.plant.Plant.{Ghosts as Plant}
+use Rattle.plant_core.specs.Crashes.{IsSettled, seen_in}
+use Rattle.plant_core.specs.Records.{Record}
+use Rattle.plant_effects.specs.Runs.{state_of, Leaves, Stays}
+use Rattle.plant_effects.proofs.States.{alike_both}
+use Rattle.tape_text.specs.Items.{Read}
+use Rattle.tape_scan.specs.Slots.{Slot}
+use Rattle.tape_scan.specs.Looking.{Loads, LeavesLoads}
+use Rattle.tape_scan.proofs.Looking.{loads_nothing, loads_leave_nothing}
+use Rattle.tape_answers.specs.Slots.{slots_of}
+use Rattle.budb.specs.Views.{BudbView}
+use Rattle.budb_fold.specs.declared.database.Database.{Database}
+use Rattle.budb_fold.specs.Database.{after}
+use Rattle.cell_core.specs.declared.cell.Cell.{Ghosts as Cell}
+use Rattle.cell_core.specs.declared.stored.Stored.{Stored}
+use Rattle.backup_words.specs.declared.command.Command.{Command}
+use Rattle.backup_words.specs.declared.command.Command.TheVariants.{Volrestore, Diskrestore, Volsetrestore}
+use Rattle.volume_sets.specs.declared.sets.VolumeSet.{VolumeSet}
+use Rattle.archive_model.specs.Archives.{Archive}
+use Rattle.restore_commands.specs.Answers.{Manner, one_answer, disk_answer, set_answer, last_cell as last_of}
+use Rattle.restore_commands.specs.Leaving.{IsArchiveOf, IsAnswer}
+use Rattle.backup_session.specs.Views.{SessionView, ReplyView}
+use Rattle.backup_session.specs.Worlds.{World, archive_of, last_cell}
+use Rattle.backup_session.specs.Held.{HoldsArchive, HeldWhere, HeldFor}
+use Rattle.backup_session.specs.Asks.{asks_archive}
+use Rattle.backup_session.specs.Restores.{manner_at, restore_answer, archive_turn}
+use Rattle.backup_session.specs.Fitting.{Fits, Turned, OnTheWay}
+use Rattle.backup_session.proofs.Settling.{settled_alike}
+
+-- what is asked of a world at a command that asks its archive
+pub held_archive : (w : World) (command : Command) → asks_archive command ≡ true → HeldFor w command → HoldsArchive w
+held_archive w command is held = subst (λ (b : Bool). HeldWhere b w) is held
+
+-- a cell's last list is one thing in both words
+lists_same : (cell : List Stored) (cells : List (List Stored)) → last_of cell cells ≡ last_cell cell cells
+lists_same cell [] = refl
+lists_same cell (c ∷ cs) = lists_same c cs
+
+module _ {D E : Type 0} (P : Plant D) (C : Cell E) (w : World) (old : D) (site : E) (session : SessionView) (fits : Fits P C w old site session) where
+  settled_here : P.tells → IsSettled (state_of P old)
+  settled_here told = settled_alike w.state (state_of P old) fits.state fits.settled
+
+  -- loads leave nothing
+  pub restore_leaves : (new : D) → LeavesLoads P old new → Leaves P [] old new
+  restore_leaves new leaves = loads_leave_nothing P old new settled_here leaves
+
+  -- the archive of the world stands on the plant
+  pub archive_stands : (budb : BudbView) → budb ≡ session.budb → HoldsArchive w → length (slots_of w.setting.slots w.setting.present w.state.tape) ≡ w.setting.slots
+      → ((k : ℕ) (s : Slot) → slice_get (slots_of w.setting.slots w.setting.present w.state.tape) k ≡ Some s → s.here ≡ w.setting.present k)
+      → ((k : ℕ) (s : Slot) → slice_get (slots_of w.setting.slots w.setting.present w.state.tape) k ≡ Some s → Read (w.state.tape k) s.items) → IsArchiveOf P budb.database.listed (archive_of w) old
+  archive_stands budb is held count here items = record {
+    stock = seen_in w.state;
+    records = held.0;
+    holds = held.1;
+    slots = record {
+      count = count ∙ sym fits.slots;
+      each = λ k s at. record {
+        here = here k s at ∙ sym (fits.present k);
+        items = subst (λ (t : List Record). Read t s.items) (sym (fits.state.tape k)) (items k s at);
+      };
+    };
+    lists = ap (λ (d : Database). d.listed) (sym (ap (λ (b : BudbView). b.database) is ∙ fits.keeps.fold));
+  }
+
+  -- the answer over the world's database, cell and time
+  module _ (budb : BudbView) (time : ℕ) (command : Command) (budb_is : budb ≡ session.budb) (time_is : time ≡ session.time) where
+    sets_are : budb.database ≡ after w.log
+    sets_are = ap (λ (b : BudbView). b.database) budb_is ∙ fits.keeps.fold
+
+    now_is : time ≡ w.time
+    now_is = time_is ∙ fits.time
+
+    answer_same : restore_answer (archive_of w) budb.database.sets (C.list site) time command ≡ restore_answer (archive_of w) (after w.log).sets w.cell w.time command
+    answer_same = λ i. restore_answer (archive_of w) (sets_are i).sets (fits.cell i) (now_is i) command
+
+    -- it was answered
+    pub restore_turned : (new : D) (there : E) (text : List ℕ) (reply : ReplyView) → P.tells → Loads P old new → Stays P old new → reply.text ≡ text
+        → IsAnswer (restore_answer (archive_of w) budb.database.sets (C.list site) time command) text (C.list site) (C.list there) → Turned P C w (archive_turn w command) old new there session reply
+    restore_turned new there text reply told loads stays is answer =
+        let done = loads_nothing P old new settled_here loads in
+        let cells = (restore_answer (archive_of w) (after w.log).sets w.cell w.time command).cells in
+        record {
+          done = done;
+          text = is ∙ answer.reply_is ∙ (λ i. (answer_same i).reply);
+          fits = record {
+            keeps = fits.keeps;
+            time = fits.time;
+            config = fits.config;
+            state = alike_both w.state (state_of P old) (state_of P new) fits.state (done.state told);
+            settled = fits.settled;
+            slots = stays.slots ∙ fits.slots;
+            present = λ k. ap (λ (p : ℕ → Bool). p k) stays.present ∙ fits.present k;
+            cell = answer.list ∙ (λ i. last_of (fits.cell i) (answer_same i).cells) ∙ lists_same w.cell cells;
+          };
+        }
+
+    -- the cell on the way
+    pub restore_way : (new : List Stored) → OnTheWay (C.list site) (restore_answer (archive_of w) budb.database.sets (C.list site) time command).cells new → OnTheWay w.cell (archive_turn w command).cells new
+    restore_way new way =
+        subst (λ (l : List Stored). OnTheWay l (restore_answer (archive_of w) (after w.log).sets w.cell w.time command).cells new) fits.cell
+        (subst (λ (cs : List (List Stored)). OnTheWay (C.list site) cs new) (λ i. (answer_same i).cells) way)
+
+-- ---- each command's answer
+
+module _ (a : Archive) (sets : List VolumeSet) (cell : List Stored) (time : ℕ) (command : Command) where
+  pub one_is : (server partition volume : List ℕ) (extension : Option (List ℕ)) (date : Option ℕ) (n : Bool) (manner : Manner) → command ≡ Volrestore server partition volume extension date n → manner ≡ manner_at time extension n
+      → one_answer a cell manner (record { name = volume; before = date; server = server; partition = partition }) ≡ restore_answer a sets cell time command
+  one_is server partition volume extension date n manner is so =
+      ap (λ (m : Manner). one_answer a cell m (record { name = volume; before = date; server = server; partition = partition })) so ∙ ap (restore_answer a sets cell time) (sym is)
+
+  pub disk_is : (server partition : List ℕ) (newserver newpartition extension : Option (List ℕ)) (n : Bool) (manner : Manner) → command ≡ Diskrestore server partition newserver newpartition extension n → manner ≡ manner_at time extension n
+      → disk_answer a cell manner (record { server = server; partition = partition; new_server = newserver; new_partition = newpartition }) ≡ restore_answer a sets cell time command
+  disk_is server partition newserver newpartition extension n manner is so =
+      ap (λ (m : Manner). disk_answer a cell m (record { server = server; partition = partition; new_server = newserver; new_partition = newpartition })) so ∙ ap (restore_answer a sets cell time) (sym is)
+
+  pub set_is : (name : List ℕ) (extension : Option (List ℕ)) (n : Bool) (manner : Manner) → command ≡ Volsetrestore name extension n → manner ≡ manner_at time extension n → set_answer a sets cell manner name ≡ restore_answer a sets cell time command
+  set_is name extension n manner is so = ap (λ (m : Manner). set_answer a sets cell m name) so ∙ ap (restore_answer a sets cell time) (sym is)

@@ -1,0 +1,145 @@
+-- Each turn keeps what is so of a world's tapes: a scan changes none of them, and a tape that is labeled has two records.
+use Rattle.std.proofs.Common.{◌≡◌, inl, inr, ℕ, ◌≤◌, Bool, true, false, List, [], ◌∷◌, ◌++◌, length, refl, sym, ◌∙◌, ap, subst, arith, Option}
+use Rattle.std.specs.Prelude.{nat_lt, if◌then◌else◌, ◌==◌, Result, Ok, Err}
+use Rattle.std.specs.List.{fold}
+use Rattle.std.proofs.lemmas.Bool.{cases_Bool}
+use Rattle.plant_core.specs.Crashes.{State}
+use Rattle.plant_core.specs.Records.{Record}
+use Rattle.plant_core.specs.Effects.{Effect, commits, come}
+use Rattle.plant_effects.proofs.States.{come_append}
+use Rattle.tape_frames.specs.declared.label.LabelFields.{LabelFields}
+use Rattle.tape_config.specs.declared.port.PortFields.{PortFields}
+use Rattle.tape_answers.specs.Assembling.{found_in}
+use Rattle.budb_changes.specs.declared.records.DumpRecordFields.{DumpRecordFields}
+use Rattle.budb_changes.specs.declared.change.Change.{Change}
+use Rattle.budb_changes.specs.declared.change.Change.TheVariants as change
+use Rattle.budb_changes.specs.Bytes.{encoded}
+use Rattle.budb_fold.specs.Database.{after, has_dump}
+use Rattle.budb_fold.specs.Checkpoints.{checkpoint}
+use Rattle.backup_words.specs.declared.command.Command.{Command}
+use Rattle.backup_words.specs.declared.command.Command.TheVariants.{Labeltape, Readlabel, Scantape}
+use Rattle.backup_session.specs.declared.verdict.Verdict.{Verdict}
+use Rattle.backup_session.specs.declared.verdict.Verdict.TheVariants.{Refuses, Makes, Shortens, Shows}
+use Rattle.backup_session.specs.Asks.{asks_cell, asks_archive, asks_tape, is_built}
+use Rattle.backup_session.specs.Worlds.{World, Turn, before_reply, with_told, after_turn, at_moment}
+use Rattle.backup_session.specs.Turns.{length_with}
+use Rattle.backup_session.specs.Verdicts.{verdict}
+use Rattle.backup_session.specs.Labels.{label_of}
+use Rattle.backup_session.specs.Scanning.{port_of, slots_here, scans_of, Step, says, has_wrong_parent, added, added_if, with_dump, adding, dumps_turn, slots_turn, scan_turn}
+use Rattle.backup_session.specs.Tapes.{slot_of, read_turn, new_label, taken, putting_label, labeled, label_turn, tape_turn}
+use Rattle.backup_session.specs.Machine.{carried, on_plant, done, turn}
+use Rattle.backup_session.specs.Bounded.{HasTapes}
+
+-- ---- effects that change no tape
+
+abbrev LeavesTapes : List Effect → Type 0
+LeavesTapes es = (s : State) (k : ℕ) → (come es s).tape k ≡ s.tape k
+
+nothing_done : LeavesTapes []
+nothing_done s k = refl
+
+a_commit : (bytes : List ℕ) → LeavesTapes (commits bytes ∷ [])
+a_commit bytes s k = refl
+
+both : (es fs : List Effect) → LeavesTapes es → LeavesTapes fs → LeavesTapes (es ++ fs)
+both es fs first second s k = ap (λ (x : State). x.tape k) (come_append es fs s) ∙ second (come es s) k ∙ first s k
+
+picked_step : (b : Bool) (s t : Step) → LeavesTapes s.turn.effects → LeavesTapes t.turn.effects → LeavesTapes (if b then s else t).turn.effects
+picked_step true s t is_s is_t = is_s
+picked_step false s t is_s is_t = is_t
+
+added_leaves : (w : World) (d : DumpRecordFields) → LeavesTapes (added w d).turn.effects
+added_leaves w d = picked_step (nat_lt 268435456 (length_with w (change.Found d ∷ []))) _ _ nothing_done (a_commit (encoded (change.Found d ∷ [])))
+
+one_leaves : (w : World) (full : Bool) (d : DumpRecordFields) → LeavesTapes (added_if w full d).turn.effects
+one_leaves w full d = picked_step (has_dump (after w.log).listed d.id) _ _ nothing_done (picked_step (has_wrong_parent d) _ _ nothing_done (picked_step full _ _ nothing_done (added_leaves w d)))
+
+steps_leave : (w : World) (s : Step) (ds : List DumpRecordFields) → LeavesTapes s.turn.effects → LeavesTapes (fold (with_dump w) s ds).turn.effects
+steps_leave w s [] so_far = so_far
+steps_leave w s (d ∷ ds) so_far =
+    let here = before_reply w s.turn in
+    steps_leave w (with_dump w s d) ds (both s.turn.effects (added_if here s.full d).turn.effects so_far (one_leaves here s.full d))
+
+adding_leaves : (w : World) (ds : List DumpRecordFields) → LeavesTapes (adding w ds).turn.effects
+unfolding adding
+adding_leaves w ds = steps_leave w (says w false []) ds nothing_done
+
+dumps_leave : (w : World) (dbadd : Bool) (ds : List DumpRecordFields) → LeavesTapes (dumps_turn w dbadd ds).effects
+dumps_leave w true ds = adding_leaves w ds
+dumps_leave w false ds = nothing_done
+
+slots_leave : (w : World) (dbadd : Bool) (slots : List ℕ) → LeavesTapes (slots_turn w dbadd slots).effects
+unfolding slots_turn
+slots_leave w dbadd slots = dumps_leave w dbadd (found_in (scans_of w.state.tape slots)).whole
+
+pub scan_leaves : (w : World) (dbadd : Bool) (port : Result PortFields (List ℕ)) → LeavesTapes (scan_turn w dbadd port).effects
+scan_leaves w dbadd (Err text) = nothing_done
+scan_leaves w dbadd (Ok port) = slots_leave w dbadd (slots_here w.setting.present port)
+
+-- ---- tapes with few records
+
+abbrev AreShort : (ℕ → List Record) → Type 0
+AreShort tape = (k : ℕ) → length (tape k) ≤ 4294967295
+
+still_short : (es : List Effect) (s : State) → LeavesTapes es → AreShort s.tape → AreShort (come es s).tape
+still_short es s same short k = subst (λ (l : List Record). length l ≤ 4294967295) (sym (same s k)) (short k)
+
+label_short : (slot : ℕ) (a : LabelFields) (s : State) → AreShort s.tape → AreShort (come (putting_label slot a) s).tape
+label_short slot a s short k = elim (cases_Bool (k == slot)) [
+  | inl hit ↦ rw hit (omega arith)
+  | inr miss ↦ rw miss (short k)
+]
+
+module _ (w : World) (short : AreShort w.state.tape) where
+  abbrev Stays : Turn → Type 0
+  Stays t = AreShort (come t.effects w.state).tape
+
+  picked : (b : Bool) (s t : Turn) → Stays s → Stays t → Stays (if b then s else t)
+  picked true s t is_s is_t = is_s
+  picked false s t is_s is_t = is_t
+
+  labeled_stays : (slot : ℕ) (a : LabelFields) (changes : List Change) → Stays (labeled w slot a changes)
+  labeled_stays slot a [] = label_short slot a w.state short
+  labeled_stays slot a (change ∷ changes) =
+      picked (nat_lt 268435456 (length_with w (change ∷ changes))) _ _ short (label_short slot a (come (commits (encoded (change ∷ changes)) ∷ []) w.state) short)
+
+  label_stays : (name pname : Option (List ℕ)) (r : Result ℕ (List ℕ)) → Stays (label_turn w name pname r)
+  label_stays name pname (Err text) = short
+  label_stays name pname (Ok slot) = labeled_stays slot (new_label (label_of (w.state.tape slot)) name pname) (taken (after w.log).listed (label_of (w.state.tape slot)))
+
+  read_stays : (r : Result ℕ (List ℕ)) → Stays (read_turn w r)
+  read_stays (Err text) = short
+  read_stays (Ok slot) = short
+
+  tape_stays : (command : Command) → Stays (tape_turn w command)
+  tape_stays (Labeltape name pname offset slot) = label_stays name pname (slot_of w.setting (after w.log).hosts offset slot)
+  tape_stays (Readlabel offset slot) = read_stays (slot_of w.setting (after w.log).hosts offset slot)
+  tape_stays (Scantape dbadd offset) =
+      let port = port_of w.setting.config (after w.log).hosts offset in
+      still_short (scan_turn w dbadd port).effects w.state (scan_leaves w dbadd port) short
+  tape_stays command = short
+
+  carried_stays : (v : Verdict) → Stays (carried w v)
+  carried_stays (Refuses text) = short
+  carried_stays (Shows text) = short
+  carried_stays (Makes changes text) = picked (nat_lt 268435456 (length_with w changes)) _ _ short short
+  carried_stays Shortens = picked (nat_lt 268435456 (length (encoded (checkpoint (after w.log))))) _ _ short short
+
+  plant_stays : (command : Command) → Stays (on_plant w command)
+  plant_stays command = picked (asks_tape command) _ _ (tape_stays command) (carried_stays (verdict (after w.log) command))
+
+  done_stays : (command : Command) → Stays (done w command)
+  done_stays command = picked (asks_cell command) _ _ short (picked (asks_archive command) _ _ short (plant_stays command))
+
+turn_short : (w : World) (now : ℕ) (command : Command) → AreShort w.state.tape → AreShort (come (turn w now command).effects w.state).tape
+unfolding turn
+turn_short w now command short = picked w short (is_built command) _ _ (done_stays (at_moment w now) short command) short
+
+-- ---- worlds
+
+-- behind a turn, and its reply told
+pub turn_has_tapes : (w : World) (now : ℕ) (command : Command) → HasTapes w → HasTapes (after_turn w (turn w now command))
+turn_has_tapes w now command has = record { slots = has.slots; records = turn_short w now command has.records }
+
+pub told_has_tapes : (w : World) (text : List ℕ) → HasTapes w → HasTapes (with_told w text)
+told_has_tapes w text has = record { slots = has.slots; records = has.records }

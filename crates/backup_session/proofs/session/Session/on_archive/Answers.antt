@@ -1,0 +1,51 @@
+use Rattle.std.proofs.Common.{ap}
+use Rattle.backup_session.specs.Views.{SessionView}
+use Rattle.backup_session.specs.Worlds.{archive_of}
+use Rattle.backup_session.proofs.RestoreLaws.{restore_leaves, archive_stands, restore_turned, restore_way}
+use Rattle.backup_session.proofs.session.Session.on_archive.Goals as goal
+
+pub returns-in-Ok-clause-turned : goal.returns-in-Ok-clause-turned
+returns-in-Ok-clause-turned g c = λ told ctold w fits held.
+    let P = g.P.Plant in
+    let C = g.C.Cell in
+    let old = c.args.plant.now in
+    let site = c.args.cell.now in
+    let s = c.args.self.now in
+    let budb = ap (λ (x : SessionView). x.budb) c.self.view_is in
+    let time = ap (λ (x : SessionView). x.time) c.self.view_is in
+    let read = c.the_slots_are_read.ensures in
+    let stands = archive_stands P C w old site s fits c.self.inside.budb budb held (read.count w.setting.slots w.setting.present w.state.tape) (read.here w.setting.slots w.setting.present w.state.tape) (read.items w.setting.slots w.setting.present w.state.tape) in
+    restore_turned P C w old site s fits c.self.inside.budb c.self.inside.time c.args.command.now budb time c.restored.new.plant c.restored.new.cell c.in-Ok.text c.new.result told
+    (c.restored.ensures.done (λ is. absurd (cc))) c.restored.ensures.stays.stays c.new.ensures (c.in-Ok.ensures.answer told ctold (archive_of w) stands)
+
+pub returns-in-Ok-clause-leaves : goal.returns-in-Ok-clause-leaves
+returns-in-Ok-clause-leaves g c = λ told ctold w fits. restore_leaves g.P.Plant g.C.Cell w c.args.plant.now c.args.cell.now c.args.self.now fits c.restored.new.plant c.restored.ensures.leaves
+
+pub returns-in-Err-clause-leaves : goal.returns-in-Err-clause-leaves
+returns-in-Err-clause-leaves g c = λ told ctold w fits. restore_leaves g.P.Plant g.C.Cell w c.args.plant.now c.args.cell.now c.args.self.now fits c.restored.new.plant c.restored.ensures.leaves
+
+pub returns-in-Ok-clause-cells : goal.returns-in-Ok-clause-cells
+returns-in-Ok-clause-cells g c = λ told ctold w fits held.
+    let P = g.P.Plant in
+    let C = g.C.Cell in
+    let old = c.args.plant.now in
+    let site = c.args.cell.now in
+    let s = c.args.self.now in
+    let budb = ap (λ (x : SessionView). x.budb) c.self.view_is in
+    let time = ap (λ (x : SessionView). x.time) c.self.view_is in
+    let read = c.the_slots_are_read.ensures in
+    let stands = archive_stands P C w old site s fits c.self.inside.budb budb held (read.count w.setting.slots w.setting.present w.state.tape) (read.here w.setting.slots w.setting.present w.state.tape) (read.items w.setting.slots w.setting.present w.state.tape) in
+    restore_way P C w old site s fits c.self.inside.budb c.self.inside.time c.args.command.now budb time (C.list c.restored.new.cell) (c.restored.ensures.left told ctold (archive_of w) stands)
+
+pub returns-in-Err-clause-cells : goal.returns-in-Err-clause-cells
+returns-in-Err-clause-cells g c = λ told ctold w fits held.
+    let P = g.P.Plant in
+    let C = g.C.Cell in
+    let old = c.args.plant.now in
+    let site = c.args.cell.now in
+    let s = c.args.self.now in
+    let budb = ap (λ (x : SessionView). x.budb) c.self.view_is in
+    let time = ap (λ (x : SessionView). x.time) c.self.view_is in
+    let read = c.the_slots_are_read.ensures in
+    let stands = archive_stands P C w old site s fits c.self.inside.budb budb held (read.count w.setting.slots w.setting.present w.state.tape) (read.here w.setting.slots w.setting.present w.state.tape) (read.items w.setting.slots w.setting.present w.state.tape) in
+    restore_way P C w old site s fits c.self.inside.budb c.self.inside.time c.args.command.now budb time (C.list c.restored.new.cell) (c.restored.ensures.left told ctold (archive_of w) stands)

@@ -1,0 +1,175 @@
+//! Restores: each volume is looked up in what the tapes hold, and put into the cell.
+
+ghost use Rattle.std.specs.Prelude.{◌≡◌, ◌≢◌, [], Ok, Err, IfOk, OnOk};
+ghost use Rattle.crash_moments.specs.Moments.{HasCauseAt};
+ghost use Rattle.plant_effects.specs.Runs.{Leaves, StaysQuiet};
+ghost use Rattle.tape_scan.specs.Looking.{Loads, LeavesLoads};
+ghost use Rattle.archive_model.specs.Archives.{Archive};
+ghost use Rattle.restore_commands.specs.Leaving.{IsArchiveOf, IsAnswer, OnTheWay};
+ghost use Rattle.backup_session.specs.Worlds.{World};
+ghost use Rattle.backup_session.specs.Held.{HoldsArchive};
+ghost use Rattle.backup_session.specs.Restores.{manner_at, restore_answer, archive_turn};
+
+use crate::reply::Reply;
+use crate::session::Session;
+use crate::stops::Stop;
+use backup_words::Command;
+use bk_text::Bytes;
+use budb::Budb;
+use cell_core::Cell;
+use plant_core::Plant;
+use restore_commands::{
+    Disk, Manner, RestoreStop, Wanted, restore_disk, restore_set, restore_volume,
+};
+use std::alloc::Global;
+use tape_answers::the_slots_are_read;
+
+/// What a restore stops for, as a session says it.
+fn stop_of(stop: RestoreStop) -> Stop
+    ensures plant { result ≡ Stop.Plant → stop ≡ RestoreStop.Plant }
+    ensures only_plant { stop ≡ RestoreStop.Plant → result ≡ Stop.Plant }
+    ensures cell { result ≡ Stop.Cell → stop ≡ RestoreStop.Cell }
+    ensures only_cell { stop ≡ RestoreStop.Cell → result ≡ Stop.Cell }
+{
+    match stop {
+        RestoreStop::Plant => Stop::Plant,
+        RestoreStop::Cell => Stop::Cell,
+        RestoreStop::Memory => Stop::Memory,
+    }
+}
+
+/// How a command restores its volumes.
+fn manner(extension: &Option<Bytes>, time: u32, n: bool) -> Manner<'_>
+    ensures { result ≡ manner_at time extension.now n }
+{
+    Manner {
+        extension,
+        time,
+        is_trial: n,
+    }
+}
+
+/// Restores what a command asks for, into a cell, at a time.
+fn restored<P: Plant, C: Cell>(
+    alloc: Global,
+    budb: &Budb,
+    plant: &mut P,
+    cell: &mut C,
+    time: u32,
+    command: &Command,
+) -> Result<Bytes, RestoreStop>
+    requires { P.sound plant.old }
+    ensures answer { P.tells → C.tells → (a : Archive) → IsArchiveOf P.Plant budb.now.database.listed a plant.old → IfOk result (λ reply. IsAnswer (restore_answer a budb.now.database.sets (C.list cell.old) time command.now) reply (C.list cell.old) (C.list cell.new)) }
+    ensures left { P.tells → C.tells → (a : Archive) → IsArchiveOf P.Plant budb.now.database.listed a plant.old → OnTheWay (C.list cell.old) (restore_answer a budb.now.database.sets (C.list cell.old) time command.now).cells (C.list cell.new) }
+    ensures done { result ≢ Err RestoreStop.Plant → Loads P.Plant plant.old plant.new }
+    ensures leaves { LeavesLoads P.Plant plant.old plant.new }
+    ensures stays { StaysQuiet P.Plant plant.old plant.new }
+    ensures cause { HasCauseAt RestoreStop.Plant (P.view plant.old).faults (P.view plant.new).faults result }
+    ensures cell_cause { HasCauseAt RestoreStop.Cell (C.faults cell.old) (C.faults cell.new) result }
+{
+    match command {
+        Command::Volrestore {
+            server,
+            partition,
+            volume,
+            extension,
+            date,
+            n,
+        } => {
+            let wanted = Wanted {
+                name: volume,
+                before: *date,
+                server,
+                partition,
+            };
+            restore_volume(
+                alloc,
+                budb,
+                plant,
+                cell,
+                &wanted,
+                &manner(extension, time, *n),
+            )
+        }
+        Command::Diskrestore {
+            server,
+            partition,
+            newserver,
+            newpartition,
+            extension,
+            n,
+        } => {
+            let disk = Disk {
+                server,
+                partition,
+                new_server: newserver,
+                new_partition: newpartition,
+            };
+            restore_disk(
+                alloc,
+                budb,
+                plant,
+                cell,
+                &disk,
+                &manner(extension, time, *n),
+            )
+        }
+        Command::Volsetrestore { name, extension, n } => {
+            restore_set(alloc, budb, plant, cell, name, &manner(extension, time, *n))
+        }
+        Command::Addvolset { .. }
+        | Command::Delvolset { .. }
+        | Command::Addvolentry { .. }
+        | Command::Delvolentry { .. }
+        | Command::Listvolsets { .. }
+        | Command::Adddump { .. }
+        | Command::Setexp { .. }
+        | Command::Deldump { .. }
+        | Command::Listdumps
+        | Command::Listhosts
+        | Command::Checkpoint
+        | Command::Addhost { .. }
+        | Command::Delhost { .. }
+        | Command::Labeltape { .. }
+        | Command::Readlabel { .. }
+        | Command::Scantape { .. }
+        | Command::Dump { .. }
+        | Command::Deletedump { .. }
+        | Command::Dumpinfo { .. }
+        | Command::Volinfo { .. }
+        | Command::VosCreate { .. }
+        | Command::VosWrite { .. }
+        | Command::VosRmvnode { .. }
+        | Command::VosBackup { .. }
+        | Command::VosRemove { .. }
+        | Command::VosListvol => Ok(Bytes::new(alloc)),
+    }
+}
+
+impl Session {
+    ghost use Rattle.backup_session.specs.Fitting.{Fits, Turned};
+
+    /// A command that asks the archive, at the session's time.
+    pub(crate) fn on_archive<P: Plant, C: Cell>(
+        &self,
+        alloc: Global,
+        plant: &mut P,
+        cell: &mut C,
+        command: &Command,
+    ) -> Result<Reply, Stop>
+        requires { P.sound plant.old }
+        ensures sound { OnOk result (P.sound plant.new) }
+        ensures turned { P.tells → C.tells → (w : World) → Fits P.Plant C.Cell w plant.old cell.old self.now → HoldsArchive w → IfOk result (λ reply. Turned P.Plant C.Cell w (archive_turn w command.now) plant.old plant.new cell.new self.now reply) }
+        ensures leaves { P.tells → C.tells → (w : World) → Fits P.Plant C.Cell w plant.old cell.old self.now → Leaves P.Plant [] plant.old plant.new }
+        ensures cells { P.tells → C.tells → (w : World) → Fits P.Plant C.Cell w plant.old cell.old self.now → HoldsArchive w → OnTheWay w.cell (archive_turn w command.now).cells (C.list cell.new) }
+        ensures stays { StaysQuiet P.Plant plant.old plant.new }
+        ensures plant_cause { HasCauseAt Stop.Plant (P.view plant.old).faults (P.view plant.new).faults result }
+        ensures cell_cause { HasCauseAt Stop.Cell (C.faults cell.old) (C.faults cell.new) result }
+    {
+        the_slots_are_read();
+        match restored(alloc, &self.budb, plant, cell, self.time, command) {
+            Ok(text) => Ok(Reply::new(text)),
+            Err(stop) => Err(stop_of(stop)),
+        }
+    }
+}
