@@ -1,13 +1,15 @@
 -- The journal of a script.
-use Rattle.std.proofs.Common.{◌≡◌, ℕ, Bool, true, false, List, [], ◌∷◌, ◌++◌, refl}
+use Rattle.std.proofs.Common.{◌≡◌, ℕ, Bool, true, false, List, [], ◌∷◌, refl}
 use Rattle.std.specs.Prelude.{if◌then◌else◌, Result, Ok, Err}
-use Rattle.plant_core.specs.Effects.{Effect, tells}
+use Rattle.plant_core.specs.Effects.{tells}
 use Rattle.budb_changes.specs.declared.change.Change.{Change}
 use Rattle.budb_changes.specs.Forms.{AreChanges}
 use Rattle.backup_words.specs.declared.command.Command.{Command}
 use Rattle.backup_words.specs.declared.faults.WordFault.{WordFault}
 use Rattle.backup_words.specs.Commands.{command_of}
 use Rattle.backup_session.specs.Worlds.{World}
+use Rattle.backup_session.specs.Bounded.{HasTapes}
+use Rattle.backup_session.proofs.TapeBounds.{turn_has_tapes, told_has_tapes}
 use Rattle.backup_session.specs.Machine.{turn}
 use Rattle.backup_script.specs.declared.item.Item.{Item}
 use Rattle.backup_script.specs.declared.item.Item.TheVariants.{Silent, Quit, Runs, Refused}
@@ -39,14 +41,21 @@ item_forms : (line : List ℕ) → ItemForms (item_of line)
 unfolding item_of
 item_forms line = picked (is_quit line) _ _ tt (picked (is_silent line) _ _ tt (said_forms (command_of line) (line_form line)))
 
-module _ (w : World) (ms : List ℕ) (log : AreChanges w.log) where
+module _ (w : World) (ms : List ℕ) (has : HasTapes w) (log : AreChanges w.log) where
   item_follows : (item : Item) → ItemForms item → let s = one_line w ms item in IsJournalAfter w.log s.effects s.world.log
   item_follows Silent forms = refl
   item_follows Quit forms = refl
   item_follows (Refused text) forms = refl
   item_follows (Runs command) forms =
       let t = turn w (first_of ms) command in
-      journal_then t.effects (tells t.reply ∷ []) w.log t.log t.log (turn_follows w (first_of ms) command log forms) refl
+      journal_then t.effects (tells t.reply ∷ []) w.log t.log t.log (turn_follows w (first_of ms) command has log forms) refl
+
+-- behind a line there are such tapes again
+item_has_tapes : (w : World) (ms : List ℕ) (item : Item) → HasTapes w → HasTapes (one_line w ms item).world
+item_has_tapes w ms Silent has = has
+item_has_tapes w ms Quit has = has
+item_has_tapes w ms (Refused text) has = told_has_tapes w text has
+item_has_tapes w ms (Runs command) has = turn_has_tapes w (first_of ms) command has
 
 -- further lines, where the script goes on
 further : (log : List Change) (s rest : Outcome) (b : Bool) → IsJournalAfter log s.effects s.world.log → IsJournalAfter s.world.log rest.effects rest.world.log
@@ -54,10 +63,10 @@ further : (log : List Change) (s rest : Outcome) (b : Bool) → IsJournalAfter l
 further log s rest true first second = journal_then s.effects rest.effects log s.world.log rest.world.log first second
 further log s rest false first second = first
 
-pub script_follows : (w : World) (ms : List ℕ) (lines : List (List ℕ)) → AreChanges w.log → IsJournalAfter w.log (script w ms lines).effects (script w ms lines).world.log
+pub script_follows : (w : World) (ms : List ℕ) (lines : List (List ℕ)) → HasTapes w → AreChanges w.log → IsJournalAfter w.log (script w ms lines).effects (script w ms lines).world.log
 unfolding script
-script_follows w ms [] log = refl
-script_follows w ms (line ∷ lines) log =
+script_follows w ms [] has log = refl
+script_follows w ms (line ∷ lines) has log =
     let s = one_line w ms (item_of line) in
-    let first = item_follows w ms log (item_of line) (item_forms line) in
-    further w.log s (script s.world s.moments lines) s.goes first (script_follows s.world s.moments lines (journal_form s.effects w.log s.world.log log first))
+    let first = item_follows w ms has log (item_of line) (item_forms line) in
+    further w.log s (script s.world s.moments lines) s.goes first (script_follows s.world s.moments lines (item_has_tapes w ms (item_of line) has) (journal_form s.effects w.log s.world.log log first))

@@ -1,6 +1,7 @@
 -- The journal of a turn.
-use Rattle.std.proofs.Common.{◌≡◌, ℕ, Bool, true, false, List, [], ◌∷◌, ◌++◌, length, refl}
+use Rattle.std.proofs.Common.{ℕ, Bool, true, false, List, [], ◌∷◌, length, refl}
 use Rattle.std.specs.Prelude.{nat_lt, if◌then◌else◌, Option, Result, Ok, Err}
+use Rattle.tape_config.specs.declared.port.PortFields.{PortFields}
 use Rattle.tape_frames.specs.declared.label.LabelFields.{LabelFields}
 use Rattle.budb_changes.specs.declared.change.Change.{Change}
 use Rattle.budb_changes.specs.Bytes.{encoded}
@@ -17,16 +18,20 @@ use Rattle.backup_session.specs.declared.verdict.Verdict.TheVariants.{Refuses, M
 use Rattle.backup_session.specs.Worlds.{World, Turn, at_moment}
 use Rattle.backup_session.specs.Turns.{said, length_with}
 use Rattle.backup_session.specs.Verdicts.{verdict}
+use Rattle.backup_session.specs.Bounded.{HasTapes}
 use Rattle.backup_session.specs.Labels.{label_of}
+use Rattle.backup_session.specs.Scanning.{port_of, slots_here, scan_turn}
 use Rattle.backup_session.specs.Tapes.{slot_of, new_label, taken, labeled, label_turn, read_turn, tape_turn}
-use Rattle.backup_session.specs.Asks.{asks_cell, asks_tape, is_built, first_word}
+use Rattle.backup_session.specs.Asks.{asks_cell, asks_archive, asks_tape, is_built, first_word}
 use Rattle.backup_session.specs.Machine.{carried, on_plant, done, turn}
 use Rattle.command_forms.specs.Forms.{HasForms}
-use Rattle.script_journals.specs.Journals.{AreBytesOf, IsJournalAfter}
+use Rattle.script_journals.specs.Journals.{IsJournalAfter}
 use Rattle.script_journals.proofs.Following.{own_bytes}
+use Rattle.scan_laws.proofs.FoundForms.{found_forms}
+use Rattle.script_journals.proofs.Scans.{slots_follow}
 use Rattle.script_journals.proofs.Verdicts.{HasBytes, verdict_form, initial_form, taken_form}
 
-module _ (w : World) (log : AreChanges w.log) where
+module _ (w : World) (has : HasTapes w) (log : AreChanges w.log) where
   abbrev Follows : Turn → Type 0
   Follows t = IsJournalAfter w.log t.effects t.log
 
@@ -56,26 +61,26 @@ module _ (w : World) (log : AreChanges w.log) where
   read_follows (Err text) = refl
   read_follows (Ok slot) = refl
 
-  tape_follows : (command : Command) → asks_tape command ≡ true → Follows (tape_turn w command)
-  tape_follows (Labeltape name pname offset slot) asks = label_follows name pname (slot_of w.setting (after w.log).hosts offset slot)
-  tape_follows (Readlabel offset slot) asks = read_follows (slot_of w.setting (after w.log).hosts offset slot)
-  tape_follows (Scantape dbadd offset) asks = absurd (cc)
-  tape_follows command asks = refl
+  scan_follows : (dbadd : Bool) (port : Result PortFields (List ℕ)) → Follows (scan_turn w dbadd port)
+  scan_follows dbadd (Err text) = refl
+  scan_follows dbadd (Ok port) = slots_follow w dbadd (slots_here w.setting.present port) (found_forms w has port)
 
-  asked : (b : Bool) (s t : Turn) → (b ≡ true → Follows s) → Follows t → Follows (if b then s else t)
-  asked true s t is_s is_t = is_s refl
-  asked false s t is_s is_t = is_t
+  tape_follows : (command : Command) → Follows (tape_turn w command)
+  tape_follows (Labeltape name pname offset slot) = label_follows name pname (slot_of w.setting (after w.log).hosts offset slot)
+  tape_follows (Readlabel offset slot) = read_follows (slot_of w.setting (after w.log).hosts offset slot)
+  tape_follows (Scantape dbadd offset) = scan_follows dbadd (port_of w.setting.config (after w.log).hosts offset)
+  tape_follows command = refl
 
   plant_follows : (command : Command) → HasForms command → Follows (on_plant w command)
-  plant_follows command form = asked (asks_tape command) _ _ (tape_follows command) (carried_follows (verdict (after w.log) command) (verdict_form (after w.log) (forms_after w.log log).listed command form))
+  plant_follows command form = picked (asks_tape command) _ _ (tape_follows command) (carried_follows (verdict (after w.log) command) (verdict_form (after w.log) (forms_after w.log log).listed command form))
 
   done_follows : (command : Command) → HasForms command → Follows (done w command)
-  done_follows command form = picked (asks_cell command) _ _ refl (plant_follows command form)
+  done_follows command form = picked (asks_cell command) _ _ refl (picked (asks_archive command) _ _ refl (plant_follows command form))
 
-pub turn_follows : (w : World) (now : ℕ) (command : Command) → AreChanges w.log → HasForms command → IsJournalAfter w.log (turn w now command).effects (turn w now command).log
+pub turn_follows : (w : World) (now : ℕ) (command : Command) → HasTapes w → AreChanges w.log → HasForms command → IsJournalAfter w.log (turn w now command).effects (turn w now command).log
 unfolding turn
-turn_follows w now command log form = go (is_built command)
+turn_follows w now command has log form = go (is_built command)
   where
     go : (b : Bool) → let t = (if b then done (at_moment w now) command else said w (refused_word NoSuchCommand (first_word command))) in IsJournalAfter w.log t.effects t.log
-    go true = done_follows (at_moment w now) log command form
+    go true = done_follows (at_moment w now) (record { slots = has.slots; records = has.records }) log command form
     go false = refl

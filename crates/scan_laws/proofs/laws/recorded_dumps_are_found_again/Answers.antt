@@ -1,0 +1,8 @@
+use Rattle.scan_laws.proofs.AgainLaws.{found_again, found_equal}
+use Rattle.scan_laws.proofs.laws.recorded_dumps_are_found_again.Goals as goal
+
+pub returns-clause-found : goal.returns-clause-found
+returns-clause-found c = λ w port stock a records held these. found_again c.one_reading.ensures w stock a records held these port
+
+pub returns-clause-equal : goal.returns-clause-equal
+returns-clause-equal c = λ w port stock a records held these. found_equal c.one_reading.ensures w stock a records held these port
