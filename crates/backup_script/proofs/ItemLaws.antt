@@ -1,5 +1,5 @@
 -- What items do to a script.
-use Rattle.std.proofs.Common.{◌≡◌, inr, ℕ, Bool, true, false, not, List, [], ◌∷◌, Some, slice_get, refl}
+use Rattle.std.proofs.Common.{◌≡◌, inr, ℕ, Bool, true, false, not, List, [], ◌∷◌, Some, slice_get, refl, OnErr}
 use Rattle.std.specs.Prelude.{if◌then◌else◌, Result, Ok, Err}
 use Rattle.plant_core.specs.declared.plant.Plant.{Ghosts as Plant}
 use Rattle.plant_core.specs.Effects.{tells}
@@ -9,13 +9,14 @@ use Rattle.backup_words.specs.declared.command.Command.{Command}
 use Rattle.backup_words.specs.declared.faults.WordFault.{WordFault}
 use Rattle.backup_words.specs.Commands.{command_of}
 use Rattle.backup_session.specs.Worlds.{World, with_told}
+use Rattle.backup_session.specs.Machine.{turn}
 use Rattle.backup_session.specs.Views.{SessionView}
 use Rattle.backup_session.specs.Fitting.{Fits}
-use Rattle.backup_script.specs.declared.item.Item.TheVariants.{Silent, Quit, Refused}
+use Rattle.backup_script.specs.declared.item.Item.TheVariants.{Silent, Quit, Runs, Refused}
 use Rattle.backup_script.specs.Lines.{is_quit}
 use Rattle.backup_script.specs.Items.{is_silent, said, item_of}
 use Rattle.backup_script.specs.Scripts.{first_of, between}
-use Rattle.backup_script.specs.Running.{LineLeft, goes_behind}
+use Rattle.backup_script.specs.Running.{LineLeft, TurnLeft, goes_behind}
 
 pub first_is : (ms : List ℕ) (m : ℕ) → slice_get ms 0 ≡ Some m → first_of ms ≡ m
 first_is [] m is = cc
@@ -43,3 +44,17 @@ refusal_left P C w ms text plant old new site session fits leaves = record {
   cell = fits.cell;
   leaves = leaves;
 }
+
+-- a command was begun
+pub runs_left : {D E : Type 0} (P : Plant D) (C : Cell E) (w : World) (ms : List ℕ) (command : Command) (old new : D) (site : E) → TurnLeft P C w (turn w (first_of ms) command) old new site → LineLeft P C w ms (Runs command) old new site
+runs_left P C w ms command old new site begun = record {
+  stage = begun.stage;
+  on_line = inr begun.on_turn;
+  cell = begun.cell;
+  leaves = begun.leaves;
+}
+
+-- in an Err
+pub in_err : {T F : Type 0} (r : Result T F) (A B : Type 0) → (A → B) → OnErr r A → OnErr r B
+in_err (Ok x) A B map is = tt
+in_err (Err e) A B map is = map is

@@ -1,5 +1,6 @@
 pub mod LineLaws
 pub mod ScriptLaws
+pub mod HeldLaws
 pub mod StageLaws
 pub mod ItemLaws
 pub mod TellingLaws

@@ -14,11 +14,13 @@ use Rattle.backup_session.specs.Views.{SessionView}
 use Rattle.backup_session.specs.Fitting.{Fits}
 use Rattle.backup_script.specs.Lines.{is_feed, is_quit, has_quit, TookPiece}
 use Rattle.backup_script.specs.Scripts.{Outcome, nothing, then_outcome, script, between, IsStage}
+use Rattle.backup_script.specs.Held.{IsHeldThroughout}
 use Rattle.backup_script.specs.Running.{Went, Left, ScriptRan, LinePassed, Took, TookAll, TookToQuit, TookTooMany, WentShort, TookEnd, TakesNext, Takes}
 use Rattle.backup_script.specs.declared.serving.ServeStop.{ServeStop}
 use Rattle.backup_script.specs.declared.serving.ServeStop.TheVariants.{Read, Plant as PlantStop, Cell as CellStop, Output, TooLong, Memory}
 use Rattle.backup_script.proofs.LineLaws.{AreLines, no_lines, one_line_more, lines_cut, line_first}
 use Rattle.backup_script.proofs.ScriptLaws.{script_more}
+use Rattle.backup_script.proofs.HeldLaws.{held_behind}
 use Rattle.backup_script.proofs.StageLaws.{behind, stage_behind, stage_later, stage_last}
 use Rattle.backup_script.proofs.ServingLaws.{no_lines_ran}
 
@@ -154,6 +156,10 @@ module _ {D E : Type 0} (P : Plant D) (C : Cell E) where
 
     pub serving_fits : Fits P C here.world now site session
     serving_fits = so.so_far.went.fits
+
+    pub serving_held : IsHeldThroughout w ms (lines input) → IsHeldThroughout here.world left (lines rest)
+    serving_held held = subst (λ (m : List ℕ). IsHeldThroughout here.world m (lines rest)) (sym so.so_far.went.moments)
+        (held_behind so.ran (lines rest) w ms so.goes (subst (λ (ls : List (List ℕ)). IsHeldThroughout w ms ls) (lines_all input rest so.ran so.reading) held))
 
     -- one line more
     pub serving_more : (new : D) (site2 : E) (session2 : SessionView) (left2 rest2 : List ℕ) (refused2 : Bool) → LinePassed P C here.world left rest rest2 now new site2 session2 left2 refused2 → Serving w ms input old new site2 session2 left2 rest2 (refused || refused2)

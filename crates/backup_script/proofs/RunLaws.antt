@@ -10,7 +10,7 @@ use Rattle.budb_changes.specs.declared.change.Change.{Change}
 use Rattle.budb_changes.specs.Bytes.{encoded}
 use Rattle.budb_changes.specs.Forms.{AreChanges}
 use Rattle.budb_changes.proofs.Logs.{same_changes}
-use Rattle.backup_session.specs.Worlds.{World}
+use Rattle.backup_session.specs.Worlds.{World, Contents}
 use Rattle.backup_session.specs.Views.{SessionView}
 use Rattle.backup_session.specs.Fitting.{Fits}
 use Rattle.backup_script.specs.Lines.{ended}
@@ -21,9 +21,9 @@ use Rattle.backup_script.proofs.StageLaws.{stage_front}
 
 module _ {D E : Type 0} (P : Plant D) (C : Cell E) where
   -- the session was opened, and fits the world of the log's changes
-  pub opened_fits : (config : Settings) (log : List Change) (old new : D) (site site2 : E) (session : SessionView) → AreChanges log → (state_of P old).log ≡ encoded log
-      → (other : List Change) → AreChanges other → (state_of P old).log ≡ encoded other → Fits P C (world_on P C config other old site) new site2 session → Fits P C (world_on P C config log old site) new site2 session
-  opened_fits config log old new site site2 session form is other form2 is2 = subst (λ (l : List Change). Fits P C (world_on P C config l old site) new site2 session) (same_changes other log form2 form (sym is2 ∙ is))
+  pub opened_fits : (config : Settings) (log : List Change) (contents : Contents) (old new : D) (site site2 : E) (session : SessionView) → AreChanges log → (state_of P old).log ≡ encoded log
+      → (other : List Change) → AreChanges other → (state_of P old).log ≡ encoded other → Fits P C (world_on P C config other contents old site) new site2 session → Fits P C (world_on P C config log contents old site) new site2 session
+  opened_fits config log contents old new site site2 session form is other form2 is2 = subst (λ (l : List Change). Fits P C (world_on P C config l contents old site) new site2 session) (same_changes other log form2 form (sym is2 ∙ is))
 
   module _ (w : World) (ms : List ℕ) (old mid new : D) (site : E) (first : Done P [] old mid) (first_leaves : Leaves P [] old mid) where
     pub went_ends : (s : Outcome) (session : SessionView) (left : List ℕ) → Went P C s mid new site session left → Ends P C s old new site left

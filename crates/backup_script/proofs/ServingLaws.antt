@@ -11,10 +11,12 @@ use Rattle.backup_session.specs.Fitting.{Fits}
 use Rattle.backup_script.specs.Lines.{is_quit, TookPiece}
 use Rattle.backup_script.specs.Items.{item_of}
 use Rattle.backup_script.specs.Scripts.{Outcome, nothing, one_line, script, between, IsStage}
+use Rattle.backup_script.specs.Held.{HeldForLine, IsHeldThroughout}
 use Rattle.backup_script.specs.Running.{Went, Left, LineRan, LineLeft, ScriptRan, LinePassed}
 use Rattle.backup_script.proofs.LineLaws.{line_first, line_last}
 use Rattle.backup_script.proofs.ScriptLaws.{script_one, script_ended}
 use Rattle.backup_script.proofs.StageLaws.{stage_front}
+use Rattle.backup_script.proofs.HeldLaws.{held_first}
 
 -- the lines of a source of which one was taken
 pub lines_first : (input rest line : List ℕ) → TookPiece input (10 ∷ rest) line → lines input ≡ strip_carriage_return line ∷ lines rest
@@ -22,6 +24,15 @@ lines_first input rest line took = ap (λ (l : List ℕ). lines l) took.is ∙ l
 
 pub lines_last : (input line : List ℕ) → TookPiece input [] line → 0 < length line → lines input ≡ line ∷ []
 lines_last input line took some = ap (λ (l : List ℕ). lines l) (took.is ∙ append-nil line) ∙ line_last line took.plain some
+
+-- what the line that is read finds
+pub held_ended : (w : World) (ms input rest line read : List ℕ) → TookPiece input (10 ∷ rest) line → read ≡ strip_carriage_return line → IsHeldThroughout w ms (lines input) → HeldForLine w ms (item_of read)
+held_ended w ms input rest line read took is held = subst (λ (l : List ℕ). HeldForLine w ms (item_of l)) (sym is)
+    (held_first w ms (strip_carriage_return line) (lines rest) (subst (λ (ls : List (List ℕ)). IsHeldThroughout w ms ls) (lines_first input rest line took) held))
+
+pub held_last : (w : World) (ms input line read : List ℕ) → TookPiece input [] line → 0 < length line → read ≡ line → IsHeldThroughout w ms (lines input) → HeldForLine w ms (item_of read)
+held_last w ms input line read took some is held = subst (λ (l : List ℕ). HeldForLine w ms (item_of l)) (sym is)
+    (held_first w ms line [] (subst (λ (ls : List (List ℕ)). IsHeldThroughout w ms ls) (lines_last input line took some) held))
 
 module _ {D E : Type 0} (P : Plant D) (C : Cell E) where
   -- a line alone

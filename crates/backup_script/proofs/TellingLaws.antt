@@ -24,6 +24,7 @@ module _ {D E : Type 0} (P : Plant D) (C : Cell E) where
     config = fits.config;
     state = alike_both (comes (tells text) w.state) (comes (tells text) (state_of P old)) (state_of P new) (alike_comes (tells text) w.state (state_of P old) fits.state) (done.state told);
     settled = record { log = fits.settled.log; tapes = fits.settled.tapes };
+    slots = stays.slots ∙ fits.slots;
     present = λ k. ap (λ (f : ℕ → Bool). f k) stays.present ∙ fits.present k;
     cell = fits.cell;
   }

@@ -9,7 +9,7 @@ use Rattle.tape_config.specs.Configs.{Settings}
 use Rattle.budb_changes.specs.declared.change.Change.{Change}
 use Rattle.budb_changes.specs.Bytes.{encoded}
 use Rattle.budb_changes.specs.Forms.{AreChanges}
-use Rattle.backup_session.specs.Worlds.{World}
+use Rattle.backup_session.specs.Worlds.{World, Contents}
 use Rattle.backup_session.specs.Opening.{opened}
 use Rattle.backup_script.specs.declared.running.RunStop.{RunStop}
 use Rattle.backup_script.specs.declared.running.RunStop.TheVariants.{Read, Plant as PlantStop, Cell as CellStop, Output, TooLong, BadLog, Memory}
@@ -17,9 +17,9 @@ use Rattle.backup_script.specs.Lines.{ended}
 use Rattle.backup_script.specs.Scripts.{Outcome, script}
 use Rattle.backup_script.specs.Running.{Took, TookAll, TookToQuit, TookTooMany}
 
--- the world of a plant and a cell, for the changes of the plant's log
-abbrev pub world_on : {D E : Type 0} → Plant D → Cell E → Settings → List Change → D → E → World
-world_on P C config log plant site = opened (record { config = config; present = (P.view plant).present }) log (C.list site) (state_of P plant)
+-- the world of a plant and a cell, for the changes of the plant's log and the contents of its dumps
+abbrev pub world_on : {D E : Type 0} → Plant D → Cell E → Settings → List Change → Contents → D → E → World
+world_on P C config log contents plant site = opened (record { config = config; slots = (P.view plant).slots; present = (P.view plant).present }) log (C.list site) contents (state_of P plant)
 
 -- All of this was done, and plant, cell and clock are as they are behind it.
 pub record Ends {D E : Type 0} (P : Plant D) (C : Cell E) (s : Outcome) (old new : D) (site : E) (left : List ℕ) : Type 0 where

@@ -1,5 +1,6 @@
 pub mod Lines
 pub mod Items
 pub mod Scripts
+pub mod Held
 pub mod Running
 pub mod Ended

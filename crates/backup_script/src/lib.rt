@@ -2,6 +2,7 @@
 #![tactic(auto)]
 
 mod item;
+mod laws;
 mod lines;
 mod next_line;
 mod running;
@@ -9,6 +10,7 @@ mod serve;
 mod serving;
 
 pub use item::Item;
+pub use laws::{fronts_of_scripts, scripts_that_ask_no_archive};
 pub use lines::MOST;
 pub use running::{RunStop, run_on};
 pub use serve::run_script;

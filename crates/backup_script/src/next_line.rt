@@ -9,6 +9,7 @@ ghost use Rattle.backup_session.specs.Fitting.{Fits};
 ghost use Rattle.backup_script.specs.Lines.{is_feed, is_quit, TookPiece};
 ghost use Rattle.backup_script.specs.Items.{item_of};
 ghost use Rattle.backup_script.specs.Scripts.{nothing, one_line, script};
+ghost use Rattle.backup_script.specs.Held.{HeldForLine, IsHeldThroughout};
 ghost use Rattle.backup_script.specs.Running.{Went, Left, LineRan, LineLeft, ScriptRan, LinePassed, TakesNext};
 
 use crate::lines::{LineStop, Next, take_line};
@@ -57,8 +58,8 @@ fn run_last<P: Plant, C: Cell, K: Clock>(
     requires { P.sound plant.old }
     ensures sound { OnOk result (P.sound plant.new) }
     ensures ran { P.tells → C.tells → K.tells → (w : World) → Fits P.Plant C.Cell w plant.old cell.old session.old
-        → IfOk result (λ passed. ScriptRan P.Plant C.Cell (script w (K.moments clock.old) (line.now ∷ [])) plant.old plant.new cell.new session.new (K.moments clock.new) passed.refused) }
-    ensures left { P.tells → C.tells → K.tells → (w : World) → Fits P.Plant C.Cell w plant.old cell.old session.old → OnErr result (LineLeft P.Plant C.Cell w (K.moments clock.old) (item_of line.now) plant.old plant.new cell.new) }
+        → HeldForLine w (K.moments clock.old) (item_of line.now) → IfOk result (λ passed. ScriptRan P.Plant C.Cell (script w (K.moments clock.old) (line.now ∷ [])) plant.old plant.new cell.new session.new (K.moments clock.new) passed.refused) }
+    ensures left { P.tells → C.tells → K.tells → (w : World) → Fits P.Plant C.Cell w plant.old cell.old session.old → HeldForLine w (K.moments clock.old) (item_of line.now) → OnErr result (LineLeft P.Plant C.Cell w (K.moments clock.old) (item_of line.now) plant.old plant.new cell.new) }
     ensures ends { IfOk result (λ passed. passed.goes ≡ false) }
     ensures stays { Stays P.Plant plant.old plant.new }
     ensures plant_cause { HasCauseAt ServeStop.Plant (P.view plant.old).faults (P.view plant.new).faults result }
@@ -90,10 +91,10 @@ pub fn serve_line<P: Plant, C: Cell, K: Clock, S: Source>(
     requires few { taken.old ≤ 16777217 }
     ensures sound { OnOk result (P.sound plant.new) }
     ensures passed { P.tells → C.tells → K.tells → S.tells → (w : World) → Fits P.Plant C.Cell w plant.old cell.old session.old
-        → IfOk result (λ passed. passed.goes ≡ true → LinePassed P.Plant C.Cell w (K.moments clock.old) (S.left source.old) (S.left source.new) plant.old plant.new cell.new session.new (K.moments clock.new) passed.refused) }
+        → IsHeldThroughout w (K.moments clock.old) (lines (S.left source.old)) → IfOk result (λ passed. passed.goes ≡ true → LinePassed P.Plant C.Cell w (K.moments clock.old) (S.left source.old) (S.left source.new) plant.old plant.new cell.new session.new (K.moments clock.new) passed.refused) }
     ensures ended { P.tells → C.tells → K.tells → S.tells → (w : World) → Fits P.Plant C.Cell w plant.old cell.old session.old
-        → IfOk result (λ passed. passed.goes ≡ false → ScriptRan P.Plant C.Cell (script w (K.moments clock.old) (lines (S.left source.old))) plant.old plant.new cell.new session.new (K.moments clock.new) passed.refused) }
-    ensures left { P.tells → C.tells → K.tells → S.tells → (w : World) → Fits P.Plant C.Cell w plant.old cell.old session.old → OnErr result (Left P.Plant C.Cell w (K.moments clock.old) (lines (S.left source.old)) plant.old plant.new cell.new) }
+        → IsHeldThroughout w (K.moments clock.old) (lines (S.left source.old)) → IfOk result (λ passed. passed.goes ≡ false → ScriptRan P.Plant C.Cell (script w (K.moments clock.old) (lines (S.left source.old))) plant.old plant.new cell.new session.new (K.moments clock.new) passed.refused) }
+    ensures left { P.tells → C.tells → K.tells → S.tells → (w : World) → Fits P.Plant C.Cell w plant.old cell.old session.old → IsHeldThroughout w (K.moments clock.old) (lines (S.left source.old)) → OnErr result (Left P.Plant C.Cell w (K.moments clock.old) (lines (S.left source.old)) plant.old plant.new cell.new) }
     ensures read_short { P.tells → C.tells → K.tells → (w : World) → Fits P.Plant C.Cell w plant.old cell.old session.old → result ≡ Err ServeStop.Read → Went P.Plant C.Cell (nothing w (K.moments clock.old) true) plant.old plant.new cell.new session.new (K.moments clock.new) }
     ensures long_short { P.tells → C.tells → K.tells → (w : World) → Fits P.Plant C.Cell w plant.old cell.old session.old → result ≡ Err ServeStop.TooLong → Went P.Plant C.Cell (nothing w (K.moments clock.old) true) plant.old plant.new cell.new session.new (K.moments clock.new) }
     ensures took { S.tells → TakesNext (S.left source.old) (S.left source.new) taken.new result }

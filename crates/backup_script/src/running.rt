@@ -9,7 +9,9 @@ ghost use Rattle.budb_changes.specs.Bytes.{encoded};
 ghost use Rattle.budb_changes.specs.Forms.{AreChanges, IsLog};
 ghost use Rattle.plant_core.specs.Crashes.{IsSettled};
 ghost use Rattle.plant_effects.specs.Runs.{state_of, Done, Stays};
+ghost use Rattle.backup_session.specs.Worlds.{Contents};
 ghost use Rattle.backup_script.specs.Scripts.{script};
+ghost use Rattle.backup_script.specs.Held.{IsHeldThroughout};
 ghost use Rattle.backup_script.specs.Running.{Left};
 ghost use Rattle.backup_script.specs.Ended.{world_on, Ends, EndsShort, TakesBytes, IsRefusedLog};
 
@@ -103,15 +105,18 @@ pub fn run_on<P: Plant, C: Cell, K: Clock, S: Source>(
 
     // All lines were run; cut short by a read or the limit, those that were ended.
     ensures ran { P.tells → C.tells → K.tells → S.tells → IsSettled (state_of P.Plant plant.old) → (log : AnyList AnyChange) → AreChanges log → (state_of P.Plant plant.old).log ≡ encoded log
-        → let s = script (world_on P.Plant C.Cell config log plant.old cell.old) (K.moments clock.old) (lines (S.left source.old)) in
-        IfOk result (λ refused. Ends P.Plant C.Cell s plant.old plant.new cell.new (K.moments clock.new) × (refused ≡ s.refused)) }
+        → (contents : Contents) → let w = world_on P.Plant C.Cell config log contents plant.old cell.old in let s = script w (K.moments clock.old) (lines (S.left source.old)) in
+        IsHeldThroughout w (K.moments clock.old) (lines (S.left source.old)) → IfOk result (λ refused. Ends P.Plant C.Cell s plant.old plant.new cell.new (K.moments clock.new) × (refused ≡ s.refused)) }
     ensures read_short { P.tells → C.tells → K.tells → S.tells → IsSettled (state_of P.Plant plant.old) → (log : AnyList AnyChange) → AreChanges log → (state_of P.Plant plant.old).log ≡ encoded log
-        → result ≡ Err RunStop.Read → EndsShort P.Plant C.Cell (world_on P.Plant C.Cell config log plant.old cell.old) (K.moments clock.old) (S.left source.old) (S.left source.new) plant.old plant.new cell.new (K.moments clock.new) }
+        → (contents : Contents) → let w = world_on P.Plant C.Cell config log contents plant.old cell.old in
+        IsHeldThroughout w (K.moments clock.old) (lines (S.left source.old)) → result ≡ Err RunStop.Read → EndsShort P.Plant C.Cell w (K.moments clock.old) (S.left source.old) (S.left source.new) plant.old plant.new cell.new (K.moments clock.new) }
     ensures long_short { P.tells → C.tells → K.tells → S.tells → IsSettled (state_of P.Plant plant.old) → (log : AnyList AnyChange) → AreChanges log → (state_of P.Plant plant.old).log ≡ encoded log
-        → result ≡ Err RunStop.TooLong → EndsShort P.Plant C.Cell (world_on P.Plant C.Cell config log plant.old cell.old) (K.moments clock.old) (S.left source.old) (S.left source.new) plant.old plant.new cell.new (K.moments clock.new) }
+        → (contents : Contents) → let w = world_on P.Plant C.Cell config log contents plant.old cell.old in
+        IsHeldThroughout w (K.moments clock.old) (lines (S.left source.old)) → result ≡ Err RunStop.TooLong → EndsShort P.Plant C.Cell w (K.moments clock.old) (S.left source.old) (S.left source.new) plant.old plant.new cell.new (K.moments clock.new) }
     // However it ended.
     ensures left { P.tells → C.tells → K.tells → S.tells → IsSettled (state_of P.Plant plant.old) → (log : AnyList AnyChange) → AreChanges log → (state_of P.Plant plant.old).log ≡ encoded log
-        → Left P.Plant C.Cell (world_on P.Plant C.Cell config log plant.old cell.old) (K.moments clock.old) (lines (S.left source.old)) plant.old plant.new cell.new }
+        → (contents : Contents) → let w = world_on P.Plant C.Cell config log contents plant.old cell.old in
+        IsHeldThroughout w (K.moments clock.old) (lines (S.left source.old)) → Left P.Plant C.Cell w (K.moments clock.old) (lines (S.left source.old)) plant.old plant.new cell.new }
     ensures takes { S.tells → TakesBytes (S.left source.old) (S.left source.new) result }
     ensures stays { Stays P.Plant plant.old plant.new }
 

@@ -7,6 +7,7 @@ ghost use Rattle.plant_effects.specs.Runs.{Stays};
 ghost use Rattle.backup_session.specs.Worlds.{World};
 ghost use Rattle.backup_session.specs.Fitting.{Fits};
 ghost use Rattle.backup_script.specs.Scripts.{script};
+ghost use Rattle.backup_script.specs.Held.{IsHeldThroughout};
 ghost use Rattle.backup_script.specs.Running.{Left, ScriptRan, WentShort, Takes};
 
 use crate::lines::MOST;
@@ -37,15 +38,15 @@ pub fn run_script<P: Plant, C: Cell, K: Clock, S: Source>(
 
     // All lines were run.
     ensures ran { P.tells → C.tells → K.tells → S.tells → (w : World) → Fits P.Plant C.Cell w plant.old cell.old session.old
-        → IfOk result (λ refused. ScriptRan P.Plant C.Cell (script w (K.moments clock.old) (lines (S.left source.old))) plant.old plant.new cell.new session.new (K.moments clock.new) refused) }
+        → IsHeldThroughout w (K.moments clock.old) (lines (S.left source.old)) → IfOk result (λ refused. ScriptRan P.Plant C.Cell (script w (K.moments clock.old) (lines (S.left source.old))) plant.old plant.new cell.new session.new (K.moments clock.new) refused) }
     // Cut short by a read or the limit, the lines that were ended were run.
     ensures read_short { P.tells → C.tells → K.tells → S.tells → (w : World) → Fits P.Plant C.Cell w plant.old cell.old session.old
-        → result ≡ Err ServeStop.Read → WentShort P.Plant C.Cell w (K.moments clock.old) (S.left source.old) (S.left source.new) plant.old plant.new cell.new session.new (K.moments clock.new) }
+        → IsHeldThroughout w (K.moments clock.old) (lines (S.left source.old)) → result ≡ Err ServeStop.Read → WentShort P.Plant C.Cell w (K.moments clock.old) (S.left source.old) (S.left source.new) plant.old plant.new cell.new session.new (K.moments clock.new) }
     ensures long_short { P.tells → C.tells → K.tells → S.tells → (w : World) → Fits P.Plant C.Cell w plant.old cell.old session.old
-        → result ≡ Err ServeStop.TooLong → WentShort P.Plant C.Cell w (K.moments clock.old) (S.left source.old) (S.left source.new) plant.old plant.new cell.new session.new (K.moments clock.new) }
+        → IsHeldThroughout w (K.moments clock.old) (lines (S.left source.old)) → result ≡ Err ServeStop.TooLong → WentShort P.Plant C.Cell w (K.moments clock.old) (S.left source.old) (S.left source.new) plant.old plant.new cell.new session.new (K.moments clock.new) }
     // However it ended.
     ensures left { P.tells → C.tells → K.tells → S.tells → (w : World) → Fits P.Plant C.Cell w plant.old cell.old session.old
-        → Left P.Plant C.Cell w (K.moments clock.old) (lines (S.left source.old)) plant.old plant.new cell.new }
+        → IsHeldThroughout w (K.moments clock.old) (lines (S.left source.old)) → Left P.Plant C.Cell w (K.moments clock.old) (lines (S.left source.old)) plant.old plant.new cell.new }
     ensures takes { S.tells → Takes (S.left source.old) (S.left source.new) result }
     ensures stays { Stays P.Plant plant.old plant.new }
 

@@ -7,12 +7,14 @@ ghost use Rattle.media_core.specs.Later.{later};
 ghost use Rattle.plant_core.specs.Effects.{tells};
 ghost use Rattle.plant_effects.specs.Runs.{Done, Leaves, SameNumbers, Stays, StaysTelling};
 ghost use Rattle.backup_replies.specs.Texts.{has_refusal as text_has_refusal};
-ghost use Rattle.backup_session.specs.Worlds.{World};
+ghost use Rattle.backup_session.specs.Worlds.{World, at_moment};
 ghost use Rattle.backup_session.specs.Machine.{turn};
 ghost use Rattle.backup_session.specs.Fitting.{Fits};
+ghost use Rattle.backup_session.specs.Held.{HeldFor};
 ghost use Rattle.backup_script.specs.Lines.{is_quit};
 ghost use Rattle.backup_script.specs.Items.{item_of};
 ghost use Rattle.backup_script.specs.Scripts.{first_of, one_line, command_told};
+ghost use Rattle.backup_script.specs.Held.{HeldForLine};
 ghost use Rattle.backup_script.specs.Running.{LineRan, LineLeft, TurnLeft, goes_behind};
 
 use crate::item::{Item, read_item};
@@ -86,8 +88,8 @@ fn run_command<P: Plant, C: Cell>(
     requires { P.sound plant.old }
     ensures sound { OnOk result (P.sound plant.new) }
     ensures went { P.tells → C.tells → (w : World) → Fits P.Plant C.Cell w plant.old cell.old session.old
-        → (ms : AnyList ℕ) → IfOk result (λ refused. LineRan P.Plant C.Cell (command_told w ms (turn w now command.now)) plant.old plant.new cell.new session.new (later ms) true refused) }
-    ensures left { P.tells → C.tells → (w : World) → Fits P.Plant C.Cell w plant.old cell.old session.old → OnErr result (TurnLeft P.Plant C.Cell w (turn w now command.now) plant.old plant.new cell.new) }
+        → HeldFor (at_moment w now) command.now → (ms : AnyList ℕ) → IfOk result (λ refused. LineRan P.Plant C.Cell (command_told w ms (turn w now command.now)) plant.old plant.new cell.new session.new (later ms) true refused) }
+    ensures left { P.tells → C.tells → (w : World) → Fits P.Plant C.Cell w plant.old cell.old session.old → HeldFor (at_moment w now) command.now → OnErr result (TurnLeft P.Plant C.Cell w (turn w now command.now) plant.old plant.new cell.new) }
     ensures stays { Stays P.Plant plant.old plant.new }
     ensures plant_cause { HasCauseAt ServeStop.Plant (P.view plant.old).faults (P.view plant.new).faults result }
     ensures cell_cause { HasCauseAt ServeStop.Cell (C.faults cell.old) (C.faults cell.new) result }
@@ -142,9 +144,9 @@ fn run_next<P: Plant, C: Cell, K: Clock>(
     requires { P.sound plant.old }
     ensures sound { OnOk result (P.sound plant.new) }
     ensures went { P.tells → C.tells → K.tells → (w : World) → Fits P.Plant C.Cell w plant.old cell.old session.old
-        → IfOk result (λ passed. LineRan P.Plant C.Cell (command_told w (K.moments clock.old) (turn w (first_of (K.moments clock.old)) command.now)) plant.old plant.new cell.new session.new (K.moments clock.new) passed.goes passed.refused) }
+        → HeldFor (at_moment w (first_of (K.moments clock.old))) command.now → IfOk result (λ passed. LineRan P.Plant C.Cell (command_told w (K.moments clock.old) (turn w (first_of (K.moments clock.old)) command.now)) plant.old plant.new cell.new session.new (K.moments clock.new) passed.goes passed.refused) }
     ensures left { P.tells → C.tells → K.tells → (w : World) → Fits P.Plant C.Cell w plant.old cell.old session.old
-        → OnErr result (TurnLeft P.Plant C.Cell w (turn w (first_of (K.moments clock.old)) command.now) plant.old plant.new cell.new) }
+        → HeldFor (at_moment w (first_of (K.moments clock.old))) command.now → OnErr result (TurnLeft P.Plant C.Cell w (turn w (first_of (K.moments clock.old)) command.now) plant.old plant.new cell.new) }
     ensures goes { IfOk result (λ passed. passed.goes ≡ true) }
     ensures stays { Stays P.Plant plant.old plant.new }
     ensures plant_cause { HasCauseAt ServeStop.Plant (P.view plant.old).faults (P.view plant.new).faults result }
@@ -175,8 +177,8 @@ fn run_item<P: Plant, C: Cell, K: Clock>(
     requires { P.sound plant.old }
     ensures sound { OnOk result (P.sound plant.new) }
     ensures went { P.tells → C.tells → K.tells → (w : World) → Fits P.Plant C.Cell w plant.old cell.old session.old
-        → IfOk result (λ passed. LineRan P.Plant C.Cell (one_line w (K.moments clock.old) item) plant.old plant.new cell.new session.new (K.moments clock.new) passed.goes passed.refused) }
-    ensures left { P.tells → C.tells → K.tells → (w : World) → Fits P.Plant C.Cell w plant.old cell.old session.old → OnErr result (LineLeft P.Plant C.Cell w (K.moments clock.old) item plant.old plant.new cell.new) }
+        → HeldForLine w (K.moments clock.old) item → IfOk result (λ passed. LineRan P.Plant C.Cell (one_line w (K.moments clock.old) item) plant.old plant.new cell.new session.new (K.moments clock.new) passed.goes passed.refused) }
+    ensures left { P.tells → C.tells → K.tells → (w : World) → Fits P.Plant C.Cell w plant.old cell.old session.old → HeldForLine w (K.moments clock.old) item → OnErr result (LineLeft P.Plant C.Cell w (K.moments clock.old) item plant.old plant.new cell.new) }
     ensures goes { IfOk result (λ passed. passed.goes ≡ goes_behind item) }
     ensures stays { Stays P.Plant plant.old plant.new }
     ensures plant_cause { HasCauseAt ServeStop.Plant (P.view plant.old).faults (P.view plant.new).faults result }
@@ -211,8 +213,8 @@ pub fn run_line<P: Plant, C: Cell, K: Clock>(
     requires { P.sound plant.old }
     ensures sound { OnOk result (P.sound plant.new) }
     ensures went { P.tells → C.tells → K.tells → (w : World) → Fits P.Plant C.Cell w plant.old cell.old session.old
-        → IfOk result (λ passed. LineRan P.Plant C.Cell (one_line w (K.moments clock.old) (item_of line.now)) plant.old plant.new cell.new session.new (K.moments clock.new) passed.goes passed.refused) }
-    ensures left { P.tells → C.tells → K.tells → (w : World) → Fits P.Plant C.Cell w plant.old cell.old session.old → OnErr result (LineLeft P.Plant C.Cell w (K.moments clock.old) (item_of line.now) plant.old plant.new cell.new) }
+        → HeldForLine w (K.moments clock.old) (item_of line.now) → IfOk result (λ passed. LineRan P.Plant C.Cell (one_line w (K.moments clock.old) (item_of line.now)) plant.old plant.new cell.new session.new (K.moments clock.new) passed.goes passed.refused) }
+    ensures left { P.tells → C.tells → K.tells → (w : World) → Fits P.Plant C.Cell w plant.old cell.old session.old → HeldForLine w (K.moments clock.old) (item_of line.now) → OnErr result (LineLeft P.Plant C.Cell w (K.moments clock.old) (item_of line.now) plant.old plant.new cell.new) }
     ensures goes { IfOk result (λ passed. passed.goes ≡ not (is_quit line.now)) }
     ensures stays { Stays P.Plant plant.old plant.new }
     ensures plant_cause { HasCauseAt ServeStop.Plant (P.view plant.old).faults (P.view plant.new).faults result }

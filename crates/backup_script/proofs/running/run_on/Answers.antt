@@ -9,70 +9,70 @@ use Rattle.backup_script.proofs.RunLaws.{opened_fits, went_ends, short_ends, lef
 use Rattle.backup_script.proofs.running.run_on.Goals as goal
 
 pub returns-in-Ok-run_script-clause-ran : goal.returns-in-Ok-run_script-clause-ran
-returns-in-Ok-run_script-clause-ran g c = λ told tells_cell tells_clock source settled log form is.
+returns-in-Ok-run_script-clause-ran g c = λ told tells_cell tells_clock source settled log form is contents held.
     let P = g.P.Plant in
     let C = g.C.Cell in
     let old = c.args.plant.now in
     let mid = c.open.new.plant in
     let n = c.run_script.new in
-    let w = world_on P C c.args.config log old c.args.cell.now in
+    let w = world_on P C c.args.config log contents old c.args.cell.now in
     let ms = g.K.Clock.moments c.args.clock.now in
     let f = c.in-Ok.ensures.fits told tells_cell in
-    let fits = opened_fits P C c.args.config log old mid c.args.cell.now c.open.new.cell c.in-Ok.session form is f.0 f.1 f.2 (f.3 settled) in
-    let ran = c.in-Ok-run_script.ensures.ran told tells_cell tells_clock source w fits in
+    let fits = opened_fits P C c.args.config log contents old mid c.args.cell.now c.open.new.cell c.in-Ok.session form is f.0 f.1 f.2 (f.3 settled contents) in
+    let ran = c.in-Ok-run_script.ensures.ran told tells_cell tells_clock source w fits held in
     (went_ends P C w ms old mid n.plant n.cell c.in-Ok.ensures.done c.in-Ok.ensures.leaves (script w ms (lines (g.S.Source.left c.args.source.now))) n.session (g.K.Clock.moments n.clock) ran.went, ran.refused_is)
 
 pub returns-in-Ok-run_script-clause-left : goal.returns-in-Ok-run_script-clause-left
-returns-in-Ok-run_script-clause-left g c = λ told tells_cell tells_clock source settled log form is.
+returns-in-Ok-run_script-clause-left g c = λ told tells_cell tells_clock source settled log form is contents held.
     let P = g.P.Plant in
     let C = g.C.Cell in
     let old = c.args.plant.now in
     let mid = c.open.new.plant in
     let n = c.run_script.new in
-    let w = world_on P C c.args.config log old c.args.cell.now in
+    let w = world_on P C c.args.config log contents old c.args.cell.now in
     let f = c.in-Ok.ensures.fits told tells_cell in
-    let fits = opened_fits P C c.args.config log old mid c.args.cell.now c.open.new.cell c.in-Ok.session form is f.0 f.1 f.2 (f.3 settled) in
-    left_after P C w (g.K.Clock.moments c.args.clock.now) old mid n.plant n.cell c.in-Ok.ensures.done c.in-Ok.ensures.leaves (lines (g.S.Source.left c.args.source.now)) (c.run_script.ensures.left told tells_cell tells_clock source w fits)
+    let fits = opened_fits P C c.args.config log contents old mid c.args.cell.now c.open.new.cell c.in-Ok.session form is f.0 f.1 f.2 (f.3 settled contents) in
+    left_after P C w (g.K.Clock.moments c.args.clock.now) old mid n.plant n.cell c.in-Ok.ensures.done c.in-Ok.ensures.leaves (lines (g.S.Source.left c.args.source.now)) (c.run_script.ensures.left told tells_cell tells_clock source w fits held)
 
 pub returns-in-Ok-clause-left : goal.returns-in-Ok-clause-left
-returns-in-Ok-clause-left g c = λ told tells_cell tells_clock source settled log form is.
+returns-in-Ok-clause-left g c = λ told tells_cell tells_clock source settled log form is contents held.
     let P = g.P.Plant in
     let C = g.C.Cell in
     let old = c.args.plant.now in
     let mid = c.open.new.plant in
     let n = c.run_script.new in
-    let w = world_on P C c.args.config log old c.args.cell.now in
+    let w = world_on P C c.args.config log contents old c.args.cell.now in
     let f = c.in-Ok.ensures.fits told tells_cell in
-    let fits = opened_fits P C c.args.config log old mid c.args.cell.now c.open.new.cell c.in-Ok.session form is f.0 f.1 f.2 (f.3 settled) in
-    left_after P C w (g.K.Clock.moments c.args.clock.now) old mid n.plant n.cell c.in-Ok.ensures.done c.in-Ok.ensures.leaves (lines (g.S.Source.left c.args.source.now)) (c.run_script.ensures.left told tells_cell tells_clock source w fits)
+    let fits = opened_fits P C c.args.config log contents old mid c.args.cell.now c.open.new.cell c.in-Ok.session form is f.0 f.1 f.2 (f.3 settled contents) in
+    left_after P C w (g.K.Clock.moments c.args.clock.now) old mid n.plant n.cell c.in-Ok.ensures.done c.in-Ok.ensures.leaves (lines (g.S.Source.left c.args.source.now)) (c.run_script.ensures.left told tells_cell tells_clock source w fits held)
 
 pub returns-in-Ok-clause-read_short : goal.returns-in-Ok-clause-read_short
-returns-in-Ok-clause-read_short g c = λ told tells_cell tells_clock source settled log form is stops.
+returns-in-Ok-clause-read_short g c = λ told tells_cell tells_clock source settled log form is contents held stops.
     let P = g.P.Plant in
     let C = g.C.Cell in
     let old = c.args.plant.now in
     let mid = c.open.new.plant in
     let n = c.run_script.new in
-    let w = world_on P C c.args.config log old c.args.cell.now in
+    let w = world_on P C c.args.config log contents old c.args.cell.now in
     let f = c.in-Ok.ensures.fits told tells_cell in
-    let fits = opened_fits P C c.args.config log old mid c.args.cell.now c.open.new.cell c.in-Ok.session form is f.0 f.1 f.2 (f.3 settled) in
+    let fits = opened_fits P C c.args.config log contents old mid c.args.cell.now c.open.new.cell c.in-Ok.session form is f.0 f.1 f.2 (f.3 settled contents) in
     short_ends P C w (g.K.Clock.moments c.args.clock.now) old mid n.plant n.cell c.in-Ok.ensures.done c.in-Ok.ensures.leaves (g.S.Source.left c.args.source.now) (g.S.Source.left n.source) n.session (g.K.Clock.moments n.clock)
-    (c.in-Err-run_script.ensures.read_short told tells_cell tells_clock source w fits (ap (λ (e : ServeStop). Err e) (c.serving_stop.ensures.read (err_same Read c.serving_stop.result stops))))
+    (c.in-Err-run_script.ensures.read_short told tells_cell tells_clock source w fits held (ap (λ (e : ServeStop). Err e) (c.serving_stop.ensures.read (err_same Read c.serving_stop.result stops))))
 
 pub returns-in-Ok-clause-long_short : goal.returns-in-Ok-clause-long_short
-returns-in-Ok-clause-long_short g c = λ told tells_cell tells_clock source settled log form is stops.
+returns-in-Ok-clause-long_short g c = λ told tells_cell tells_clock source settled log form is contents held stops.
     let P = g.P.Plant in
     let C = g.C.Cell in
     let old = c.args.plant.now in
     let mid = c.open.new.plant in
     let n = c.run_script.new in
-    let w = world_on P C c.args.config log old c.args.cell.now in
+    let w = world_on P C c.args.config log contents old c.args.cell.now in
     let f = c.in-Ok.ensures.fits told tells_cell in
-    let fits = opened_fits P C c.args.config log old mid c.args.cell.now c.open.new.cell c.in-Ok.session form is f.0 f.1 f.2 (f.3 settled) in
+    let fits = opened_fits P C c.args.config log contents old mid c.args.cell.now c.open.new.cell c.in-Ok.session form is f.0 f.1 f.2 (f.3 settled contents) in
     short_ends P C w (g.K.Clock.moments c.args.clock.now) old mid n.plant n.cell c.in-Ok.ensures.done c.in-Ok.ensures.leaves (g.S.Source.left c.args.source.now) (g.S.Source.left n.source) n.session (g.K.Clock.moments n.clock)
-    (c.in-Err-run_script.ensures.long_short told tells_cell tells_clock source w fits (ap (λ (e : ServeStop). Err e) (c.serving_stop.ensures.long (err_same TooLong c.serving_stop.result stops))))
+    (c.in-Err-run_script.ensures.long_short told tells_cell tells_clock source w fits held (ap (λ (e : ServeStop). Err e) (c.serving_stop.ensures.long (err_same TooLong c.serving_stop.result stops))))
 
 pub returns-clause-left : goal.returns-clause-left
-returns-clause-left g c = λ told tells_cell tells_clock source settled log form is.
-    not_opened g.P.Plant g.C.Cell (world_on g.P.Plant g.C.Cell c.args.config log c.args.plant.now c.args.cell.now) (g.K.Clock.moments c.args.clock.now) (lines (g.S.Source.left c.args.source.now)) c.args.plant.now c.open.new.plant c.open.new.cell
+returns-clause-left g c = λ told tells_cell tells_clock source settled log form is contents held.
+    not_opened g.P.Plant g.C.Cell (world_on g.P.Plant g.C.Cell c.args.config log contents c.args.plant.now c.args.cell.now) (g.K.Clock.moments c.args.clock.now) (lines (g.S.Source.left c.args.source.now)) c.args.plant.now c.open.new.plant c.open.new.cell
     (c.in-Err.ensures.cell tells_cell) c.in-Err.ensures.leaves

@@ -10,7 +10,7 @@ use Rattle.backup_script.specs.Running.{ScriptRan}
 use Rattle.backup_script.proofs.ServingLaws.{went_nothing, nothing_begun}
 use Rattle.backup_script.proofs.AnswerLaws.{not_false, not_true, err_is}
 use Rattle.plant_effects.proofs.Joining.{nothing_stays, stays_both}
-use Rattle.backup_script.proofs.LoopLaws.{Serving, reading_starts, reading_more, took_end, took_too_many, serving_starts, serving_more, serving_ended, serving_left, serving_short, all_left, stop_takes}
+use Rattle.backup_script.proofs.LoopLaws.{Serving, reading_starts, reading_more, took_end, took_too_many, serving_starts, serving_held, serving_more, serving_ended, serving_left, serving_short, all_left, stop_takes}
 use Rattle.backup_script.proofs.serve.run_script.Goals as goal
 use Rattle.backup_script.proofs.serve.run_script.Goals.{then-refused, else-refused}
 
@@ -29,38 +29,38 @@ loop-taken-init g c =
       read_faults = refl;
       count = λ source. omega arith;
       reading = λ source. ([], reading_starts left);
-      serving = λ told tells_cell tells_clock source w fits. serving_starts P g.C.Cell w (g.K.Clock.moments c.args.clock.now) left plant c.args.cell.now c.args.session.now c.requires
+      serving = λ told tells_cell tells_clock source w fits held. serving_starts P g.C.Cell w (g.K.Clock.moments c.args.clock.now) left plant c.args.cell.now c.args.session.now c.requires
           (λ told survives image was. g.met.P.Plant.left plant image told c.requires survives was) fits;
     }
 
 pub returns-in-Err-clause-left : goal.returns-in-Err-clause-left
-returns-in-Err-clause-left g c = λ told tells_cell tells_clock source w fits.
+returns-in-Err-clause-left g c = λ told tells_cell tells_clock source w fits held.
     let P = g.P.Plant in
     let l = c.loop-taken in
     let n = c.serve_line.new in
-    let so = l.invariant.serving told tells_cell tells_clock source w fits in
+    let so = l.invariant.serving told tells_cell tells_clock source w fits held in
     serving_left P g.C.Cell w (g.K.Clock.moments c.args.clock.now) (g.S.Source.left c.args.source.now) c.args.plant.now l.plant l.cell l.session (g.K.Clock.moments l.clock) (g.S.Source.left l.source) l.refused so n.plant n.cell
-    (c.in-Err.ensures.left told tells_cell tells_clock source (script w (g.K.Clock.moments c.args.clock.now) so.ran).world so.so_far.went.fits)
+    (c.in-Err.ensures.left told tells_cell tells_clock source (script w (g.K.Clock.moments c.args.clock.now) so.ran).world so.so_far.went.fits (serving_held P g.C.Cell w (g.K.Clock.moments c.args.clock.now) (g.S.Source.left c.args.source.now) c.args.plant.now l.plant l.cell l.session (g.K.Clock.moments l.clock) (g.S.Source.left l.source) l.refused so held))
 
 pub returns-in-Err-clause-read_short : goal.returns-in-Err-clause-read_short
-returns-in-Err-clause-read_short g c = λ told tells_cell tells_clock source w fits is.
+returns-in-Err-clause-read_short g c = λ told tells_cell tells_clock source w fits held is.
     let P = g.P.Plant in
     let l = c.loop-taken in
     let n = c.serve_line.new in
     let e = c.in-Err.ensures in
-    let so = l.invariant.serving told tells_cell tells_clock source w fits in
+    let so = l.invariant.serving told tells_cell tells_clock source w fits held in
     let took = e.took source in
     serving_short P g.C.Cell w (g.K.Clock.moments c.args.clock.now) (g.S.Source.left c.args.source.now) c.args.plant.now l.plant l.cell l.session (g.K.Clock.moments l.clock) (g.S.Source.left l.source) l.refused so n.plant n.cell n.session (g.K.Clock.moments n.clock) (g.S.Source.left n.source)
     took.0 n.taken took.1 (took.2 (inr (err_is Read c.in-Err.stop is))) (omega (arith, l.invariant.count source, e.count source)) e.within
     (e.read_short told tells_cell tells_clock (script w (g.K.Clock.moments c.args.clock.now) so.ran).world so.so_far.went.fits (ap (λ (s : ServeStop). Err s) (err_is Read c.in-Err.stop is)))
 
 pub returns-in-Err-clause-long_short : goal.returns-in-Err-clause-long_short
-returns-in-Err-clause-long_short g c = λ told tells_cell tells_clock source w fits is.
+returns-in-Err-clause-long_short g c = λ told tells_cell tells_clock source w fits held is.
     let P = g.P.Plant in
     let l = c.loop-taken in
     let n = c.serve_line.new in
     let e = c.in-Err.ensures in
-    let so = l.invariant.serving told tells_cell tells_clock source w fits in
+    let so = l.invariant.serving told tells_cell tells_clock source w fits held in
     let took = e.took source in
     serving_short P g.C.Cell w (g.K.Clock.moments c.args.clock.now) (g.S.Source.left c.args.source.now) c.args.plant.now l.plant l.cell l.session (g.K.Clock.moments l.clock) (g.S.Source.left l.source) l.refused so n.plant n.cell n.session (g.K.Clock.moments n.clock) (g.S.Source.left n.source)
     took.0 n.taken took.1 (took.2 (inl (err_is TooLong c.in-Err.stop is))) (omega (arith, l.invariant.count source, e.count source)) e.within
@@ -76,28 +76,28 @@ returns-in-Err-clause-takes g c = λ source.
     (λ long. e.long (ap (λ (s : ServeStop). Err s) long))
 
 pub returns-then-not-passed-clause-ran : goal.returns-then-not-passed-clause-ran
-returns-then-not-passed-clause-ran g c = λ told tells_cell tells_clock source w fits.
+returns-then-not-passed-clause-ran g c = λ told tells_cell tells_clock source w fits held.
     let P = g.P.Plant in
     let l = c.loop-taken in
     let n = c.serve_line.new in
     let ms = g.K.Clock.moments c.args.clock.now in
     let input = g.S.Source.left c.args.source.now in
-    let so = l.invariant.serving told tells_cell tells_clock source w fits in
+    let so = l.invariant.serving told tells_cell tells_clock source w fits held in
     let passed = c.in-Ok.passed in
     let is : c.if-refused.refused ≡ (l.refused || passed.refused) = elim c.if-refused.branch [ then-refused b ↦ b.refused-is ∙ b.if-refused.true ∙ ap (λ (x : Bool). x || passed.refused) (sym b.if-refused.true) | else-refused b ↦ b.refused-is ∙ ap (λ (x : Bool). x || passed.refused) (sym b.if-refused.false) ] in
     subst (λ (b : Bool). ScriptRan P g.C.Cell (script w ms (lines input)) c.args.plant.now n.plant n.cell n.session (g.K.Clock.moments n.clock) b) (sym is)
     (serving_ended P g.C.Cell w ms input c.args.plant.now l.plant l.cell l.session (g.K.Clock.moments l.clock) (g.S.Source.left l.source) l.refused so n.plant n.cell n.session (g.K.Clock.moments n.clock) passed.refused
-    (c.in-Ok.ensures.ended told tells_cell tells_clock source (script w ms so.ran).world so.so_far.went.fits (not_true passed.goes c.if-not-passed.true)))
+    (c.in-Ok.ensures.ended told tells_cell tells_clock source (script w ms so.ran).world so.so_far.went.fits (serving_held P g.C.Cell w (g.K.Clock.moments c.args.clock.now) (g.S.Source.left c.args.source.now) c.args.plant.now l.plant l.cell l.session (g.K.Clock.moments l.clock) (g.S.Source.left l.source) l.refused so held) (not_true passed.goes c.if-not-passed.true)))
 
 pub returns-then-not-passed-clause-left : goal.returns-then-not-passed-clause-left
-returns-then-not-passed-clause-left g c = λ told tells_cell tells_clock source w fits.
+returns-then-not-passed-clause-left g c = λ told tells_cell tells_clock source w fits held.
     let P = g.P.Plant in
     let l = c.loop-taken in
     let n = c.serve_line.new in
     let ms = g.K.Clock.moments c.args.clock.now in
     let input = g.S.Source.left c.args.source.now in
-    let so = l.invariant.serving told tells_cell tells_clock source w fits in
-    let ran = c.in-Ok.ensures.ended told tells_cell tells_clock source (script w ms so.ran).world so.so_far.went.fits (not_true c.in-Ok.passed.goes c.if-not-passed.true) in
+    let so = l.invariant.serving told tells_cell tells_clock source w fits held in
+    let ran = c.in-Ok.ensures.ended told tells_cell tells_clock source (script w ms so.ran).world so.so_far.went.fits (serving_held P g.C.Cell w (g.K.Clock.moments c.args.clock.now) (g.S.Source.left c.args.source.now) c.args.plant.now l.plant l.cell l.session (g.K.Clock.moments l.clock) (g.S.Source.left l.source) l.refused so held) (not_true c.in-Ok.passed.goes c.if-not-passed.true) in
     all_left P g.C.Cell w ms (lines input) c.args.plant.now n.plant n.cell n.session (g.K.Clock.moments n.clock) (l.refused || c.in-Ok.passed.refused)
     (serving_ended P g.C.Cell w ms input c.args.plant.now l.plant l.cell l.session (g.K.Clock.moments l.clock) (g.S.Source.left l.source) l.refused so n.plant n.cell n.session (g.K.Clock.moments n.clock) c.in-Ok.passed.refused ran)
 
@@ -134,29 +134,29 @@ loop-taken-preserved g c =
           let so = i.reading source in
           let took = (e.took source).0 on in
           (so.0 ++ strip_carriage_return took.0 ∷ [], reading_more input (g.S.Source.left l.source) (g.S.Source.left n.source) so.0 took.0 so.1 took.1 took.2);
-      serving = λ told tells_cell tells_clock source w fits.
-          let so = i.serving told tells_cell tells_clock source w fits in
+      serving = λ told tells_cell tells_clock source w fits held.
+          let so = i.serving told tells_cell tells_clock source w fits held in
           subst (λ (b : Bool). Serving P g.C.Cell w ms input c.args.plant.now n.plant n.cell n.session (g.K.Clock.moments n.clock) (g.S.Source.left n.source) b) (sym is)
           (serving_more P g.C.Cell w ms input c.args.plant.now l.plant l.cell l.session (g.K.Clock.moments l.clock) (g.S.Source.left l.source) l.refused so n.plant n.cell n.session (g.K.Clock.moments n.clock) (g.S.Source.left n.source) passed.refused
-          (e.passed told tells_cell tells_clock source (script w ms so.ran).world so.so_far.went.fits on));
+          (e.passed told tells_cell tells_clock source (script w ms so.ran).world so.so_far.went.fits (serving_held P g.C.Cell w (g.K.Clock.moments c.args.clock.now) (g.S.Source.left c.args.source.now) c.args.plant.now l.plant l.cell l.session (g.K.Clock.moments l.clock) (g.S.Source.left l.source) l.refused so held) on));
     }
 
 pub returns-clause-long_short : goal.returns-clause-long_short
-returns-clause-long_short g c = λ told tells_cell tells_clock source w fits is.
+returns-clause-long_short g c = λ told tells_cell tells_clock source w fits held is.
     let P = g.P.Plant in
     let l = c.loop-taken in
     let rest = g.S.Source.left l.source in
-    let so = l.invariant.serving told tells_cell tells_clock source w fits in
+    let so = l.invariant.serving told tells_cell tells_clock source w fits held in
     serving_short P g.C.Cell w (g.K.Clock.moments c.args.clock.now) (g.S.Source.left c.args.source.now) c.args.plant.now l.plant l.cell l.session (g.K.Clock.moments l.clock) rest l.refused so l.plant l.cell l.session (g.K.Clock.moments l.clock) rest
     [] l.taken refl (All-nil (λ b. is_feed b ≡ false)) (l.invariant.count source) l.invariant.within
     (went_nothing P g.C.Cell (script w (g.K.Clock.moments c.args.clock.now) so.ran).world (g.K.Clock.moments l.clock) l.plant l.cell l.session true l.invariant.sound so.so_far.went.fits)
 
 pub returns-clause-left : goal.returns-clause-left
-returns-clause-left g c = λ told tells_cell tells_clock source w fits.
+returns-clause-left g c = λ told tells_cell tells_clock source w fits held.
     let P = g.P.Plant in
     let l = c.loop-taken in
     let ms = g.K.Clock.moments c.args.clock.now in
-    let so = l.invariant.serving told tells_cell tells_clock source w fits in
+    let so = l.invariant.serving told tells_cell tells_clock source w fits held in
     serving_left P g.C.Cell w ms (g.S.Source.left c.args.source.now) c.args.plant.now l.plant l.cell l.session (g.K.Clock.moments l.clock) (g.S.Source.left l.source) l.refused so l.plant l.cell
     (nothing_begun P g.C.Cell (script w ms so.ran).world (g.K.Clock.moments l.clock) (lines (g.S.Source.left l.source)) l.plant l.cell l.session (λ told survives image was. g.met.P.Plant.left l.plant image told l.invariant.sound survives was) so.so_far.went.fits)
 

@@ -2,12 +2,16 @@ use Rattle.std.proofs.Common.{ℕ, List, [], ◌∷◌, sym, subst, Ok, Err, OnE
 use Rattle.plant_core.specs.Effects.{tells}
 use Rattle.plant_effects.specs.Runs.{Leaves}
 use Rattle.backup_script.specs.declared.item.Item.{Item}
-use Rattle.backup_script.specs.Running.{LineLeft}
-use Rattle.backup_script.proofs.ItemLaws.{refusal_left}
+use Rattle.backup_session.specs.Machine.{turn}
+use Rattle.backup_script.specs.Scripts.{first_of}
+use Rattle.backup_script.specs.Held.{HeldForLine}
+use Rattle.backup_script.specs.Running.{LineLeft, TurnLeft}
+use Rattle.backup_script.specs.declared.item.Item.TheVariants.{Runs}
+use Rattle.backup_script.proofs.ItemLaws.{refusal_left, runs_left, in_err}
 use Rattle.backup_script.proofs.serving.run_item.Goals as goal
 
 pub returns-in-Refused-clause-left : goal.returns-in-Refused-clause-left
-returns-in-Refused-clause-left g c = λ told tells_cell tells_clock w fits.
+returns-in-Refused-clause-left g c = λ told tells_cell tells_clock w fits held.
     let P = g.P.Plant in
     let old = c.args.plant.now in
     let new = c.tell_refusal.new.plant in
@@ -15,3 +19,15 @@ returns-in-Refused-clause-left g c = λ told tells_cell tells_clock w fits.
     let left = subst (λ (i : Item). LineLeft P g.C.Cell w ms i old new c.args.cell.now) (sym c.in-Refused.is)
     (refusal_left P g.C.Cell w ms c.in-Refused.text old old new c.args.cell.now c.args.session.now fits (subst (λ (l : List ℕ). Leaves P (tells l ∷ []) old new) c.as_slice.ensures c.tell_refusal.ensures.leaves)) in
     elim c.tell_refusal.result as (λ r. OnErr r (LineLeft P g.C.Cell w ms c.args.item old new c.args.cell.now)) [ Ok passed ↦ tt | Err stop ↦ left ]
+
+pub returns-in-Runs-clause-left : goal.returns-in-Runs-clause-left
+returns-in-Runs-clause-left g c = λ told tells_cell tells_clock w fits held.
+    let P = g.P.Plant in
+    let C = g.C.Cell in
+    let old = c.args.plant.now in
+    let n = c.run_next.new in
+    let ms = g.K.Clock.moments c.args.clock.now in
+    let command = c.in-Runs.command in
+    subst (λ (i : Item). OnErr c.run_next.result (LineLeft P C w ms i old n.plant n.cell)) (sym c.in-Runs.is)
+    (in_err c.run_next.result (TurnLeft P C w (turn w (first_of ms) command) old n.plant n.cell) (LineLeft P C w ms (Runs command) old n.plant n.cell) (runs_left P C w ms command old n.plant n.cell)
+    (c.run_next.ensures.left told tells_cell tells_clock w fits (subst (λ (i : Item). HeldForLine w ms i) c.in-Runs.is held)))

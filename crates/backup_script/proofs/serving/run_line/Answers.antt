@@ -9,7 +9,7 @@ pub returns-in-Ok-clause-goes : goal.returns-in-Ok-clause-goes
 returns-in-Ok-clause-goes g c = subst (λ (b : Bool). IfOk c.run_item.result (λ passed. passed.goes ≡ b)) (ap goes_behind c.in-Ok.ensures ∙ item_goes c.args.line.now) c.run_item.ensures.goes
 
 pub returns-in-Err-clause-left : goal.returns-in-Err-clause-left
-returns-in-Err-clause-left g c = λ told tells_cell tells_clock w fits.
+returns-in-Err-clause-left g c = λ told tells_cell tells_clock w fits held.
     let P = g.P.Plant in
     let old = c.args.plant.now in
     record {
