@@ -1,0 +1,11 @@
+pub mod Slots
+pub mod Keeping
+pub mod Effects
+pub mod Staying
+pub mod Kept
+pub mod Labels
+pub mod Verdicts
+pub mod Turns
+pub mod Scans
+pub mod Scripts
+pub mod Images

@@ -1,0 +1,10 @@
+//! A session keeps the archive that its plant holds: behind each command and each script, on the way of it, and in what a crash leaves.
+//! Definitions in `specs/`, and their laws as contracts of functions.
+#![tactic(auto)]
+
+mod laws;
+
+pub use laws::{
+    blank_worlds_hold_no_dump, commands_keep_the_archive, images_hold_the_archive,
+    images_open_to_their_archive, scripts_keep_the_archive, worlds_at_rest_hold,
+};
