@@ -1,0 +1,143 @@
+-- What a step of a dump asks, and how it keeps the archive.
+use Rattle.std.specs.Prelude.{◌≡◌, ◌⊎◌, ◌<◌, ℕ, Some, IfSome, Result, List, [], ◌∷◌, ◌++◌, length, map, slice_get, All, Contains}
+use Rattle.vnode_model.specs.declared.volumes.VolumeFields.{VolumeFields}
+use Rattle.vnode_model.specs.declared.listed.VolEntry.{VolEntry}
+use Rattle.vnode_model.specs.Increments.{selected}
+use Rattle.dump_stream.specs.Allowed.{Allowed}
+use Rattle.byte_formats.specs.Forms.{IsFour}
+use Rattle.tape_frames.specs.Layouts.{FitsLabel, FitsDumpHead, FitsVolHead}
+use Rattle.cell_core.specs.declared.stored.Taken.{Taken}
+use Rattle.cell_core.specs.Calls.{entry_at, clone_at}
+use Rattle.cell_core.specs.Cells.{IsCell}
+use Rattle.cell_core.specs.Fairness.{Fair}
+use Rattle.budb_changes.specs.declared.change.Change.{Change}
+use Rattle.budb_changes.specs.declared.records.DumpRecordFields.{DumpRecordFields}
+use Rattle.budb_changes.specs.Forms.{AreChanges}
+use Rattle.plant_core.specs.Crashes.{State}
+use Rattle.plant_core.specs.Effects.{Effect, come}
+use Rattle.plant_core.specs.Stock.{Stock}
+use Rattle.tape_text.specs.Texts.{IsBefore}
+use Rattle.tape_scan.specs.Slots.{Slot}
+use Rattle.tape_writer.specs.Room.{HasRoom, with_label}
+use Rattle.archive_model.specs.Archives.{Archive, Refusal, listed_of, IsHeld, Holds}
+use Rattle.archive_model.specs.Settled.{Kept, AreHeld}
+use Rattle.archive_model.specs.Sources.{dumped_by}
+use Rattle.archive_model.specs.Turns.{is_here, StillHeld, remaining}
+use Rattle.dump_job.specs.declared.fields.Hand.{Hand}
+use Rattle.dump_job.specs.declared.fields.JobFields.{JobFields}
+use Rattle.dump_job.specs.declared.fields.Phase.{Phase}
+use Rattle.dump_job.specs.declared.fields.Phase.TheVariants as phase
+use Rattle.dump_job.specs.Reels.{counts_on}
+use Rattle.dump_job.specs.Cloning.{volumes_done, from_time}
+use Rattle.dump_job.specs.Events.{Around, event}
+use Rattle.dump_laws.specs.Made.{Made}
+use Rattle.dump_laws.specs.Running.{basis_of, RunsIn}
+use Rattle.dump_laws.specs.Growing.{with_dump}
+
+-- ---- the forms of a dump's fields, which their types give
+
+pub record IsFormedHand (h : Hand) : Type 0 where
+  pub head : FitsVolHead h.head
+  pub bytes : All (λ b. b < 256) h.stream
+  pub count : IsFour h.bytes
+
+pub record IsFormed (j : JobFields) : Type 0 where
+  pub head : FitsDumpHead j.head
+  pub label : IfSome j.label FitsLabel
+  pub hand : IfSome j.hand IsFormedHand
+
+-- ---- what a step asks
+
+-- The tape has room for the part's head and the smallest part behind it.
+abbrev pub HasRoomBefore : JobFields → Type 0
+HasRoomBefore j = HasRoom 5 2 (with_label j.label (counts_on j.port j.reel))
+
+-- The next volume is a good one of a fair cell, and its name is behind that of the volume in hand.
+pub record CloneIsFair (a : Archive) (records : List DumpRecordFields) (around : Around) (j : JobFields) : Type 0 where
+  pub place : ℕ
+  pub entry : VolEntry
+  pub clone : Taken
+  pub at : slice_get j.places (length (volumes_done j)) ≡ Some place
+  pub listed : entry_at around.cell place ≡ Some entry
+  pub taken : clone_at around.cell place j.time ≡ Some clone
+  pub after : IfSome j.hand (λ h. IsBefore h.head.name entry.name)
+  pub cell : IsCell around.cell
+  pub fair : Fair around.cell (dumped_by a.contents records) j.time
+  pub allowed : Allowed (selected clone.volume (from_time j entry clone) clone.time)
+
+abbrev pub Asks : Archive → List DumpRecordFields → Around → JobFields → Phase → Type 0
+Asks a records around j phase.Tape = HasRoomBefore j
+Asks a records around j phase.Clone = CloneIsFair a records around j
+Asks a records around j phase.Head = Unit {0}
+Asks a records around j phase.Piece = Unit {0}
+Asks a records around j phase.VolumeEnd = Unit {0}
+Asks a records around j phase.PartEnd = Unit {0}
+Asks a records around j phase.DumpEnd = Unit {0}
+Asks a records around j phase.Over = Unit {0}
+
+-- What stands around a dump is what its archive has; its fields and what it commits have their forms; and the step has what it asks.
+pub record MayStep (a : Archive) (records : List DumpRecordFields) (around : Around) (j : JobFields) : Type 0 where
+  pub listed : around.listed ≡ listed_of a
+  pub slots : around.slots ≡ a.slots
+  pub form : IsFormed j
+  pub changes : AreChanges (event around j).changes
+  pub asks : Asks a records around j j.phase
+
+-- ---- what a step makes
+
+-- The contents stay; at a dump's end those of the dump join them.
+abbrev pub contents_behind : Archive → JobFields → Made → Phase → ℕ → List ℕ → Result VolumeFields Refusal
+contents_behind a j m phase.Tape = a.contents
+contents_behind a j m phase.Clone = a.contents
+contents_behind a j m phase.Head = a.contents
+contents_behind a j m phase.Piece = a.contents
+contents_behind a j m phase.VolumeEnd = a.contents
+contents_behind a j m phase.PartEnd = a.contents
+contents_behind a j m phase.DumpEnd = with_dump a.contents (basis_of j) m.clones
+contents_behind a j m phase.Over = a.contents
+
+-- all tapes of each listed dump are held
+abbrev pub AreAllHeld : List DumpRecordFields → List Slot → Type 0
+AreAllHeld listed slots = (d : DumpRecordFields) → Contains listed d → IsHeld d slots
+
+-- a dump that is listed now was listed then, or all of its tapes are held
+abbrev pub ListsWhole : List DumpRecordFields → List DumpRecordFields → List Slot → Type 0
+ListsWhole before listed slots = (d : DumpRecordFields) → Contains listed d → Contains before d ⊎ IsHeld d slots
+
+-- An archive on the way from one to another: it has the log and the contents of the one or of the other, the same slots are here, and each
+-- of its listed dumps is held where it was; one that was listed since is held whole.
+pub record IsOnTheWay (a z : Archive) (x : Kept) : Type 0 where
+  pub log : (x.archive.log ≡ a.log) ⊎ (x.archive.log ≡ z.log)
+  pub contents : (x.archive.contents ≡ a.contents) ⊎ (x.archive.contents ≡ z.contents)
+  pub here : map is_here x.archive.slots ≡ map is_here a.slots
+  pub still : StillHeld (listed_of x.archive) a.slots x.archive.slots
+  pub listed : ListsWhole (listed_of a) (listed_of x.archive) x.archive.slots
+
+-- These effects, by which these changes are committed, lead from an archive to one with these contents; archives on the way are held settled, one
+-- behind each effect; and the dump, as it is then, runs in the last of them.
+pub record Keeps (s : State) (a : Archive) (records : List DumpRecordFields) (contents : ℕ → List ℕ → Result VolumeFields Refusal) (effects : List Effect) (changes : List Change) (next : JobFields) : Type 0 where
+  pub before : List Kept
+  pub last : Kept
+  pub made : Made
+  pub held : AreHeld s effects (before ++ last ∷ [])
+  pub log : last.archive.log ≡ a.log ++ changes
+  pub contents_are : last.archive.contents ≡ contents
+  pub here : map is_here last.archive.slots ≡ map is_here a.slots
+  pub still : StillHeld (listed_of last.archive) a.slots last.archive.slots
+  pub listed : ListsWhole (listed_of a) (listed_of last.archive) last.archive.slots
+  pub each : All (IsOnTheWay a last.archive) before
+  pub runs : RunsIn (come effects s) last.archive last.records next made
+
+-- ---- what each image holds
+
+-- An image holds an archive on the way: its log is the one before or this one, its contents are those before or these; the same slots are
+-- here; each of its listed dumps is held where it was before them; and of the other dumps it has those that are whole yet.
+pub record ImageHolds (a : Archive) (log : List Change) (contents : ℕ → List ℕ → Result VolumeFields Refusal) (c : Stock) : Type 0 where
+  pub moment : Kept
+  pub slots : List Slot
+  pub log_is : (moment.archive.log ≡ a.log) ⊎ (moment.archive.log ≡ log)
+  pub contents_are : (moment.archive.contents ≡ a.contents) ⊎ (moment.archive.contents ≡ contents)
+  pub here : map is_here slots ≡ map is_here a.slots
+  pub still : StillHeld (listed_of moment.archive) a.slots slots
+  pub listed : ListsWhole (listed_of a) (listed_of moment.archive) slots
+  pub holds : Holds c (record moment.archive { slots = slots }) (remaining (listed_of moment.archive) slots moment.records)
