@@ -1,0 +1,10 @@
+pub mod ExpandingLaws
+pub mod Ahead
+pub mod Settling
+pub mod CourseLaws
+pub mod SettledCourses
+pub mod Ways
+pub mod EntryLaws
+pub mod Passing
+pub mod Scenes
+pub mod Steps

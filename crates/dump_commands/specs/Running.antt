@@ -1,0 +1,100 @@
+-- What is so of a plant while a dump is on its way: more may be settled on its tapes than the effects say, since a tape that is put away
+-- is settled.
+use Rattle.std.specs.Prelude.{◌≡◌, ◌≢◌, ℕ, ◌≤◌, true, List, ◌++◌, length, Option, Some, None}
+use Rattle.plant_core.specs.declared.plant.Plant.{Ghosts as Plant}
+use Rattle.plant_core.specs.Crashes.{State, IsSettled}
+use Rattle.plant_core.specs.Effects.{Effect, come}
+use Rattle.plant_effects.specs.Runs.{state_of, Leaves}
+use Rattle.cell_core.specs.declared.cell.Cell.{Ghosts as Cell}
+use Rattle.budb_changes.specs.declared.change.Change.{Change}
+use Rattle.budb.specs.Views.{BudbView}
+use Rattle.budb.specs.Kept.{Keeps}
+use Rattle.dump_job.specs.declared.answer.StepAnswer.{StepAnswer}
+use Rattle.dump_job.specs.declared.answer.StepAnswer.TheVariants as answer
+use Rattle.dump_job.specs.declared.fields.JobFields.{JobFields}
+use Rattle.dump_job.specs.declared.fields.Phase.{Phase}
+use Rattle.dump_job.specs.declared.fields.Phase.TheVariants as phase
+use Rattle.dump_job.specs.Events.{Event}
+use Rattle.dump_commands.specs.declared.running.End.{End}
+use Rattle.dump_commands.specs.declared.running.End.TheVariants.{Made, Refused}
+use Rattle.dump_commands.specs.Scenes.{Scene}
+use Rattle.dump_commands.specs.Courses.{Point, goes_on, behind, course}
+
+-- ---- more may be settled
+
+-- the same state, but that more may be settled of its tapes; no more is settled than there is
+pub record IsAhead (s t : State) : Type 0 where
+  pub log : t.log ≡ s.log
+  pub tape : (k : ℕ) → t.tape k ≡ s.tape k
+  pub told : t.told ≡ s.told
+  pub log_settled : t.log_settled ≡ s.log_settled
+  pub more : (k : ℕ) → s.settled k ≤ t.settled k
+  pub within : (k : ℕ) → t.settled k ≤ length (t.tape k)
+
+-- these effects were done, and more may be settled
+pub record DoneAhead {D : Type 0} (P : Plant D) (effects : List Effect) (old new : D) : Type 0 where
+  pub sound : P.sound new
+  pub survives : P.tells → P.survives old → P.survives new
+  pub state : P.tells → IsAhead (come effects (state_of P old)) (state_of P new)
+
+-- ---- what is settled between two events
+
+-- all but what was put on the tape of this slot
+pub record IsSettledBut (slot : ℕ) (s : State) : Type 0 where
+  pub log : s.log_settled ≡ length s.log
+  pub tapes : (k : ℕ) → k ≢ slot → s.settled k ≡ length (s.tape k)
+
+abbrev pub IsSettledAt : Phase → ℕ → State → Type 0
+IsSettledAt phase.Tape slot s = IsSettled s
+IsSettledAt phase.Clone slot s = IsSettledBut slot s
+IsSettledAt phase.Head slot s = IsSettledBut slot s
+IsSettledAt phase.Piece slot s = IsSettledBut slot s
+IsSettledAt phase.VolumeEnd slot s = IsSettledBut slot s
+IsSettledAt phase.PartEnd slot s = IsSettledBut slot s
+IsSettledAt phase.DumpEnd slot s = IsSettledBut slot s
+IsSettledAt phase.Over slot s = IsSettled s
+
+abbrev pub IsSettledFor : JobFields → State → Type 0
+IsSettledFor j s = IsSettledAt j.phase j.reel.slot s
+
+-- ---- a dump on its way
+
+-- What stands there is this point of a dump.
+pub record IsAtPoint {D E : Type 0} (P : Plant D) (C : Cell E) (s : Scene) (p : Point) (budb : BudbView) (plant : D) (site : E) (has : JobFields) : Type 0 where
+  pub keeps : Keeps p.log p.state.log budb
+  pub state : IsAhead p.state (state_of P plant)
+  pub settled : IsSettledFor p.job p.state
+  pub slots : (P.view plant).slots ≡ s.slots
+  pub present : (k : ℕ) → (P.view plant).present k ≡ s.present k
+  pub cell : C.list site ≡ s.cell
+  pub job : has ≡ p.job
+
+abbrev pub answer_of : End → StepAnswer
+answer_of (Made id) = answer.Done id
+answer_of (Refused fault) = answer.Refused fault
+
+-- a log and a state are these, all is settled, and the database keeps the log
+pub record IsOver (log : List Change) (state : State) (budb : BudbView) : Type 0 where
+  pub keeps : Keeps log state.log budb
+  pub settled : IsSettled state
+
+-- an event was done: the dump goes on from the point behind it, or it is over
+abbrev pub Moves : {D E : Type 0} → Plant D → Cell E → Scene → Point → Event → Option End → BudbView → D → E → JobFields → Type 0
+Moves P C s p e None budb plant site job = (goes_on e.answer ≡ true) × IsAtPoint P C s (behind p e) budb plant site job
+Moves P C s p e (Some end) budb plant site job = (e.answer ≡ answer_of end) × IsOver (p.log ++ e.changes) (come e.effects p.state) budb
+
+-- some events were done, and from this point on the rest of the course is left
+pub record IsOnWay {D E : Type 0} (P : Plant D) (C : Cell E) (s : Scene) (p : Point) (old : D) (budb : BudbView) (plant : D) (site : E) (job : JobFields) : Type 0 where
+  pub effects : List Effect
+  pub now : Point
+  pub at : IsAtPoint P C s now budb plant site job
+  pub state : now.state ≡ come effects p.state
+  pub done : DoneAhead P effects old plant
+  pub leaves : Leaves P effects old plant
+  pub rest : course s p ≡ record { effects = effects ++ (course s now).effects; log = (course s now).log; answer = (course s now).answer }
+
+-- all events were done
+pub record IsEnded {D : Type 0} (P : Plant D) (s : Scene) (p : Point) (end : End) (budb : BudbView) (old new : D) : Type 0 where
+  pub answer : (course s p).answer ≡ answer_of end
+  pub over : IsOver (course s p).log (come (course s p).effects p.state) budb
+  pub done : DoneAhead P (course s p).effects old new

@@ -1,0 +1,22 @@
+//! Laws, each the contract of a function without a body.
+
+ghost use Rattle.std.specs.Prelude.{◌≡◌, ◌<◌, true, false, List as AnyList};
+ghost use Rattle.vnode_model.specs.declared.listed.VolEntry.{VolEntry};
+ghost use Rattle.volume_sets.specs.declared.sets.SetEntry.{SetEntry};
+ghost use Rattle.volume_sets.specs.Expansions.{IsExpansion};
+ghost use Rattle.dump_commands.specs.Expanding.{expansion};
+ghost use Rattle.dump_commands.specs.Scenes.{Scene};
+ghost use Rattle.dump_commands.specs.Courses.{Point, goes_on, next_event, behind, last_event, event_then, events_left, course};
+
+/// The expansion of a volume set, as a function of its entries, is that of its definition.
+pub fn a_set_is_expanded()
+    ensures { (entries : AnyList SetEntry) (cell : AnyList VolEntry) → IsExpansion entries cell (expansion entries cell) }
+{}
+
+/// The course of a dump is its next event and the course behind that, or its last event alone, whatever was bounded: each event that
+/// isn't the last leaves fewer.
+pub fn a_course_goes_by_its_events()
+    ensures more { (s : Scene) (p : Point) → goes_on (next_event s p).answer ≡ true → course s p ≡ event_then (next_event s p) (course s (behind p (next_event s p))) }
+    ensures last { (s : Scene) (p : Point) → goes_on (next_event s p).answer ≡ false → course s p ≡ last_event p (next_event s p) }
+    ensures fewer { (s : Scene) (p : Point) → goes_on (next_event s p).answer ≡ true → events_left s.cell (next_event s p).job < events_left s.cell p.job }
+{}

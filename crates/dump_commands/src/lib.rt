@@ -1,0 +1,18 @@
+//! The command `dump`: what it is refused by, what it orders, what it tells of a trial, and the dump from its begin to its end.
+#![tactic(auto)]
+
+mod command;
+mod entries;
+mod laws;
+mod orders;
+mod ports;
+mod refusals;
+mod running;
+mod stop;
+mod told;
+mod trials;
+
+pub use command::DumpCommand;
+pub use laws::{a_course_goes_by_its_events, a_set_is_expanded};
+pub use stop::DumpStop;
+pub use told::Dumped;
