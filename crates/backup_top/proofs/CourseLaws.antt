@@ -24,6 +24,7 @@ use Rattle.budb_changes.specs.declared.change.Change.{Change}
 use Rattle.budb_changes.specs.Bytes.{encoded}
 use Rattle.budb_changes.specs.Forms.{AreChanges, IsLog}
 use Rattle.backup_session.specs.Worlds.{World}
+use Rattle.backup_session.specs.Bounded.{HasTapes}
 use Rattle.backup_script.specs.declared.running.RunStop.{RunStop}
 use Rattle.backup_script.specs.declared.running.RunStop.TheVariants as stop
 use Rattle.backup_script.specs.Lines.{ended, has_quit}
@@ -37,15 +38,18 @@ use Rattle.script_journals.proofs.Scripts.{script_follows}
 use Rattle.backup_top.specs.declared.status.Status.{Status}
 use Rattle.backup_top.specs.declared.status.Status.TheVariants.{Done, SomeRefused, Usage, ReadFault, MediaFault, CellFault, Memory, BadConfig, BadLog, OutputFault, ScriptTooLong}
 use Rattle.backup_top.specs.Answers.{run_status, opening_status}
-use Rattle.backup_top.specs.Courses.{Course, IsWithin, IsComplete, outcome, Leaves, LeavesShort, Runs, TakesBy, Journal, IsBadLog, RefusesJournal, Reopens, LeftImage, LeavesImages, EndsAt, HasCauseAs}
+use Rattle.backup_top.specs.Courses.{Course, IsWithin, IsComplete, outcome, Leaves, LeavesShort, Runs, TakesBy, Journal, IsBadLog, RefusesJournal, IsRefusedAt, Reopens, LeftImage, LeavesImages, EndsAt, HasCauseAs}
+use Rattle.session_archives.specs.Held.{HoldsWorld, HoldsOnTheWay}
 use Rattle.backup_top.proofs.Lowering.{alike_same, log_come, log_whole}
+use Rattle.backup_top.proofs.ArchiveLaws.{ScriptsKeep, ImagesHold, front_way, keeps_media}
 
 -- ---- what was done
 
 -- the effects were done, and the media were handed back
 pub leaves_media : (c : Course) (s : Outcome) (first last : State) → c.world.state ≡ first → c.world.state.log_settled ≡ length c.world.state.log → c.world.state.told ≡ c.before.told → c.after ≡ settled_part last
-    → Alike (come s.effects first) last → Alike s.world.state last → AreChanges s.world.log → s.world.state.log ≡ encoded s.world.log → c.cell ≡ s.world.cell → c.left ≡ s.moments → Leaves c s
-leaves_media c s first last rests settled told_at back done state form log cell clock =
+    → Alike (come s.effects first) last → Alike s.world.state last → AreChanges s.world.log → s.world.state.log ≡ encoded s.world.log → c.cell ≡ s.world.cell → c.left ≡ s.moments
+    → ImagesHold → (HoldsWorld c.world → HoldsOnTheWay c.world s.effects) → (HoldsWorld c.world → HoldsWorld s.world) → Leaves c s
+leaves_media c s first last rests settled told_at back done state form log cell clock hold way kept =
     let end : come s.effects c.world.state ≡ last = ap (come s.effects) rests ∙ alike_same (come s.effects first) last done in
     let archive : c.after ≡ settled_part (come s.effects c.world.state) = back ∙ ap settled_part (sym end) in
     let same : (come s.effects c.world.state).log ≡ encoded s.world.log = ap (λ (x : State). x.log) end ∙ state.log ∙ log in
@@ -56,17 +60,18 @@ leaves_media c s first last rests settled told_at back done state form log cell 
       form = form;
       cell = cell;
       clock = clock;
+      kept = λ held. keeps_media hold c s archive (alike_same s.world.state last state ∙ sym end) (way held) (kept held);
     }
 
-module _ {D E : Type 0} (P : Plant D) (C : Cell E) (c : Course) (w : World) (old new : D) (site : E) (same : w ≡ c.world) (leaves : (s : Outcome) → Ends P C s old new site c.left → Leaves c s) where
+module _ {D E : Type 0} (P : Plant D) (C : Cell E) (c : Course) (w : World) (old new : D) (site : E) (same : w ≡ c.world) (leaves : (these : List (List ℕ)) → Ends P C (script w c.moments these) old new site c.left → Leaves c (script w c.moments these)) where
   in_course : (these : List (List ℕ)) → Leaves c (script w c.moments these) → Leaves c (script c.world c.moments these)
   in_course these = subst (λ (v : World). Leaves c (script v c.moments these)) same
 
   short_in : EndsShort P C w c.moments c.input c.rest old new site c.left → LeavesShort c
-  short_in short = record { took = short.took; leaves = in_course (lines (ended short.took.taken)) (leaves (script w c.moments (lines (ended short.took.taken))) short.ends) }
+  short_in short = record { took = short.took; leaves = in_course (lines (ended short.took.taken)) (leaves (lines (ended short.took.taken)) short.ends) }
 
   whole_in : (refused : Bool) → Ends P C (script w c.moments (lines c.input)) old new site c.left × (refused ≡ (script w c.moments (lines c.input)).refused) → Leaves c (outcome c) × ((outcome c).refused ≡ refused)
-  whole_in refused (ends, is) = (in_course (lines c.input) (leaves (script w c.moments (lines c.input)) ends), sym (is ∙ ap (λ (v : World). (script v c.moments (lines c.input)).refused) same))
+  whole_in refused (ends, is) = (in_course (lines c.input) (leaves (lines c.input) ends), sym (is ∙ ap (λ (v : World). (script v c.moments (lines c.input)).refused) same))
 
   -- by the answer
   pub runs_of : (r : Result Bool RunStop) → IfOk r (λ refused. Ends P C (script w c.moments (lines c.input)) old new site c.left × (refused ≡ (script w c.moments (lines c.input)).refused))
@@ -155,13 +160,15 @@ told_whole start effects old new joint before after reply is some whole = elim (
   | inr within ↦ absurd (omega (arith, some, whole, told_short start effects before (tells reply ∷ after) old new joint is within))
 ]
 
--- The effects of a world whose log is settled: what its journal is after the first of them.
+-- The effects of a world whose log is settled: what its journal is after the first of them, and that they keep the archive.
 pub record Journaled (w : World) (effects : List Effect) : Type 0 where
   pub settled : w.state.log_settled ≡ length w.state.log
   pub form : AreChanges w.log
   pub is : w.state.log ≡ encoded w.log
   pub last : List Change
   pub after : IsJournalAfter w.log effects last
+  pub way : HoldsWorld w → HoldsOnTheWay w effects
+  pub images : ImagesHold
 
 front_journal : (w : World) (effects : List Effect) (n : ℕ) → Journaled w effects → (mid : List Change) × IsJournalAfter w.log (take n effects) mid
 front_journal w effects n j = journal_front (take n effects) (drop n effects) w.log j.last (subst (λ (es : List Effect). IsJournalAfter w.log es j.last) (sym (take-append-drop n effects)) j.after)
@@ -189,21 +196,38 @@ image_of w effects old new j joint =
       events = events;
       reopens = opens_again w effects joint.count new.log j events;
       acknowledged = told_whole w.state effects old new joint;
+      archive = λ held. j.images w effects old new (j.way held) joint;
     }
 
 pub images_of : {D : Type 0} (time : Moments D Image) (old new : D) (w : World) (effects : List Effect) → Journaled w effects → LeavesSince time old new (λ a b. Joint w.state effects (stock_of a) (stock_of b)) → LeavesImages time old new w effects
 images_of time old new w effects j images = λ c left. let at = images c left in record { from = at.from; was = at.was; step = image_of w effects (stock_of at.from) (stock_of c) j at.step }
 
 -- the script of a course
-pub journaled : (c : Course) → c.world.state.log_settled ≡ length c.world.state.log → AreChanges c.world.log → c.world.state.log ≡ encoded c.world.log → Journaled c.world (outcome c).effects
-journaled c settled form is = record { settled = settled; form = form; is = is; last = (outcome c).world.log; after = script_follows c.world c.moments (lines c.input) form }
+pub journaled : ScriptsKeep → ImagesHold → (c : Course) → HasTapes c.world → c.world.state.log_settled ≡ length c.world.state.log → AreChanges c.world.log → c.world.state.log ≡ encoded c.world.log → Journaled c.world (outcome c).effects
+journaled keep hold c has settled form is = record {
+  settled = settled;
+  form = form;
+  is = is;
+  last = (outcome c).world.log;
+  after = script_follows c.world c.moments (lines c.input) has form;
+  way = keep c.world c.moments (lines c.input);
+  images = hold;
+}
 
 -- a stage of it
 stage_journaled : (c : Course) (stage : Stage) → IsStage [] c.world c.moments (lines c.input) stage → Journaled c.world (outcome c).effects → Journaled c.world stage.effects
 stage_journaled c stage on j =
     let more = stage_whole [] c.world c.moments (lines c.input) stage on in
     let front = journal_front stage.effects more.0 c.world.log j.last (subst (λ (es : List Effect). IsJournalAfter c.world.log es j.last) more.1 j.after) in
-    record { settled = j.settled; form = j.form; is = j.is; last = front.0; after = front.1 }
+    record {
+      settled = j.settled;
+      form = j.form;
+      is = j.is;
+      last = front.0;
+      after = front.1;
+      way = λ held. front_way c.world stage.effects more.0 (subst (λ (es : List Effect). HoldsOnTheWay c.world es) more.1 (j.way held));
+      images = j.images;
+    }
 
 -- however it ended
 pub ends_at : {D : Type 0} (time : Moments D Image) (seen : D → Image) (old new : D) (c : Course) (stage : Stage) → IsStage [] c.world c.moments (lines c.input) stage → c.cell ≡ stage.cell → Journaled c.world (outcome c).effects
@@ -237,15 +261,26 @@ not_too_long input rest took within = elim within [
     same_bool : true ≡ false → ⊥
     same_bool is = cc
 
-pub complete_by : (c : Course) (s : Status) → Runs c s → TakesBy c.input c.rest s → IsWithin c.input → (s ≡ MediaFault → ⊥) → (s ≡ CellFault → ⊥) → (s ≡ OutputFault → ⊥) → (s ≡ ReadFault → ⊥) → IsComplete s
-complete_by c Done runs takes within media cell output read = tt
-complete_by c SomeRefused runs takes within media cell output read = tt
-complete_by c Memory runs takes within media cell output read = tt
-complete_by c Usage runs takes within media cell output read = runs
-complete_by c (BadConfig line) runs takes within media cell output read = runs
-complete_by c (BadLog at) runs takes within media cell output read = runs
-complete_by c MediaFault runs takes within media cell output read = media refl
-complete_by c CellFault runs takes within media cell output read = cell refl
-complete_by c OutputFault runs takes within media cell output read = output refl
-complete_by c ReadFault runs takes within media cell output read = read refl
-complete_by c ScriptTooLong runs takes within media cell output read = not_too_long c.input c.rest takes within
+-- a configuration isn't both of the form and refused, and a list of changes isn't refused as none
+pub never_refused : (config : List ℕ) (settings : Settings) (line : ℕ) → config_of config ≡ Ok settings → IsRefusedAt config line → ⊥
+never_refused config settings line says refused = not_both (sym says ∙ refused.says)
+  where
+    not_both : Ok settings ≡ Err refused.fault → ⊥
+    not_both is = cc
+
+pub never_bad_log : (stock : Stock) (at : ℕ) → Journal stock → IsBadLog stock.log at → ⊥
+never_bad_log stock at journal bad = (subst (λ (l : Option (List ℕ)). IsBadLog l at) journal.is bad).not_whole (journal.log, journal.form, refl)
+
+pub complete_by : (input rest : List ℕ) (s : Status) → TakesBy input rest s → IsWithin input → (s ≡ Usage → ⊥) → ((line : ℕ) → s ≡ BadConfig line → ⊥) → ((at : ℕ) → s ≡ BadLog at → ⊥)
+    → (s ≡ MediaFault → ⊥) → (s ≡ CellFault → ⊥) → (s ≡ OutputFault → ⊥) → (s ≡ ReadFault → ⊥) → IsComplete s
+complete_by input rest Done takes within usage config log media cell output read = tt
+complete_by input rest SomeRefused takes within usage config log media cell output read = tt
+complete_by input rest Memory takes within usage config log media cell output read = tt
+complete_by input rest Usage takes within usage config log media cell output read = usage refl
+complete_by input rest (BadConfig line) takes within usage config log media cell output read = config line refl
+complete_by input rest (BadLog at) takes within usage config log media cell output read = log at refl
+complete_by input rest MediaFault takes within usage config log media cell output read = media refl
+complete_by input rest CellFault takes within usage config log media cell output read = cell refl
+complete_by input rest OutputFault takes within usage config log media cell output read = output refl
+complete_by input rest ReadFault takes within usage config log media cell output read = read refl
+complete_by input rest ScriptTooLong takes within usage config log media cell output read = not_too_long input rest takes within

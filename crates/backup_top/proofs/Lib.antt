@@ -2,4 +2,6 @@ mod TellLaws
 mod InputLaws
 pub mod ImageLaws
 mod Lowering
+mod TapeCounts
+mod ArchiveLaws
 mod CourseLaws

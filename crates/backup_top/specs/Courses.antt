@@ -1,5 +1,5 @@
 -- What a run of a script finds, and what it leaves.
-use Rattle.std.specs.Prelude.{◌≡◌, ◌≢◌, ◌⊎◌, ℕ, ◌+◌, ◌<◌, ◌≤◌, List, [], ◌∷◌, ◌++◌, length, take, Bool, true, false, Option, Some, None, Ok, Err}
+use Rattle.std.specs.Prelude.{◌≡◌, ◌≢◌, ◌⊎◌, ℕ, ◌+◌, ◌-◌, ◌<◌, ◌≤◌, List, [], ◌∷◌, ◌++◌, length, take, Bool, true, false, Option, Some, None, Ok, Err}
 use Rattle.std.specs.Str.Lines.{lines}
 use Rattle.bk_text.specs.Places.{FailsAt}
 use Rattle.crash_moments.specs.Moments.{Moments, Stepped, LeavesSince, Rose}
@@ -15,12 +15,14 @@ use Rattle.tape_config.specs.declared.fault.ConfigFault.{ConfigFault}
 use Rattle.budb_changes.specs.declared.change.Change.{Change}
 use Rattle.budb_changes.specs.Bytes.{encoded}
 use Rattle.budb_changes.specs.Forms.{AreChanges, IsLog}
-use Rattle.backup_session.specs.Worlds.{World}
+use Rattle.backup_session.specs.Worlds.{World, Contents}
 use Rattle.backup_session.specs.Opening.{opened}
 use Rattle.backup_script.specs.Lines.{ended, has_quit, most_script}
 use Rattle.backup_script.specs.Scripts.{Outcome, script, Stage, IsStage}
+use Rattle.backup_script.specs.Held.{IsHeldThroughout}
 use Rattle.backup_script.specs.Running.{Took, TookAll, TookToQuit, TookTooMany}
 use Rattle.script_journals.specs.Journals.{IsJournalAfter}
+use Rattle.session_archives.specs.Held.{HoldsWorld, HoldsImage}
 use Rattle.backup_top.specs.Answers.{config_status}
 use Rattle.backup_top.specs.declared.status.Status.{Status}
 use Rattle.backup_top.specs.declared.status.Status.TheVariants.{Done, SomeRefused, Usage, ReadFault, MediaFault, CellFault, Memory, BadConfig, BadLog, OutputFault, ScriptTooLong}
@@ -54,9 +56,10 @@ IsBadLog (Some bytes) at = FailsAt IsLog bytes at
 abbrev pub at_rest : List ℕ → Stock → State
 at_rest log stock = record { log = log; tape = stock.tape; told = stock.told; log_settled = length log; settled = λ k. length (stock.tape k) }
 
--- The world that a run finds: the configuration, the changes of the journal, the cell, and what stands on the media.
-abbrev pub world_at : Settings → (ℕ → Bool) → List Change → List Stored → Stock → World
-world_at config present log cell stock = opened (record { config = config; present = slots_here present }) log cell (at_rest (encoded log) stock)
+-- The world that a run finds: the configuration, the changes of the journal, the cell, the contents of the dumps, and what stands on the
+-- media. Of so many files the first is the journal, and each other one a slot.
+abbrev pub world_at : Settings → ℕ → (ℕ → Bool) → List Change → List Stored → Contents → Stock → World
+world_at config files present log cell contents stock = opened (record { config = config; slots = files - 1; present = slots_here present }) log cell contents (at_rest (encoded log) stock)
 
 -- ---- a course: a run of a script from its entry to its exit
 
@@ -72,10 +75,10 @@ pub record Course : Type 0 where
   pub after : Stock
   pub cell : List Stored
 
--- that of these media, this cell, this clock and this source, at the entry and at the exit
-abbrev pub course : {D : Type 0} → (D → Image) → (D → ℕ → Bool) → Settings → List Change → D → D → List Stored → List Stored → List ℕ → List ℕ → List ℕ → List ℕ → Course
-course seen present config log old new cell_old cell_new moments left input rest = record {
-  world = world_at config (present old) log cell_old (stock_of (seen old));
+-- that of these media, this cell, this clock and this source, at the entry and at the exit, whatever contents the dumps have
+abbrev pub course : {D : Type 0} → (D → Image) → (D → ℕ) → (D → ℕ → Bool) → Settings → List Change → Contents → D → D → List Stored → List Stored → List ℕ → List ℕ → List ℕ → List ℕ → Course
+course seen count present config log contents old new cell_old cell_new moments left input rest = record {
+  world = world_at config (count old) (present old) log cell_old contents (stock_of (seen old));
   moments = moments;
   left = left;
   input = input;
@@ -86,14 +89,25 @@ course seen present config log old new cell_old cell_new moments left input rest
 }
 
 -- the same, of what is at the entry
-abbrev pub course_of : {D : Type 0} {config : List ℕ} (seen : D → Image) (present : D → ℕ → Bool) (old : D) → Entry config (stock_of (seen old)) → D → List Stored → List Stored → List ℕ → List ℕ → List ℕ → List ℕ → Course
-course_of seen present old entry new cell_old cell_new moments left input rest = course seen present entry.settings entry.journal.log old new cell_old cell_new moments left input rest
+abbrev pub course_of : {D : Type 0} {config : List ℕ} (seen : D → Image) (count : D → ℕ) (present : D → ℕ → Bool) → Contents → (old : D) → Entry config (stock_of (seen old)) → D → List Stored → List Stored → List ℕ → List ℕ → List ℕ → List ℕ → Course
+course_of seen count present contents old entry new cell_old cell_new moments left input rest = course seen count present entry.settings entry.journal.log contents old new cell_old cell_new moments left input rest
+
+-- each of its commands that asks the archive finds media that hold it; so it is of every script without such a command
+abbrev pub FindsHeld : Course → Type 0
+FindsHeld c = IsHeldThroughout c.world c.moments (lines c.input)
 
 -- what comes of its script
 abbrev pub outcome : Course → Outcome
 outcome c = script c.world c.moments (lines c.input)
 
+-- The archive behind a script: the world that it leaves is held, and the media at the exit hold the archive of its changes and of their tapes,
+-- with what the dumps had at the entry.
+pub record KeepsArchive (c : Course) (s : Outcome) : Type 0 where
+  pub world : HoldsWorld s.world
+  pub media : HoldsImage c.world s.effects c.after
+
 -- What is left where all of this was done. The journal and the tapes are those of the entry with these effects, so far as they are settled.
+-- Where the media held the archive at the entry they hold it at the exit.
 pub record Leaves (c : Course) (s : Outcome) : Type 0 where
   pub told : c.after.told ≡ c.before.told ++ told_by s.effects
   pub archive : c.after ≡ settled_part (come s.effects c.world.state)
@@ -101,6 +115,7 @@ pub record Leaves (c : Course) (s : Outcome) : Type 0 where
   pub form : AreChanges s.world.log
   pub cell : c.cell ≡ s.world.cell
   pub clock : c.left ≡ s.moments
+  pub kept : HoldsWorld c.world → KeepsArchive c s
 
 -- cut short by a read or the limit: the lines that were ended were run
 pub record LeavesShort (c : Course) : Type 0 where
@@ -181,13 +196,15 @@ pub record Reopens (log : List Change) (effects : List Effect) (found : Option (
 
 -- What a crash leaves of a run, from the world at the entry: what the crash model leaves after the first effects of the script, for
 -- ONE count of them. The journal isn't damaged, and is that after these effects, so that it opens again. A reply that was told whole is
--- among them.
+-- among them. Where the media held the archive at the entry the image holds that of its changes and of its tapes: each listed dump lies
+-- where it lay behind these effects, with the contents that it had.
 pub record LeftImage (w : World) (effects : List Effect) (old new : Stock) : Type 0 where
   pub joint : Joint w.state effects old new
   pub events : new.log ≡ Some (come (take joint.count effects) w.state).log
   pub reopens : Reopens w.log (take joint.count effects) new.log
   pub acknowledged : (before after : List Effect) (reply : List ℕ) → effects ≡ before ++ tells reply ∷ after → 0 < length reply
       → length w.state.told + length (told_by before) + length reply ≤ length new.told → length before < joint.count
+  pub archive : HoldsWorld w → HoldsImage w (take joint.count effects) new
 
 -- each image since the entry
 abbrev pub LeavesImages : {D : Type 0} → Moments D Image → D → D → World → List Effect → Type 0

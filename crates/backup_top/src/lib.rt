@@ -1,6 +1,7 @@
 //! The program as a library: its top call, and the program over whatever it reads and prints to.
 #![tactic(auto)]
 
+mod archives;
 mod edge;
 mod input;
 mod lines;
@@ -13,6 +14,7 @@ mod telling;
 mod top;
 mod words;
 
+pub use archives::an_image_is_an_entry;
 pub use edge::{explain, program, words_of};
 pub use status::Status;
 pub use top::run;

@@ -7,13 +7,15 @@ ghost use Rattle.tape_config.specs.Configs.{Settings, config_of};
 ghost use Rattle.tape_config.specs.declared.fault.ConfigFault.{ConfigFault as AnyFault};
 ghost use Rattle.backup_top.specs.declared.status.Status.TheVariants.{Usage, ReadFault, MediaFault, CellFault, OutputFault, BadConfig, BadLog, Memory};
 ghost use Rattle.backup_top.specs.Answers.{config_status};
-ghost use Rattle.backup_top.specs.Courses.{course_of, Entry, Journal, IsBadLog, IsRefusedAt, RefusesJournal, Runs, TakesBy, EndsAt, LeavesImages, outcome, HasCauseAs};
+ghost use Rattle.backup_session.specs.Worlds.{Contents};
+ghost use Rattle.backup_top.specs.Courses.{course_of, Entry, Journal, IsBadLog, IsRefusedAt, RefusesJournal, Runs, TakesBy, EndsAt, LeavesImages, FindsHeld, outcome, HasCauseAs};
 
 use crate::running::run_media;
 use crate::status::Status;
 use crate::statuses::of_config;
 use cell_core::Cell;
 use media_core::{Clock, Media, Source};
+use session_archives::{images_hold_the_archive, scripts_keep_the_archive};
 use std::alloc::Global;
 use tape_config::Config;
 
@@ -26,13 +28,15 @@ pub fn run_mode<M: Media, C: Cell, K: Clock, S: Source>(
     clock: &mut K,
     source: &mut S,
 ) -> (Status, M)
-    ensures runs { M.tells → C.tells → K.tells → S.tells → (entry : Entry config.now (stock_of (M.seen media)))
-        → Runs (course_of M.seen M.present media entry result.1 (C.list cell.old) (C.list cell.new) (K.moments clock.old) (K.moments clock.new) (S.left source.old) (S.left source.new)) result.0 }
-    ensures images { M.tells → C.tells → K.tells → S.tells → AreStill M.time M.seen media → (entry : Entry config.now (stock_of (M.seen media)))
-        → let c = course_of M.seen M.present media entry result.1 (C.list cell.old) (C.list cell.new) (K.moments clock.old) (K.moments clock.new) (S.left source.old) (S.left source.new) in
-        LeavesImages M.time media result.1 c.world (outcome c).effects }
-    ensures ends { M.tells → C.tells → K.tells → S.tells → AreStill M.time M.seen media → (entry : Entry config.now (stock_of (M.seen media)))
-        → EndsAt M.time M.seen media result.1 (course_of M.seen M.present media entry result.1 (C.list cell.old) (C.list cell.new) (K.moments clock.old) (K.moments clock.new) (S.left source.old) (S.left source.new)) }
+    ensures runs { M.tells → C.tells → K.tells → S.tells → (entry : Entry config.now (stock_of (M.seen media))) → (contents : Contents)
+        → let c = course_of M.seen M.count M.present contents media entry result.1 (C.list cell.old) (C.list cell.new) (K.moments clock.old) (K.moments clock.new) (S.left source.old) (S.left source.new) in
+        FindsHeld c → Runs c result.0 }
+    ensures images { M.tells → C.tells → K.tells → S.tells → AreStill M.time M.seen media → (entry : Entry config.now (stock_of (M.seen media))) → (contents : Contents)
+        → let c = course_of M.seen M.count M.present contents media entry result.1 (C.list cell.old) (C.list cell.new) (K.moments clock.old) (K.moments clock.new) (S.left source.old) (S.left source.new) in
+        FindsHeld c → LeavesImages M.time media result.1 c.world (outcome c).effects }
+    ensures ends { M.tells → C.tells → K.tells → S.tells → AreStill M.time M.seen media → (entry : Entry config.now (stock_of (M.seen media))) → (contents : Contents)
+        → let c = course_of M.seen M.count M.present contents media entry result.1 (C.list cell.old) (C.list cell.new) (K.moments clock.old) (K.moments clock.new) (S.left source.old) (S.left source.new) in
+        FindsHeld c → EndsAt M.time M.seen media result.1 c }
     ensures takes { S.tells → TakesBy (S.left source.old) (S.left source.new) result.0 }
     ensures bad_config { (line : ℕ) → result.0 ≡ BadConfig line → IsRefusedAt config.now line }
     ensures only_bad_config { (fault : AnyFault) → config_of config.now ≡ Err fault → (result.0 ≡ config_status fault) ⊎ (result.0 ≡ Memory) }
@@ -52,6 +56,8 @@ pub fn run_mode<M: Media, C: Cell, K: Clock, S: Source>(
     ensures read_later { S.faults source.old ≤ S.faults source.new }
     ensures usage { result.0 ≡ Usage → ⊥ }
 {
+    scripts_keep_the_archive();
+    images_hold_the_archive();
     match Config::parse(alloc, config) {
         Ok(config) => run_media(alloc, config, media, cell, clock, source),
         Err(fault) => (of_config(fault), media),

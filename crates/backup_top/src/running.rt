@@ -4,7 +4,8 @@ ghost use Rattle.std.specs.Prelude.{◌≡◌, ◌≤◌, ℕ};
 ghost use Rattle.media_core.specs.Still.{AreStill};
 ghost use Rattle.plant_media.specs.Stock.{stock_of};
 ghost use Rattle.backup_top.specs.declared.status.Status.TheVariants.{ReadFault, MediaFault, CellFault, OutputFault, BadLog};
-ghost use Rattle.backup_top.specs.Courses.{course, Journal, IsBadLog, IsRunStatus, RefusesJournal, Runs, TakesBy, EndsAt, LeavesImages, outcome, HasCauseAs};
+ghost use Rattle.backup_session.specs.Worlds.{Contents};
+ghost use Rattle.backup_top.specs.Courses.{course, Journal, IsBadLog, IsRunStatus, RefusesJournal, Runs, TakesBy, EndsAt, LeavesImages, FindsHeld, outcome, HasCauseAs};
 
 use crate::status::Status;
 use crate::statuses::{of_opening, of_run};
@@ -12,6 +13,7 @@ use backup_script::run_on;
 use cell_core::Cell;
 use media_core::{Clock, Media, Source};
 use plant_media::MediaPlant;
+use session_archives::{images_hold_the_archive, scripts_keep_the_archive};
 use std::alloc::Global;
 use tape_config::Config;
 
@@ -24,13 +26,15 @@ pub fn run_media<M: Media, C: Cell, K: Clock, S: Source>(
     clock: &mut K,
     source: &mut S,
 ) -> (Status, M)
-    ensures runs { M.tells → C.tells → K.tells → S.tells → (journal : Journal (stock_of (M.seen media)))
-        → Runs (course M.seen M.present config journal.log media result.1 (C.list cell.old) (C.list cell.new) (K.moments clock.old) (K.moments clock.new) (S.left source.old) (S.left source.new)) result.0 }
-    ensures images { M.tells → C.tells → K.tells → S.tells → AreStill M.time M.seen media → (journal : Journal (stock_of (M.seen media)))
-        → let c = course M.seen M.present config journal.log media result.1 (C.list cell.old) (C.list cell.new) (K.moments clock.old) (K.moments clock.new) (S.left source.old) (S.left source.new) in
-        LeavesImages M.time media result.1 c.world (outcome c).effects }
-    ensures ends { M.tells → C.tells → K.tells → S.tells → AreStill M.time M.seen media → (journal : Journal (stock_of (M.seen media)))
-        → EndsAt M.time M.seen media result.1 (course M.seen M.present config journal.log media result.1 (C.list cell.old) (C.list cell.new) (K.moments clock.old) (K.moments clock.new) (S.left source.old) (S.left source.new)) }
+    ensures runs { M.tells → C.tells → K.tells → S.tells → (journal : Journal (stock_of (M.seen media))) → (contents : Contents)
+        → let c = course M.seen M.count M.present config journal.log contents media result.1 (C.list cell.old) (C.list cell.new) (K.moments clock.old) (K.moments clock.new) (S.left source.old) (S.left source.new) in
+        FindsHeld c → Runs c result.0 }
+    ensures images { M.tells → C.tells → K.tells → S.tells → AreStill M.time M.seen media → (journal : Journal (stock_of (M.seen media))) → (contents : Contents)
+        → let c = course M.seen M.count M.present config journal.log contents media result.1 (C.list cell.old) (C.list cell.new) (K.moments clock.old) (K.moments clock.new) (S.left source.old) (S.left source.new) in
+        FindsHeld c → LeavesImages M.time media result.1 c.world (outcome c).effects }
+    ensures ends { M.tells → C.tells → K.tells → S.tells → AreStill M.time M.seen media → (journal : Journal (stock_of (M.seen media))) → (contents : Contents)
+        → let c = course M.seen M.count M.present config journal.log contents media result.1 (C.list cell.old) (C.list cell.new) (K.moments clock.old) (K.moments clock.new) (S.left source.old) (S.left source.new) in
+        FindsHeld c → EndsAt M.time M.seen media result.1 c }
     ensures takes { S.tells → TakesBy (S.left source.old) (S.left source.new) result.0 }
     ensures bad_log { M.tells → (at : ℕ) → result.0 ≡ BadLog at → IsBadLog (stock_of (M.seen media)).log at }
     ensures only_bad_log { M.tells → C.tells → (Journal (stock_of (M.seen media)) → ⊥) → RefusesJournal result.0 }
@@ -46,6 +50,8 @@ pub fn run_media<M: Media, C: Cell, K: Clock, S: Source>(
     ensures read_later { S.faults source.old ≤ S.faults source.new }
     ensures statuses { IsRunStatus result.0 }
 {
+    scripts_keep_the_archive();
+    images_hold_the_archive();
     match MediaPlant::open(media) {
         Ok(mut plant) => {
             let answer = run_on(alloc, config, &mut plant, cell, clock, source);

@@ -5,42 +5,43 @@ use Rattle.tape_config.specs.Configs.{Settings}
 use Rattle.budb_changes.specs.Bytes.{encoded}
 use Rattle.backup_script.specs.Scripts.{between}
 use Rattle.backup_script.proofs.StageLaws.{stage_front}
-use Rattle.backup_top.specs.Courses.{Course, course, course_of, Runs, LeavesImages, outcome}
+use Rattle.backup_top.specs.Courses.{Course, course, course_of, FindsHeld, Runs, LeavesImages, outcome}
 use Rattle.backup_top.proofs.Lowering.{still_left, nothing_since}
+use Rattle.backup_top.proofs.TapeCounts.{has_tapes}
 use Rattle.backup_top.proofs.CourseLaws.{settings_same, journaled, images_of, ends_at}
 use Rattle.backup_top.proofs.run_mode.run_mode.Goals as goal
 
 pub returns-in-Ok-clause-runs : goal.returns-in-Ok-clause-runs
-returns-in-Ok-clause-runs g c = λ told tells_cell tells_clock source entry.
+returns-in-Ok-clause-runs g c = λ told tells_cell tells_clock source entry contents.
     let M = g.M.Media in
     let n = c.run_media.new in
-    subst (λ (s : Settings). Runs (course M.seen M.present s entry.journal.log c.args.media c.run_media.result.1 (g.C.Cell.list c.args.cell.now) (g.C.Cell.list n.cell) (g.K.Clock.moments c.args.clock.now) (g.K.Clock.moments n.clock) (g.S.Source.left c.args.source.now) (g.S.Source.left n.source)) c.run_media.result.0)
+    subst (λ (s : Settings). let k : Course = course M.seen M.count M.present s entry.journal.log contents c.args.media c.run_media.result.1 (g.C.Cell.list c.args.cell.now) (g.C.Cell.list n.cell) (g.K.Clock.moments c.args.clock.now) (g.K.Clock.moments n.clock) (g.S.Source.left c.args.source.now) (g.S.Source.left n.source) in FindsHeld k → Runs k c.run_media.result.0)
     (settings_same c.args.config.now c.in-Ok.config entry.settings c.in-Ok.ensures entry.says)
-    (c.run_media.ensures.runs told tells_cell tells_clock source entry.journal)
+    (c.run_media.ensures.runs told tells_cell tells_clock source entry.journal contents)
 
 pub returns-in-Ok-clause-images : goal.returns-in-Ok-clause-images
-returns-in-Ok-clause-images g c = λ told tells_cell tells_clock source still entry.
+returns-in-Ok-clause-images g c = λ told tells_cell tells_clock source still entry contents.
     let M = g.M.Media in
     let n = c.run_media.new in
-    subst (λ (s : Settings). let k : Course = course M.seen M.present s entry.journal.log c.args.media c.run_media.result.1 (g.C.Cell.list c.args.cell.now) (g.C.Cell.list n.cell) (g.K.Clock.moments c.args.clock.now) (g.K.Clock.moments n.clock) (g.S.Source.left c.args.source.now) (g.S.Source.left n.source) in
-    LeavesImages M.time c.args.media c.run_media.result.1 k.world (outcome k).effects)
+    subst (λ (s : Settings). let k : Course = course M.seen M.count M.present s entry.journal.log contents c.args.media c.run_media.result.1 (g.C.Cell.list c.args.cell.now) (g.C.Cell.list n.cell) (g.K.Clock.moments c.args.clock.now) (g.K.Clock.moments n.clock) (g.S.Source.left c.args.source.now) (g.S.Source.left n.source) in
+    FindsHeld k → LeavesImages M.time c.args.media c.run_media.result.1 k.world (outcome k).effects)
     (settings_same c.args.config.now c.in-Ok.config entry.settings c.in-Ok.ensures entry.says)
-    (c.run_media.ensures.images told tells_cell tells_clock source still entry.journal)
+    (c.run_media.ensures.images told tells_cell tells_clock source still entry.journal contents)
 
 pub returns-in-Err-clause-images : goal.returns-in-Err-clause-images
-returns-in-Err-clause-images g c = λ told tells_cell tells_clock source still entry.
+returns-in-Err-clause-images g c = λ told tells_cell tells_clock source still entry contents held.
     let M = g.M.Media in
     let media = c.args.media in
     let bytes = encoded entry.journal.log in
-    let k : Course = course_of M.seen M.present media entry media (g.C.Cell.list c.args.cell.now) (g.C.Cell.list c.args.cell.now) (g.K.Clock.moments c.args.clock.now) (g.K.Clock.moments c.args.clock.now) (g.S.Source.left c.args.source.now) (g.S.Source.left c.args.source.now) in
-    images_of M.time media media k.world (outcome k).effects (journaled k refl entry.journal.form refl)
+    let k : Course = course_of M.seen M.count M.present contents media entry media (g.C.Cell.list c.args.cell.now) (g.C.Cell.list c.args.cell.now) (g.K.Clock.moments c.args.clock.now) (g.K.Clock.moments c.args.clock.now) (g.S.Source.left c.args.source.now) (g.S.Source.left c.args.source.now) in
+    images_of M.time media media k.world (outcome k).effects (journaled c.scripts_keep_the_archive.ensures.on_the_way c.images_hold_the_archive.ensures k (has_tapes k.world (M.present media) (M.seen media) (M.count media) refl refl (g.met.M.Media.here_below media) (g.met.M.Media.few_files media)) refl entry.journal.form refl)
     (nothing_since M.time M.seen media bytes media (outcome k).effects (still_left M.time M.seen media bytes still (λ image was. g.met.M.Media.told_left media image told was) entry.journal.is) (stays M.time media))
 
 pub returns-in-Err-clause-ends : goal.returns-in-Err-clause-ends
-returns-in-Err-clause-ends g c = λ told tells_cell tells_clock source still entry.
+returns-in-Err-clause-ends g c = λ told tells_cell tells_clock source still entry contents held.
     let M = g.M.Media in
     let media = c.args.media in
     let bytes = encoded entry.journal.log in
-    let k : Course = course_of M.seen M.present media entry media (g.C.Cell.list c.args.cell.now) (g.C.Cell.list c.args.cell.now) (g.K.Clock.moments c.args.clock.now) (g.K.Clock.moments c.args.clock.now) (g.S.Source.left c.args.source.now) (g.S.Source.left c.args.source.now) in
-    ends_at M.time M.seen media media k (between [] k.world) (stage_front [] k.world k.moments (lines k.input)) refl (journaled k refl entry.journal.form refl) (stays M.time media).later (g.met.M.Media.seen_may_be_left media told)
+    let k : Course = course_of M.seen M.count M.present contents media entry media (g.C.Cell.list c.args.cell.now) (g.C.Cell.list c.args.cell.now) (g.K.Clock.moments c.args.clock.now) (g.K.Clock.moments c.args.clock.now) (g.S.Source.left c.args.source.now) (g.S.Source.left c.args.source.now) in
+    ends_at M.time M.seen media media k (between [] k.world) (stage_front [] k.world k.moments (lines k.input)) refl (journaled c.scripts_keep_the_archive.ensures.on_the_way c.images_hold_the_archive.ensures k (has_tapes k.world (M.present media) (M.seen media) (M.count media) refl refl (g.met.M.Media.here_below media) (g.met.M.Media.few_files media)) refl entry.journal.form refl) (stays M.time media).later (g.met.M.Media.seen_may_be_left media told)
     (nothing_since M.time M.seen media bytes media [] (still_left M.time M.seen media bytes still (λ image was. g.met.M.Media.told_left media image told was) entry.journal.is) (stays M.time media))

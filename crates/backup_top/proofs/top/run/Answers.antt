@@ -1,38 +1,59 @@
 use Rattle.std.proofs.Common.{[], refl}
 use Rattle.std.specs.Str.Lines.{lines}
 use Rattle.crash_moments.proofs.Joining.{stays}
+use Rattle.plant_media.specs.Stock.{stock_of}
 use Rattle.budb_changes.specs.Bytes.{encoded}
 use Rattle.backup_script.specs.Scripts.{between}
 use Rattle.backup_script.proofs.StageLaws.{stage_front}
 use Rattle.backup_top.specs.Courses.{Course, course_of, outcome}
 use Rattle.backup_top.proofs.Lowering.{still_left, nothing_since}
-use Rattle.backup_top.proofs.CourseLaws.{journaled, images_of, ends_at, complete_by}
+use Rattle.plant_media.specs.Laws.{below}
+use Rattle.backup_top.proofs.TapeCounts.{has_tapes}
+use Rattle.backup_top.proofs.ArchiveLaws.{holds_world}
+use Rattle.backup_top.proofs.CourseLaws.{journaled, images_of, ends_at, never_refused, never_bad_log, complete_by}
 use Rattle.backup_top.proofs.top.run.Goals as goal
 
 pub returns-in-Err-clause-images : goal.returns-in-Err-clause-images
-returns-in-Err-clause-images g c = λ runs told tells_cell tells_clock source still entry.
+returns-in-Err-clause-images g c = λ runs told tells_cell tells_clock source still entry contents held.
     let M = g.M.Media in
     let media = c.args.media in
     let bytes = encoded entry.journal.log in
-    let k : Course = course_of M.seen M.present media entry media (g.C.Cell.list c.args.cell.now) (g.C.Cell.list c.args.cell.now) (g.K.Clock.moments c.args.clock.now) (g.K.Clock.moments c.args.clock.now) (g.S.Source.left c.args.source.now) (g.S.Source.left c.args.source.now) in
-    images_of M.time media media k.world (outcome k).effects (journaled k refl entry.journal.form refl)
+    let k : Course = course_of M.seen M.count M.present contents media entry media (g.C.Cell.list c.args.cell.now) (g.C.Cell.list c.args.cell.now) (g.K.Clock.moments c.args.clock.now) (g.K.Clock.moments c.args.clock.now) (g.S.Source.left c.args.source.now) (g.S.Source.left c.args.source.now) in
+    images_of M.time media media k.world (outcome k).effects (journaled c.scripts_keep_the_archive.ensures.on_the_way c.images_hold_the_archive.ensures k (has_tapes k.world (M.present media) (M.seen media) (M.count media) refl refl (g.met.M.Media.here_below media) (g.met.M.Media.few_files media)) refl entry.journal.form refl)
     (nothing_since M.time M.seen media bytes media (outcome k).effects (still_left M.time M.seen media bytes still (λ image was. g.met.M.Media.told_left media image told was) entry.journal.is) (stays M.time media))
 
 pub returns-in-Err-clause-ends : goal.returns-in-Err-clause-ends
-returns-in-Err-clause-ends g c = λ runs told tells_cell tells_clock source still entry.
+returns-in-Err-clause-ends g c = λ runs told tells_cell tells_clock source still entry contents held.
     let M = g.M.Media in
     let media = c.args.media in
     let bytes = encoded entry.journal.log in
-    let k : Course = course_of M.seen M.present media entry media (g.C.Cell.list c.args.cell.now) (g.C.Cell.list c.args.cell.now) (g.K.Clock.moments c.args.clock.now) (g.K.Clock.moments c.args.clock.now) (g.S.Source.left c.args.source.now) (g.S.Source.left c.args.source.now) in
-    ends_at M.time M.seen media media k (between [] k.world) (stage_front [] k.world k.moments (lines k.input)) refl (journaled k refl entry.journal.form refl) (stays M.time media).later (g.met.M.Media.seen_may_be_left media told)
+    let k : Course = course_of M.seen M.count M.present contents media entry media (g.C.Cell.list c.args.cell.now) (g.C.Cell.list c.args.cell.now) (g.K.Clock.moments c.args.clock.now) (g.K.Clock.moments c.args.clock.now) (g.S.Source.left c.args.source.now) (g.S.Source.left c.args.source.now) in
+    ends_at M.time M.seen media media k (between [] k.world) (stage_front [] k.world k.moments (lines k.input)) refl (journaled c.scripts_keep_the_archive.ensures.on_the_way c.images_hold_the_archive.ensures k (has_tapes k.world (M.present media) (M.seen media) (M.count media) refl refl (g.met.M.Media.here_below media) (g.met.M.Media.few_files media)) refl entry.journal.form refl) (stays M.time media).later (g.met.M.Media.seen_may_be_left media told)
     (nothing_since M.time M.seen media bytes media [] (still_left M.time M.seen media bytes still (λ image was. g.met.M.Media.told_left media image told was) entry.journal.is) (stays M.time media))
+
+pub returns-in-Err-clause-finds : goal.returns-in-Err-clause-finds
+returns-in-Err-clause-finds g c = λ runs entry contents held.
+    let M = g.M.Media in
+    let media = c.args.media in
+    let k : Course = course_of M.seen M.count M.present contents media entry media (g.C.Cell.list c.args.cell.now) (g.C.Cell.list c.args.cell.now) (g.K.Clock.moments c.args.clock.now) (g.K.Clock.moments c.args.clock.now) (g.S.Source.left c.args.source.now) (g.S.Source.left c.args.source.now) in
+    let has = has_tapes k.world (M.present media) (M.seen media) (M.count media) refl refl (g.met.M.Media.here_below media) (g.met.M.Media.few_files media) in
+    let holds = holds_world k.world has (λ s is. below (M.present media) (M.count media) s (g.met.M.Media.here_below media) is) (record { log = refl; tapes = λ s. refl }) held in
+    (holds, c.scripts_keep_the_archive.ensures.throughout k.world k.moments (lines k.input) holds)
+
+pub returns-in-Ok-Run-clause-finds : goal.returns-in-Ok-Run-clause-finds
+returns-in-Ok-Run-clause-finds g c = λ runs entry contents held.
+    let M = g.M.Media in
+    let media = c.args.media in
+    let n = c.run_mode.new in
+    let k : Course = course_of M.seen M.count M.present contents media entry c.run_mode.result.1 (g.C.Cell.list c.args.cell.now) (g.C.Cell.list n.cell) (g.K.Clock.moments c.args.clock.now) (g.K.Clock.moments n.clock) (g.S.Source.left c.args.source.now) (g.S.Source.left n.source) in
+    let has = has_tapes k.world (M.present media) (M.seen media) (M.count media) refl refl (g.met.M.Media.here_below media) (g.met.M.Media.few_files media) in
+    let holds = holds_world k.world has (λ s is. below (M.present media) (M.count media) s (g.met.M.Media.here_below media) is) (record { log = refl; tapes = λ s. refl }) held in
+    (holds, c.scripts_keep_the_archive.ensures.throughout k.world k.moments (lines k.input) holds)
 
 pub returns-in-Ok-Run-clause-complete : goal.returns-in-Ok-Run-clause-complete
 returns-in-Ok-Run-clause-complete g c = λ runs told tells_cell tells_clock source entry within media_rose cell_rose output_rose read_rose.
     let M = g.M.Media in
-    let media = c.args.media in
-    let n = c.run_mode.new in
     let e = c.run_mode.ensures in
-    let k : Course = course_of M.seen M.present media entry c.run_mode.result.1 (g.C.Cell.list c.args.cell.now) (g.C.Cell.list n.cell) (g.K.Clock.moments c.args.clock.now) (g.K.Clock.moments n.clock) (g.S.Source.left c.args.source.now) (g.S.Source.left n.source) in
-    complete_by k c.run_mode.result.0 (e.runs told tells_cell tells_clock source entry) (e.takes source) within
+    complete_by (g.S.Source.left c.args.source.now) (g.S.Source.left c.run_mode.new.source) c.run_mode.result.0 (e.takes source) within
+    e.usage (λ line is. never_refused c.args.config.now entry.settings line entry.says (e.bad_config line is)) (λ at is. never_bad_log (stock_of (M.seen c.args.media)) at entry.journal (e.bad_log told at is))
     (λ is. media_rose (e.media_cause.failed is)) (λ is. cell_rose (e.cell_cause.failed is)) (λ is. output_rose (e.output_cause.failed is)) (λ is. read_rose (e.read_cause.failed is))

@@ -1,0 +1,19 @@
+//! The archive that media hold, from one run to the next.
+
+ghost use Rattle.std.specs.Prelude.{ℕ, Bool as AnyBool, List as AnyList};
+ghost use Rattle.plant_core.specs.Effects.{Effect};
+ghost use Rattle.plant_core.specs.Stock.{Stock};
+ghost use Rattle.tape_config.specs.Configs.{Settings};
+ghost use Rattle.cell_core.specs.declared.stored.Stored.{Stored};
+ghost use Rattle.budb_changes.specs.declared.change.Change.{Change};
+ghost use Rattle.backup_session.specs.Worlds.{Contents};
+ghost use Rattle.backup_session.specs.Held.{HoldsArchive};
+ghost use Rattle.session_archives.specs.Held.{HoldsImage};
+ghost use Rattle.backup_top.specs.Courses.{world_at};
+
+/// What a crash, or the end of a run, leaves of media that held the archive is what a next run of as many files finds: media that hold the
+/// archive of the journal's changes, with the contents that the dumps had. So a run over it is said as one over media that never stopped.
+pub fn an_image_is_an_entry()
+    ensures { (config later : Settings) (files : ℕ) (present : ℕ → AnyBool) (log : AnyList Change) (cell next : AnyList Stored) (contents : Contents) (old image : Stock) (effects : AnyList Effect)
+        → (held : HoldsImage (world_at config files present log cell contents old) effects image) → HoldsArchive (world_at later files present held.changes next contents image) }
+{}
