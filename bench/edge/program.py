@@ -96,7 +96,7 @@ def opening():
     place = folder()
     with open(os.path.join(place, "tapeconfig"), "w") as file:
         file.write("slots:0-1 0\ntape 0\n")
-    check("tapeconfig has no known form", run(place).returncode == 7)
+    says("tapeconfig has no known form", run(place), 7, "the configuration has no known form", "tapeconfig: refused at line 2")
     place = folder()
     os.mkdir(os.path.join(place, "media"))
     with open(os.path.join(place, "media", "journal"), "wb") as file:
@@ -129,6 +129,37 @@ def full():
         subprocess.run(["mount", "-o", "remount,size=1m", place], check=True)
         kept = entries(place)
         check("what was told is kept", told > 100 and kept[:told] == names[:told] and len(kept) - told in (0, 1), (told, len(kept)))
+    finally:
+        subprocess.run(["umount", place])
+
+
+def cell():
+    failed = "a call on the cell failed"
+    create = "vos create -server fs1 -partition vicepa -name user.a"
+    for server, partition, path in [("..", "vicepa", "../vicepa"), ("fs1", "..", "fs1/.."), (".", ".", "./.")]:
+        place = folder()
+        done = run(place, "vos create -server %s -partition %s -name user.a" % (server, partition))
+        says("out of the folder " + path, done, 5, failed, "cell/%s/user.a.vol: " % path)
+        left = [name for _, _, names in os.walk(place) for name in names]
+        check("nothing is written out of it " + path, left == ["journal"], left)
+    place = folder()
+    program = subprocess.Popen([PROGRAM, "run"], cwd=place, stdin=subprocess.PIPE, stdout=subprocess.PIPE, stderr=subprocess.PIPE)
+    program.stdin.write(text([create]))
+    program.stdin.flush()
+    check("a volume is made", program.stdout.readline() == b"ok\n")
+    os.remove(os.path.join(place, "cell", "fs1", "vicepa", "user.a.vol"))
+    _, errors = program.communicate(text(["vos backup -volume user.a"]))
+    lines = errors.decode().split("\n")
+    fits = program.returncode == 5 and lines[0] == failed and lines[1].startswith("cell/fs1/vicepa/user.a.vol: ")
+    check("an image that is gone", fits, lines)
+    place = folder()
+    done = subprocess.run(["mount", "-t", "tmpfs", "-o", "size=64k", "tmpfs", place], capture_output=True)
+    if done.returncode != 0:
+        print("not tried: a full device (no leave to mount)")
+        return
+    try:
+        done = run(place, create, "vos write -volume user.a -vnode 2 -size 100000")
+        says("a full device for an image", done, 5, failed, "cell/fs1/vicepa/user.a.vol: ")
     finally:
         subprocess.run(["umount", place])
 
@@ -168,5 +199,6 @@ scripts()
 streams()
 opening()
 full()
+cell()
 kills(int(os.environ.get("KILLS", "200")))
 finish()

@@ -34,16 +34,20 @@ fn end<E: Write>(errors: &mut E, status: Status) -> u8
     status.number()
 }
 
-/// Prints the path and the cause of what ended a run, where the system refused a call, or the journal is no list of changes.
-fn tell_cause<M: ExplainsMedia, S: Explains, E: Write>(
+/// Prints the path and the cause of what ended a run, where the system refused a call, or the configuration or the journal is
+/// refused.
+fn tell_cause<M: ExplainsMedia, C: Explains, S: Explains, E: Write>(
     errors: &mut E,
     status: Status,
     media: &M,
+    cell: &C,
     source: &S,
 ) -> io::Result<()> {
     match status {
         Status::ReadFault => source.explain_fault(errors),
         Status::MediaFault => media.explain_fault(errors),
+        Status::CellFault => cell.explain_fault(errors),
+        Status::BadConfig { line } => writeln!(errors, "tapeconfig: refused at line {line}"),
         Status::OutputFault => media.explain_output(errors),
         Status::BadLog { at } => media.explain_log(errors, at),
         _ => Ok(()),
@@ -55,7 +59,7 @@ fn tell_cause<M: ExplainsMedia, S: Explains, E: Write>(
 fn run_opened<
     L: Drop,
     M: Media + ExplainsMedia + Drop,
-    C: Cell + Drop,
+    C: Cell + Explains + Drop,
     K: Clock,
     I: Read + Drop,
     E: Write,
@@ -84,7 +88,7 @@ fn run_opened<
         &mut source,
     );
     let number = end(errors, status);
-    let _ = tell_cause(errors, status, &media, &source);
+    let _ = tell_cause(errors, status, &media, &cell, &source);
     number
 }
 
@@ -97,13 +101,13 @@ fn asked_of<R: Env + AllocGlobal>(rt: &R) -> Result<(Asked, Vec<String>), AllocE
 
 /// Runs on an input with the words after the program's name, and says the exit status. A script is run in what the doors open,
 /// to whose media its replies are told; all else tells to the output. Where a run told nothing that says how it ended, the errors take
-/// a line that does, and behind it one with the path and the cause of what the system refused; and what couldn't be opened with its
+/// a line that does, and behind it one with the path and the cause of what was refused; and what couldn't be opened with its
 /// cause.
 pub fn program<
     R: Env + AllocGlobal,
     L: Drop,
     M: Media + ExplainsMedia + Drop,
-    C: Cell + Drop,
+    C: Cell + Explains + Drop,
     D: Doors<Lock = L, Media = M, Cell = C>,
     K: Clock,
     I: Read + Drop,

@@ -4,4 +4,5 @@ pub mod Dots
 pub mod Judging
 pub mod Props
 pub mod Refusals
+pub mod Refused
 pub mod Shown

@@ -1,6 +1,6 @@
 //! Images in a folder as a cell.
 
-ghost use Rattle.std.specs.Prelude.{◌≡◌, ◌<◌, IfOk, OnOk, OnErr, IfSome, Some, slice_get};
+ghost use Rattle.std.specs.Prelude.{◌≡◌, ◌<◌, IfOk, OnOk, OnErr, IfSome, IsSome, Some, Err, slice_get};
 ghost use Rattle.crash_moments.specs.Moments.{HasCauseAt};
 ghost use Rattle.cell_core.specs.Answers.{OnlyFromOutside};
 ghost use Rattle.cell_core.specs.Listings.{new_id};
@@ -11,19 +11,21 @@ ghost use Rattle.dir_cell.specs.Refusals.{put_refusal, create_refusal, change_re
 
 use crate::folder::Folder;
 use crate::listing::list_images;
-use crate::outside::counted;
+use crate::outside::{Refusal, counted};
 use bk_text::{Host, Name, Part};
 use cell_core::{Cell, CellFault, Change, Taken};
-use host_edge::{EdgeFault, at_path, make_folder};
+use host_edge::{EdgeFault, Explains, at_path, make_folder};
+use std::io::{self, Write};
 use std::rt::Files;
 use vnode_model::{VolEntry, Volume};
 
 /// The images `server/partition/name.vol` of a folder. What each is was judged at the opening. An image that isn't as the
-/// opening or this program left it is a fault.
+/// opening or this program left it is a fault. The refusal is the last one.
 #[derive(Drop)]
 pub struct DirCell<R: Drop> {
     folder: Folder<R>,
     faults: u64,
+    refused: Option<Refusal>,
 }
 
 impl<R: Files + AllocGlobal + Clone + Drop> DirCell<R> {
@@ -43,13 +45,14 @@ impl<R: Files + AllocGlobal + Clone + Drop> DirCell<R> {
                 images,
             },
             faults: 0,
+            refused: None,
         })
     }
 }
 
 impl<R: Files + AllocGlobal + Clone + Drop> Cell for DirCell<R> {
     ghost use Rattle.std.specs.Prelude.{[]};
-    ghost use Rattle.dir_cell.specs.Shown.{catalog_of, faults_of, size_of};
+    ghost use Rattle.dir_cell.specs.Shown.{catalog_of, faults_of, refused_of, size_of};
 
     ghost tells = { ⊥ };
 
@@ -76,6 +79,7 @@ impl<R: Files + AllocGlobal + Clone + Drop> Cell for DirCell<R> {
         ensures stays { catalog_of self.new ≡ catalog_of self.old }
         ensures size { size_of self.new ≡ size_of self.old }
         ensures cause { HasCauseAt CellFault.Failed (faults_of self.old) (faults_of self.new) result }
+        ensures refused { result ≡ Err CellFault.Failed → IsSome (refused_of self.new) }
     {
         let answer = self.folder.entry(i as usize);
         counted(&mut self.faults, answer)
@@ -88,8 +92,9 @@ impl<R: Files + AllocGlobal + Clone + Drop> Cell for DirCell<R> {
         ensures stays { catalog_of self.new ≡ catalog_of self.old }
         ensures size { size_of self.new ≡ size_of self.old }
         ensures cause { HasCauseAt CellFault.Failed (faults_of self.old) (faults_of self.new) result }
+        ensures refused { result ≡ Err CellFault.Failed → IsSome (refused_of self.new) }
     {
-        let answer = self.folder.take(i as usize, now);
+        let answer = self.folder.take(i as usize, now, &mut self.refused);
         counted(&mut self.faults, answer)
     }
 
@@ -98,8 +103,11 @@ impl<R: Files + AllocGlobal + Clone + Drop> Cell for DirCell<R> {
         ensures kept { OnOk result (Keeps server.now partition.now volume (catalog_of self.old) (catalog_of self.new)) }
         ensures stays { OnErr result (catalog_of self.new ≡ catalog_of self.old) }
         ensures cause { HasCauseAt CellFault.Failed (faults_of self.old) (faults_of self.new) result }
+        ensures refused { result ≡ Err CellFault.Failed → IsSome (refused_of self.new) }
     {
-        let answer = self.folder.put(server, partition, volume);
+        let answer = self
+            .folder
+            .put(server, partition, volume, &mut self.refused);
         counted(&mut self.faults, answer)
     }
 
@@ -115,8 +123,11 @@ impl<R: Files + AllocGlobal + Clone + Drop> Cell for DirCell<R> {
         ensures kept { IfOk result (λ id. Keeps server.now partition.now (new_volume id name.now now) (catalog_of self.old) (catalog_of self.new)) }
         ensures stays { OnErr result (catalog_of self.new ≡ catalog_of self.old) }
         ensures cause { HasCauseAt CellFault.Failed (faults_of self.old) (faults_of self.new) result }
+        ensures refused { result ≡ Err CellFault.Failed → IsSome (refused_of self.new) }
     {
-        let answer = self.folder.create(server, partition, name, now);
+        let answer = self
+            .folder
+            .create(server, partition, name, now, &mut self.refused);
         counted(&mut self.faults, answer)
     }
 
@@ -125,10 +136,14 @@ impl<R: Files + AllocGlobal + Clone + Drop> Cell for DirCell<R> {
         ensures kept { OnOk result (KeepsNamed name.now (catalog_of self.old) (catalog_of self.new)) }
         ensures stays { OnErr result (catalog_of self.new ≡ catalog_of self.old) }
         ensures cause { HasCauseAt CellFault.Failed (faults_of self.old) (faults_of self.new) result }
+        ensures refused { result ≡ Err CellFault.Failed → IsSome (refused_of self.new) }
     {
-        let answer = self
-            .folder
-            .change(name, Change::Write { number, body }, now);
+        let answer = self.folder.change(
+            name,
+            Change::Write { number, body },
+            now,
+            &mut self.refused,
+        );
         counted(&mut self.faults, answer)
     }
 
@@ -137,8 +152,11 @@ impl<R: Files + AllocGlobal + Clone + Drop> Cell for DirCell<R> {
         ensures kept { OnOk result (KeepsNamed name.now (catalog_of self.old) (catalog_of self.new)) }
         ensures stays { OnErr result (catalog_of self.new ≡ catalog_of self.old) }
         ensures cause { HasCauseAt CellFault.Failed (faults_of self.old) (faults_of self.new) result }
+        ensures refused { result ≡ Err CellFault.Failed → IsSome (refused_of self.new) }
     {
-        let answer = self.folder.change(name, Change::Remove { number }, now);
+        let answer = self
+            .folder
+            .change(name, Change::Remove { number }, now, &mut self.refused);
         counted(&mut self.faults, answer)
     }
 
@@ -147,8 +165,9 @@ impl<R: Files + AllocGlobal + Clone + Drop> Cell for DirCell<R> {
         ensures kept { OnOk result (KeepsCopy name.now (id_for_backup (backup_name name.now) (catalog_of self.old)) (catalog_of self.old) (catalog_of self.new)) }
         ensures stays { OnErr result (catalog_of self.new ≡ catalog_of self.old) }
         ensures cause { HasCauseAt CellFault.Failed (faults_of self.old) (faults_of self.new) result }
+        ensures refused { result ≡ Err CellFault.Failed → IsSome (refused_of self.new) }
     {
-        let answer = self.folder.backup(name, now);
+        let answer = self.folder.backup(name, now, &mut self.refused);
         counted(&mut self.faults, answer)
     }
 
@@ -157,8 +176,24 @@ impl<R: Files + AllocGlobal + Clone + Drop> Cell for DirCell<R> {
         ensures removed { OnOk result (catalog_of self.new ≡ after_removal name.now (catalog_of self.old)) }
         ensures stays { OnErr result (catalog_of self.new ≡ catalog_of self.old) }
         ensures cause { HasCauseAt CellFault.Failed (faults_of self.old) (faults_of self.new) result }
+        ensures refused { result ≡ Err CellFault.Failed → IsSome (refused_of self.new) }
     {
-        let answer = self.folder.remove(name);
+        let answer = self.folder.remove(name, &mut self.refused);
         counted(&mut self.faults, answer)
+    }
+}
+
+impl<R: Drop> Explains for DirCell<R> {
+    fn explain_fault<E: Write>(&self, errors: &mut E) -> io::Result<()> {
+        match &self.refused {
+            None => Ok(()),
+            Some(refusal) => {
+                let path = match &refusal.path {
+                    Some(path) => path.as_str(),
+                    None => self.folder.root.as_str(),
+                };
+                writeln!(errors, "{path}: {}", refusal.cause)
+            }
+        }
     }
 }

@@ -1,6 +1,6 @@
 //! Backup volumes in a folder of images.
 
-ghost use Rattle.std.specs.Prelude.{◌≡◌, ◌≤◌, length, Some, IfOk, OnOk, OnErr};
+ghost use Rattle.std.specs.Prelude.{◌≡◌, ◌≢◌, ◌≤◌, length, Some, Err, IfOk, IsSome, OnOk, OnErr};
 ghost use Rattle.cell_core.specs.Answers.{OnlyFromOutside};
 ghost use Rattle.cell_core.specs.Volumes.{backup_name};
 ghost use Rattle.cell_core.specs.declared.standing.Standing.TheVariants.{Volume};
@@ -13,7 +13,7 @@ use crate::changing::{FRESH, paths_of};
 use crate::folder::Folder;
 use crate::known::Known;
 use crate::looking::volume_of;
-use crate::outside::outside;
+use crate::outside::Refusal;
 use crate::saving::{Fresh, move_in, write_beside};
 use bk_text::Name;
 use cell_core::{CellFault, Standing, backup_copy, backup_id, backup_name, with_backup_date};
@@ -61,19 +61,21 @@ fn write_both<R: Files + AllocGlobal>(
     known: &Known,
     id: u32,
     now: u32,
+    last: &mut Option<Refusal>,
 ) -> Result<Backup, CellFault>
     requires { length (backup_name known.now.name) ≤ 31 }
     ensures copy { IfOk result (λ backup. (backup.copy.known.name ≡ backup_name known.now.name) × (backup.copy.known.standing ≡ Volume id 2)) }
     ensures errors { OnlyFromOutside result }
+    ensures refused { result ≡ Err CellFault.Failed → IsSome last.new }
 {
     let alloc = rt.alloc();
     let (server, partition) = (&known.server, &known.partition);
     let name = named_backup(alloc, &known.name)?;
-    let volume = volume_of(rt, known)?;
+    let volume = volume_of(rt, known, last)?;
     let copy = backup_copy(&volume, id, name, now)?;
-    let copy = write_beside(rt, alloc, root, server, partition, copy, FRESH_COPY)?;
+    let copy = write_beside(rt, alloc, root, server, partition, copy, FRESH_COPY, last)?;
     let dated = with_backup_date(volume, now);
-    let dated = write_beside(rt, alloc, root, server, partition, dated, FRESH)?;
+    let dated = write_beside(rt, alloc, root, server, partition, dated, FRESH, last)?;
     Ok(Backup { copy, dated })
 }
 
@@ -88,6 +90,7 @@ fn known_to_back_up<'a>(
     ensures id { IfOk result (λ found. id_for_backup (backup_name name.now) images.now ≡ Some found.1) }
     ensures named { IfOk result (λ found. found.0.now.name ≡ name.now) }
     ensures short { OnOk result (length (backup_name name.now) ≤ 31) }
+    ensures never { result ≢ Err CellFault.Failed }
 {
     let text = backup_name(alloc, name.bytes())?;
     let free = id_for_backup(images, text.as_slice());
@@ -109,27 +112,35 @@ fn known_to_back_up<'a>(
 
 impl<R: Files + AllocGlobal + Clone + Drop> Folder<R> {
     /// Puts the images of a backup in their places, and says what is known of the copy.
-    fn back_up(&self, name: &Name, now: u32) -> Result<Known, CellFault>
+    fn back_up(&self, name: &Name, now: u32, last: &mut Option<Refusal>) -> Result<Known, CellFault>
         ensures due { IsDue (backup_refusal name.now self.now.images.items) result }
         ensures copy { IfOk result (λ copy. IsCopyKnown name.now (id_for_backup (backup_name name.now) self.now.images.items) copy) }
+        ensures refused { result ≡ Err CellFault.Failed → IsSome last.new }
     {
         let images = self.images.as_slice();
         let (known, id) = known_to_back_up(self.rt.alloc(), images, name)?;
-        let Backup { copy, dated } = write_both(&self.rt, self.root.as_str(), known, id, now)?;
+        let root = self.root.as_str();
+        let Backup { copy, dated } = write_both(&self.rt, root, known, id, now, last)?;
         let old = paths_of(known_as(images, copy.known.name.bytes()));
-        outside(move_in(&self.rt, &copy, old))?;
-        outside(move_in(&self.rt, &dated, known.paths.as_slice()))?;
+        move_in(&self.rt, &copy, old, last)?;
+        move_in(&self.rt, &dated, known.paths.as_slice(), last)?;
         Ok(copy.known)
     }
 
     /// Makes the backup volume of a read/write volume, or replaces what has its name, and puts the backup date on the volume.
-    pub(crate) fn backup(&mut self, name: &Name, now: u32) -> Result<(), CellFault>
+    pub(crate) fn backup(
+        &mut self,
+        name: &Name,
+        now: u32,
+        last: &mut Option<Refusal>,
+    ) -> Result<(), CellFault>
         ensures due { IsDue (backup_refusal name.now self.old.images.items) result }
         ensures kept { OnOk result (KeepsCopy name.now (id_for_backup (backup_name name.now) self.old.images.items) self.old.images.items self.new.images.items) }
         ensures stays { OnErr result (self.new.images.items ≡ self.old.images.items) }
+        ensures refused { result ≡ Err CellFault.Failed → IsSome last.new }
     {
         self.images.reserve(1)?;
-        let copy = self.back_up(name, now)?;
+        let copy = self.back_up(name, now, last)?;
         keep(&mut self.images, copy);
         Ok(())
     }

@@ -1,6 +1,6 @@
 //! The calls that change a folder of images.
 
-ghost use Rattle.std.specs.Prelude.{◌≡◌, ◌≢◌, Some, IfOk, OnOk, OnErr};
+ghost use Rattle.std.specs.Prelude.{◌≡◌, ◌≢◌, Some, Err, IfOk, IsSome, OnOk, OnErr};
 ghost use Rattle.cell_core.specs.Answers.{OnlyFromOutside};
 ghost use Rattle.cell_core.specs.Listings.{new_id};
 ghost use Rattle.cell_core.specs.Volumes.{new_volume};
@@ -12,7 +12,7 @@ use crate::catalog::{keep, known_as};
 use crate::folder::Folder;
 use crate::known::Known;
 use crate::looking::volume_of;
-use crate::outside::outside;
+use crate::outside::Refusal;
 use crate::saving::{move_in, write_beside};
 use bk_text::{Host, Name, Part};
 use cell_core::{CellFault, Change, Standing, change_volume, new_id, new_volume};
@@ -36,6 +36,7 @@ fn known_to_change<'a>(images: &'a [Known], name: &[u8]) -> Result<&'a Known, Ce
     ensures due { IsDue (change_refusal name.now images.now) result }
     ensures known { IfOk result (λ known. known_as name.now images.now ≡ Some known.now) }
     ensures named { IfOk result (λ known. known.now.name ≡ name.now) }
+    ensures never { result ≢ Err CellFault.Failed }
 {
     match known_as(images, name) {
         None => Err(CellFault::NoVolume),
@@ -54,18 +55,24 @@ fn known_to_change<'a>(images: &'a [Known], name: &[u8]) -> Result<&'a Known, Ce
 
 impl<R: Files + AllocGlobal + Clone + Drop> Folder<R> {
     /// Writes a volume's image, puts it in place of what has its name, and keeps what is known of it.
-    fn save(&mut self, server: &Host, partition: &Part, volume: Volume) -> Result<(), CellFault>
+    fn save(
+        &mut self,
+        server: &Host,
+        partition: &Part,
+        volume: Volume,
+        last: &mut Option<Refusal>,
+    ) -> Result<(), CellFault>
         requires { HasPlace volume.header.name self.old.images.items }
         ensures kept { OnOk result (Keeps server.now partition.now volume self.old.images.items self.new.images.items) }
         ensures stays { OnErr result (self.new.images.items ≡ self.old.images.items) }
         ensures errors { OnlyFromOutside result }
+        ensures refused { result ≡ Err CellFault.Failed → IsSome last.new }
     {
         self.images.reserve(1)?;
-        let alloc = self.rt.alloc();
-        let root = self.root.as_str();
-        let fresh = write_beside(&self.rt, alloc, root, server, partition, volume, FRESH)?;
+        let (rt, alloc, root) = (&self.rt, self.rt.alloc(), self.root.as_str());
+        let fresh = write_beside(rt, alloc, root, server, partition, volume, FRESH, last)?;
         let old = paths_of(known_as(self.images.as_slice(), fresh.known.name.bytes()));
-        outside(move_in(&self.rt, &fresh, old))?;
+        move_in(&self.rt, &fresh, old, last)?;
         keep(&mut self.images, fresh.known);
         Ok(())
     }
@@ -95,13 +102,15 @@ impl<R: Files + AllocGlobal + Clone + Drop> Folder<R> {
         server: &Host,
         partition: &Part,
         volume: Volume,
+        last: &mut Option<Refusal>,
     ) -> Result<(), CellFault>
         ensures due { IsDue (put_refusal volume.header.name self.old.images.items) result }
         ensures kept { OnOk result (Keeps server.now partition.now volume self.old.images.items self.new.images.items) }
         ensures stays { OnErr result (self.new.images.items ≡ self.old.images.items) }
+        ensures refused { result ≡ Err CellFault.Failed → IsSome last.new }
     {
         self.may_put(volume.header().fields().name.bytes())?;
-        self.save(server, partition, volume)
+        self.save(server, partition, volume, last)
     }
 
     /// The id of a new volume.
@@ -109,6 +118,7 @@ impl<R: Files + AllocGlobal + Clone + Drop> Folder<R> {
         ensures due { IsDue (create_refusal name.now self.now.images.items) result }
         ensures id { IfOk result (λ id. new_id standing_of self.now.images.items ≡ Some id) }
         ensures place { OnOk result (HasPlace name.now self.now.images.items) }
+        ensures never { result ≢ Err CellFault.Failed }
     {
         if known_as(self.images.as_slice(), name).is_some() {
             return Err(CellFault::VolumeExists);
@@ -126,15 +136,17 @@ impl<R: Files + AllocGlobal + Clone + Drop> Folder<R> {
         partition: &Part,
         name: &Name,
         now: u32,
+        last: &mut Option<Refusal>,
     ) -> Result<u32, CellFault>
         ensures due { IsDue (create_refusal name.now self.old.images.items) result }
         ensures id { IfOk result (λ id. new_id standing_of self.old.images.items ≡ Some id) }
         ensures kept { IfOk result (λ id. Keeps server.now partition.now (new_volume id name.now now) self.old.images.items self.new.images.items) }
         ensures stays { OnErr result (self.new.images.items ≡ self.old.images.items) }
+        ensures refused { result ≡ Err CellFault.Failed → IsSome last.new }
     {
         let id = self.id_to_create(name.bytes())?;
         let volume = new_volume(self.rt.alloc(), id, name, now)?;
-        self.save(server, partition, volume)?;
+        self.save(server, partition, volume, last)?;
         Ok(id)
     }
 
@@ -144,13 +156,15 @@ impl<R: Files + AllocGlobal + Clone + Drop> Folder<R> {
         name: &Name,
         change: Change<'_>,
         now: u32,
+        last: &mut Option<Refusal>,
     ) -> Result<(Host, Part, Volume), CellFault>
         ensures due { IsDueToChange (change_refusal name.now self.now.images.items) result }
         ensures named { IfOk result (λ changed. changed.2.header.name ≡ name.now) }
         ensures place { OnOk result (HasPlace name.now self.now.images.items) }
+        ensures refused { result ≡ Err CellFault.Failed → IsSome last.new }
     {
         let known = known_to_change(self.images.as_slice(), name.bytes())?;
-        let volume = volume_of(&self.rt, known)?;
+        let volume = volume_of(&self.rt, known, last)?;
         let (volume, answer) = change_volume(self.rt.alloc(), volume, change, now);
         answer?;
         Ok((known.server.clone()?, known.partition.clone()?, volume))
@@ -162,12 +176,14 @@ impl<R: Files + AllocGlobal + Clone + Drop> Folder<R> {
         name: &Name,
         change: Change<'_>,
         now: u32,
+        last: &mut Option<Refusal>,
     ) -> Result<(), CellFault>
         ensures due { IsDueToChange (change_refusal name.now self.old.images.items) result }
         ensures kept { OnOk result (KeepsNamed name.now self.old.images.items self.new.images.items) }
         ensures stays { OnErr result (self.new.images.items ≡ self.old.images.items) }
+        ensures refused { result ≡ Err CellFault.Failed → IsSome last.new }
     {
-        let (server, partition, volume) = self.changed(name, change, now)?;
-        self.save(&server, &partition, volume)
+        let (server, partition, volume) = self.changed(name, change, now, last)?;
+        self.save(&server, &partition, volume, last)
     }
 }

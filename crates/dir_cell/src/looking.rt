@@ -1,6 +1,6 @@
 //! What is told of a folder's images, and volumes that are read from it.
 
-ghost use Rattle.std.specs.Prelude.{◌≡◌, ◌<◌, length, IfOk, IsTrue, IfSome, slice_get};
+ghost use Rattle.std.specs.Prelude.{◌≡◌, ◌≢◌, ◌<◌, length, Err, IfOk, IsTrue, IfSome, IsSome, slice_get};
 ghost use Rattle.cell_core.specs.Answers.{OnlyFromOutside};
 ghost use Rattle.dir_cell.specs.Catalogs.{entry_of, IsCatalog};
 ghost use Rattle.dir_cell.specs.Calls.{IsAsKnown, IsClone};
@@ -9,7 +9,7 @@ use crate::catalog::birth_of;
 use crate::folder::Folder;
 use crate::judging::read_image;
 use crate::known::Known;
-use crate::outside::{changed, outside};
+use crate::outside::{Refusal, changed, outside};
 use bk_text::{Host, Part};
 use cell_core::{CellFault, Image, Standing, Taken};
 use std::io;
@@ -46,12 +46,25 @@ fn read_volume<R: Files + AllocGlobal>(rt: &R, known: &Known) -> io::Result<Volu
     }
 }
 
+/// The path of an image.
+fn path_of(known: &Known) -> &str {
+    match known.paths.first() {
+        Some(path) => path.as_str(),
+        None => "",
+    }
+}
+
 /// The volume of an image.
-pub(crate) fn volume_of<R: Files + AllocGlobal>(rt: &R, known: &Known) -> Result<Volume, CellFault>
+pub(crate) fn volume_of<R: Files + AllocGlobal>(
+    rt: &R,
+    known: &Known,
+    last: &mut Option<Refusal>,
+) -> Result<Volume, CellFault>
     ensures volume { IfOk result (λ volume. IsAsKnown known.now volume) }
     ensures errors { OnlyFromOutside result }
+    ensures refused { result ≡ Err CellFault.Failed → IsSome last.new }
 {
-    outside(read_volume(rt, known))
+    outside(rt.alloc(), last, path_of(known), read_volume(rt, known))
 }
 
 impl<R: Files + AllocGlobal + Clone + Drop> Folder<R> {
@@ -67,18 +80,25 @@ impl<R: Files + AllocGlobal + Clone + Drop> Folder<R> {
         requires { i < length self.now.images.items }
         ensures entry { IfOk result (λ entry. IfSome (slice_get self.now.images.items i) (λ known. entry ≡ entry_of known)) }
         ensures errors { OnlyFromOutside result }
+        ensures never { result ≢ Err CellFault.Failed }
     {
         Ok(self.images[i].entry()?)
     }
 
     /// A clone of an image's volume.
-    pub(crate) fn take(&self, i: usize, now: u32) -> Result<Taken, CellFault>
+    pub(crate) fn take(
+        &self,
+        i: usize,
+        now: u32,
+        last: &mut Option<Refusal>,
+    ) -> Result<Taken, CellFault>
         requires { i < length self.now.images.items }
         ensures clone { IfOk result (λ taken. IfSome (slice_get self.now.images.items i) (λ known. IsClone self.now.images.items known now taken)) }
         ensures errors { OnlyFromOutside result }
+        ensures refused { result ≡ Err CellFault.Failed → IsSome last.new }
     {
         let known = &self.images[i];
-        let volume = volume_of(&self.rt, known)?;
+        let volume = volume_of(&self.rt, known, last)?;
         if known.standing.has_kind(0) {
             return Ok(Taken {
                 time: now,

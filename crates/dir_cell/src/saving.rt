@@ -1,6 +1,6 @@
 //! Writing an image: beside its place, and then moved there.
 
-ghost use Rattle.std.specs.Prelude.{◌≡◌, ◌↔◌, IsTrue, IfOk, OnOk};
+ghost use Rattle.std.specs.Prelude.{◌≡◌, ◌↔◌, Err, IsTrue, IfOk, IsSome, OnOk};
 ghost use Rattle.cell_core.specs.Answers.{OnlyFromOutside};
 ghost use Rattle.dir_cell.specs.Dots.{IsDots};
 ghost use Rattle.dir_cell.specs.Catalogs.{IsKnownOf};
@@ -8,7 +8,7 @@ ghost use Rattle.dir_cell.specs.Catalogs.{IsKnownOf};
 use crate::judging::room;
 use crate::known::Known;
 use crate::listed::known_of;
-use crate::outside::outside;
+use crate::outside::{Refusal, outside};
 use bk_text::{Host, Part};
 use cell_core::CellFault;
 use dump_stream::Writer;
@@ -74,6 +74,23 @@ fn image_path(alloc: Global, folder: &str, name: &[u8]) -> io::Result<String> {
     Ok(path)
 }
 
+/// What an administrator is shown of the place of an image, also where there can't be one.
+fn shown_path(
+    alloc: Global,
+    root: &str,
+    server: &Host,
+    partition: &Part,
+    name: &[u8],
+) -> Result<String, AllocError> {
+    let mut path = String::from_str(alloc, root)?;
+    for word in [server.bytes(), partition.bytes(), name] {
+        path.push('/')?;
+        path.push_str(std::str::from_utf8(word).unwrap_or("?"))?;
+    }
+    path.push_str(".vol")?;
+    Ok(path)
+}
+
 /// Writes a volume's whole stream to a file, which is on the disk then.
 fn write_stream<R: Files>(rt: &R, alloc: Global, path: &str, volume: Volume) -> io::Result<()> {
     let mut buffer = room(alloc)?;
@@ -135,11 +152,16 @@ pub(crate) fn write_beside<R: Files>(
     partition: &Part,
     volume: Volume,
     beside: &str,
+    last: &mut Option<Refusal>,
 ) -> Result<Fresh, CellFault>
     ensures known { IfOk result (λ fresh. IsKnownOf server.now partition.now volume fresh.known) }
     ensures errors { OnlyFromOutside result }
+    ensures refused { result ≡ Err CellFault.Failed → IsSome last.new }
 {
-    outside(write_to_file(rt, alloc, root, server, partition, volume, beside))
+    let name = volume.header().fields().name.bytes();
+    let path = shown_path(alloc, root, server, partition, name)?;
+    let answer = write_to_file(rt, alloc, root, server, partition, volume, beside);
+    outside(alloc, last, path.as_str(), answer)
 }
 
 /// The folder that a path stands in.
@@ -158,13 +180,27 @@ fn remove_file<R: Files>(rt: &R, path: &str) -> io::Result<()> {
     }
 }
 
+/// Removes the image at a path, but for one that stays, and waits until that lasts.
+fn remove_image<R: Files>(rt: &R, path: &str, but: &str) -> io::Result<()> {
+    if path != but {
+        remove_file(rt, path)?;
+    }
+    sync_folder(rt, folder_of(path))
+}
+
 /// Removes the images at these paths, but for one, and waits until that lasts.
-pub(crate) fn remove_images<R: Files>(rt: &R, paths: &[String], but: &str) -> io::Result<()> {
+pub(crate) fn remove_images<R: Files + AllocGlobal>(
+    rt: &R,
+    paths: &[String],
+    but: &str,
+    last: &mut Option<Refusal>,
+) -> Result<(), CellFault>
+    ensures errors { OnlyFromOutside result }
+    ensures refused { result ≡ Err CellFault.Failed → IsSome last.new }
+{
     for path in paths {
-        if path.as_str() != but {
-            remove_file(rt, path.as_str())?;
-        }
-        sync_folder(rt, folder_of(path.as_str()))?;
+        let answer = remove_image(rt, path.as_str(), but);
+        outside(rt.alloc(), last, path.as_str(), answer)?;
     }
     Ok(())
 }
@@ -177,11 +213,25 @@ fn move_old<R: Files>(rt: &R, old: &[String], target: &str) -> io::Result<()> {
     }
 }
 
-/// Moves a written image to its place, for those at `old`. The first of them moves there before, so that at no moment there
-/// are two images of the name where there was one, and at no moment none.
-pub(crate) fn move_in<R: Files>(rt: &R, fresh: &Fresh, old: &[String]) -> io::Result<()> {
+/// Moves a written image to its place. The first image of its name moves there before.
+fn move_both<R: Files>(rt: &R, fresh: &Fresh, old: &[String]) -> io::Result<()> {
     move_old(rt, old, fresh.target.as_str())?;
     fs::rename(rt, fresh.beside.as_str(), fresh.target.as_str())?;
-    sync_folder(rt, fresh.folder.as_str())?;
-    remove_images(rt, old, fresh.target.as_str())
+    sync_folder(rt, fresh.folder.as_str())
+}
+
+/// Moves a written image to its place, for those at `old`. The first of them moves there before, so that at no moment there
+/// are two images of the name where there was one, and at no moment none.
+pub(crate) fn move_in<R: Files + AllocGlobal>(
+    rt: &R,
+    fresh: &Fresh,
+    old: &[String],
+    last: &mut Option<Refusal>,
+) -> Result<(), CellFault>
+    ensures errors { OnlyFromOutside result }
+    ensures refused { result ≡ Err CellFault.Failed → IsSome last.new }
+{
+    let target = fresh.target.as_str();
+    outside(rt.alloc(), last, target, move_both(rt, fresh, old))?;
+    remove_images(rt, old, target, last)
 }
