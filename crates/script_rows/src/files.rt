@@ -16,7 +16,7 @@ const FILES: u32 = 5;
 const FRONT: usize = 8192;
 
 /// The most bytes that are written to a file.
-const MOST: usize = 65_536;
+const MOST: usize = 1_048_576;
 
 /// Media whose files are all here and empty.
 pub fn blank(alloc: Global) -> Result<MemMedia, AllocError> {
@@ -44,15 +44,17 @@ pub fn fill(alloc: Global, media: &mut MemMedia, file: u32, bytes: &[u8]) -> any
 
 /// The file of a log that has these bytes.
 pub fn file_of_log(alloc: Global, log: &[u8]) -> anyhow::Result<Vec<u8>> {
-    let Ok(length) = u16::try_from(log.len()) else {
+    let Ok(length) = u32::try_from(log.len()) else {
         anyhow::bail!("the log is too long");
     };
     let mut file = vec![in alloc; 0u8; FRONT]?;
     file[0] = 1;
     file[14] = 32;
     let bytes = length.to_be_bytes();
-    file[22] = bytes[0];
-    file[23] = bytes[1];
+    file[20] = bytes[0];
+    file[21] = bytes[1];
+    file[22] = bytes[2];
+    file[23] = bytes[3];
     file.extend_from_slice(log)?;
     Ok(file)
 }

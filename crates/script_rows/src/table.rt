@@ -4,6 +4,7 @@
 //! - `config LINE` adds a line to the configuration, the first one in place of the line above. `words WORD..` stand behind the
 //!   program's name in place of `run`.
 //! - `fill FILE COUNT BYTE` makes that many equal bytes the front of a file, `log BYTES` gives the journal a log (in hexadecimal).
+//!   `block BYTES` and `mark` are records, a block as far as it isn't zeros, and `tape SLOT` puts those so far on a tape.
 //!   `volume NAME` makes a volume, by one call of the cell, `spoil NAME AT` makes its image a bad one. `out SLOT` takes a tape
 //!   out, `back SLOT` puts it back.
 //! - `media N`, `cell N` and `read N` make the call of that number fail.
@@ -48,6 +49,17 @@ fn log_by(alloc: Global, world: &mut World, rest: &str) -> anyhow::Result<()> {
     let log = bytes(alloc, rest)?;
     let file = file_of_log(alloc, log.as_slice())?;
     fill(alloc, &mut world.media, 0, file.as_slice())
+}
+
+/// Makes the records so far a tape, by the words of a step.
+fn tape_by(alloc: Global, world: &mut World, rest: &str) -> anyhow::Result<()> {
+    let slot = small_number(rest)?;
+    if slot > 3 {
+        anyhow::bail!("there is no slot {slot}");
+    }
+    let file = file_of_log(alloc, world.records.as_slice())?;
+    world.records.clear();
+    fill(alloc, &mut world.media, slot + 1, file.as_slice())
 }
 
 /// Makes a volume's image a bad one by the words of a step.
@@ -110,6 +122,9 @@ fn prepare(alloc: Global, world: &mut World, verb: &str, rest: &str) -> anyhow::
         "words" => world.say(alloc, rest)?,
         "fill" => fill_by(alloc, world, rest)?,
         "log" => log_by(alloc, world, rest)?,
+        "block" => world.add_record(0, bytes(alloc, rest)?.as_slice())?,
+        "mark" => world.add_record(1, b"")?,
+        "tape" => tape_by(alloc, world, rest)?,
         "volume" => world.create(alloc, rest)?,
         "spoil" => spoil_by(alloc, world, rest)?,
         "out" => move_tape(&mut world.media, small_number(rest)?, true)?,

@@ -12,6 +12,9 @@ use std::alloc::{AllocError, Global};
 /// The configuration where a row gives none.
 const FOUR_SLOTS: &[u8] = b"slots:0-3 0\n";
 
+/// The length of a block.
+const BLOCK: usize = 16_384;
+
 /// Media, a cell, and what is run over them.
 #[derive(Drop)]
 pub struct World {
@@ -19,6 +22,8 @@ pub struct World {
     pub cell: CellMem,
     pub order: Order,
     pub is_configured: bool,
+    /// Records that stand on no tape yet, as the bytes of a tape's log.
+    pub records: Vec<u8>,
     pub script: Script,
     pub journal_looks: Script,
     pub tape_looks: Script,
@@ -38,6 +43,7 @@ impl World {
                 failing_read: None,
             },
             is_configured: false,
+            records: Vec::new(alloc),
             script: Script::new(alloc),
             journal_looks: Script::new(alloc),
             tape_looks: Script::new(alloc),
@@ -52,6 +58,19 @@ impl World {
         }
         self.order.config.extend_from_slice(line.as_bytes())?;
         self.order.config.push(b'\n')?;
+        Ok(())
+    }
+
+    /// Adds a record to those that stand on no tape yet: a block that begins with these bytes (kind 0), or a mark (kind 1).
+    pub fn add_record(&mut self, kind: u8, front: &[u8]) -> anyhow::Result<()> {
+        if front.len() > BLOCK {
+            anyhow::bail!("a block is too long");
+        }
+        self.records.push(kind)?;
+        self.records.extend_from_slice(front)?;
+        for _ in front.len()..BLOCK {
+            self.records.push(0)?;
+        }
         Ok(())
     }
 
