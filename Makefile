@@ -4,11 +4,14 @@ SAMPLE := examples/one-file.dump
 
 .PHONY: demo test try bench edge-tests
 
-# Proves and builds the program, examines a sample stream, and runs a sample script in a folder of its own.
+# Proves and builds the program, examines a sample stream, runs a sample script in a folder of its own, and shows what that left in the
+# journal and on the tape: what stands in their files behind the first 8,192 bytes.
 demo: afsbackup
-	./afsbackup examine < $(SAMPLE)
-	rm -rf out/demo && mkdir -p out/demo/media && touch out/demo/media/slot0 && echo "slots:0-0 0" > out/demo/tapeconfig
-	cd out/demo && ../../afsbackup run < ../../examples/first.script
+	@./afsbackup examine < $(SAMPLE)
+	@rm -rf out/demo && mkdir -p out/demo/media && touch out/demo/media/slot0 && echo "slots:0-0 0" > out/demo/tapeconfig
+	@cd out/demo && ../../afsbackup run < ../../examples/first.script
+	@echo "the journal's log" && tail -c +8193 out/demo/media/journal | od -A d -t x1z
+	@echo "the tape in slot 0" && tail -c +8193 out/demo/media/slot0 | od -A d -t x1z
 
 # Leaves the proved program as ./afsbackup.
 afsbackup: $(wildcard crates/*/src/*.rt crates/*/specs/*.antt) crates.txt
