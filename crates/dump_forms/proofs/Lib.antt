@@ -1,0 +1,7 @@
+mod Choices
+pub mod EventForms
+pub mod JournalLaws
+pub mod SlotForms
+mod BaseNames
+mod AppendLaws
+pub mod BeginForms

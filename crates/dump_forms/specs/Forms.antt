@@ -1,0 +1,72 @@
+-- The forms of what a dump has between two events, and of what stands around it: each number fits its bytes, and each text is one of its kind.
+use Rattle.std.specs.Prelude.{◌≡◌, ℕ, ◌≤◌, Some, IfSome, List, map, slice_get, All}
+use Rattle.byte_formats.specs.Forms.{IsFour}
+use Rattle.bk_text.specs.Alphabets.{IsName, IsHost}
+use Rattle.vnode_model.specs.declared.volumes.VolumeFields.{VolumeFields}
+use Rattle.vnode_model.specs.Limits.{AreVolume}
+use Rattle.dump_stream.specs.Allowed.{AllowedHeader, AllowedVnode}
+use Rattle.cell_core.specs.declared.stored.Stored.{Stored}
+use Rattle.cell_core.specs.declared.stored.Image.{Image}
+use Rattle.cell_core.specs.declared.stored.Image.TheVariants.{Good, Bad}
+use Rattle.tape_frames.specs.Layouts.{FitsLabel, FitsDumpHead, FitsVolHead}
+use Rattle.budb_changes.specs.Forms.{IsTapePart, IsFrag, IsVolRecord, IsDumpRecord, AreChanges}
+use Rattle.tape_scan.specs.Slots.{Slot}
+use Rattle.tape_choice.specs.Reads.{label_in}
+use Rattle.dump_job.specs.declared.fields.Hand.{Hand}
+use Rattle.dump_job.specs.declared.fields.JobFields.{JobFields}
+use Rattle.dump_job.specs.Ending.{place_of_part}
+use Rattle.dump_job.specs.Jobs.{IsJob}
+use Rattle.dump_job.specs.Events.{Around, Event}
+
+-- ---- what stands around a dump
+
+-- a volume as its types allow it
+pub record IsVolumeForm (v : VolumeFields) : Type 0 where
+  pub header : AllowedHeader v.header
+  pub vnodes : All AllowedVnode v.vnodes
+  pub fit : AreVolume v.vnodes
+
+abbrev pub IsImageForm : Image → Type 0
+IsImageForm (Good volume) = IsVolumeForm volume
+IsImageForm (Bad at) = Unit {0}
+
+pub record IsStoredForm (s : Stored) : Type 0 where
+  pub name : IsName s.name
+  pub server : IsHost s.server
+  pub partition : IsName s.partition
+  pub image : IsImageForm s.image
+
+-- where a tape has a label its fields fit
+abbrev pub LabelsFit : List Slot → Type 0
+LabelsFit slots = (k : ℕ) (s : Slot) → slice_get slots k ≡ Some s → IfSome (label_in s.items) FitsLabel
+
+pub record AroundHasForms (a : Around) : Type 0 where
+  pub labels : LabelsFit a.slots
+  pub cell : All IsStoredForm a.cell
+
+-- ---- a dump
+
+-- the volume in hand: its head, and where its fragments begin
+pub record IsHandForm (h : Hand) : Type 0 where
+  pub head : FitsVolHead h.head
+  pub each : All IsFrag h.frags
+  pub at : IsFour h.at
+
+-- The tapes of a port take at most 4,000,000,000 bytes, by which all counts of records fit four bytes.
+pub record HasForms (j : JobFields) : Type 0 where
+  pub job : IsJob j
+  pub capacity : j.port.capacity ≤ 4000000000
+  pub time : IsFour j.time
+  pub parent : IfSome j.parent IsDumpRecord
+  pub head : FitsDumpHead j.head
+  pub first : IsFour j.first
+  pub filled : All IsTapePart (map place_of_part j.filled)
+  pub hand : IfSome j.hand IsHandForm
+  pub volumes : All IsVolRecord j.volumes
+
+-- ---- an event
+
+-- What it commits can be written, and behind it the dump has its forms again.
+pub record EventHasForms (e : Event) : Type 0 where
+  pub changes : AreChanges e.changes
+  pub job : HasForms e.job
