@@ -8,3 +8,7 @@ pub mod EntryLaws
 pub mod Passing
 pub mod Scenes
 pub mod Steps
+pub mod FormLaws
+mod OrderForms
+pub mod Checks
+pub mod Making

@@ -68,6 +68,7 @@ module _ {D E : Type 0} (P : Plant D) (C : Cell E) (s : Scene) where
   -- the tape on which a dump would begin, as a search finds it
   pub tape_told : (budb : BudbView) (plant : D) (site : E) (o : DumpOrder) → (P.view plant).log_size ≡ length (state_of P plant).log → IsScene P C s budb plant site
       → first_tape budb.database (slots_in s) (whole_in s) o (P.view plant).log_size ≡ tape_for s o
+  unfolding tape_for
   tape_told budb plant site o log_told is =
       let size : (P.view plant).log_size ≡ length (encoded s.log) = log_told ∙ ap length is.state.log ∙ ap length is.keeps.is in
       λ i. first_tape (is.keeps.fold i) (slots_in s) (whole_in s) o (size i)
@@ -145,6 +146,7 @@ module _ {D E : Type 0} (P : Plant D) (C : Cell E) (s : Scene) where
     -- the dump was begun and went to its end
     pub begun_answered : P.tells → IsScene P C s budb old site → (budb_after : BudbView) (mid new : D) (end : End) (d : Dumped) → DoneAhead P (commit_of s o t) old mid → IsEnded P s (begun_point s o t) end budb_after mid new
         → d.text ≡ end_line o.set o.port.offset budb_after.database.listed (answer_of end) → d.time ≡ (begun s o t).time → IsAnswered P s (begun s o t) budb_after old new d
+    unfolding begun
     begun_answered told is budb_after mid new end d first ended text time =
         let c : Course = course s (begun_point s o t) in
         let es : List Effect = commit_of s o t ++ (course s (begun_point s o t)).effects in

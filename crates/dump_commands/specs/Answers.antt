@@ -29,12 +29,14 @@ use Rattle.dump_job.specs.declared.first_tapes.FirstTape.{FirstTape}
 use Rattle.dump_job.specs.declared.order.DumpOrder.{DumpOrder}
 use Rattle.dump_job.specs.Beginning.{id_of, begin_changes, begun_job, first_tape}
 use Rattle.dump_commands.specs.declared.command.DumpCommand.{DumpCommand}
+use Rattle.dump_commands.specs.declared.running.End.{End}
 use Rattle.dump_commands.specs.declared.told.Dumped.{Dumped}
 use Rattle.dump_commands.specs.Scenes.{Scene, database_in, slots_in, entries_in, whole_in}
 use Rattle.dump_commands.specs.Orders.{asked_port, order_of}
 use Rattle.dump_commands.specs.Refusals.{fault_line, fault_text, fault_of, refusal_by, trial_refusal}
 use Rattle.dump_commands.specs.Trials.{trial_text}
 use Rattle.dump_commands.specs.Courses.{Point, Course, course}
+use Rattle.dump_commands.specs.Running.{IsEnded, answer_of}
 
 -- what each dump has of a volume, by its id and the volume's name: its contents, or the refusal by which its play ends
 abbrev pub Contents : Type 0
@@ -122,13 +124,13 @@ ended s o t c = record {
   contents = contents_with s o;
 }
 
-abbrev pub begun : Scene → DumpOrder → FirstTape → Answer
+unfoldable pub begun : Scene → DumpOrder → FirstTape → Answer
 begun s o t = ended s o t (course s (begun_point s o t))
 
 -- ---- the command
 
 -- the tape on which the dump would begin, or what it is refused by
-abbrev pub tape_for : Scene → DumpOrder → Result FirstTape JobFault
+unfoldable pub tape_for : Scene → DumpOrder → Result FirstTape JobFault
 tape_for s o = first_tape (database_in s) (slots_in s) (whole_in s) o (length (encoded s.log))
 
 abbrev pub begun_or : Scene → DumpOrder → Result FirstTape JobFault → Answer
@@ -140,14 +142,14 @@ abbrev pub refused_or : Scene → Option (List ℕ) → Answer → Answer
 refused_or s (Some text) otherwise = said s text
 refused_or s None otherwise = otherwise
 
-abbrev pub real_answer : Scene → DumpOrder → Answer
+unfoldable pub real_answer : Scene → DumpOrder → Answer
 real_answer s o = refused_or s (refusal_by (entries_in s) o (fault_of (tape_for s o))) (begun_or s o (tape_for s o))
 
 -- nothing is done, and no tape is asked
 abbrev pub trial_answer : Scene → DumpOrder → Answer
 trial_answer s o = refused_or s (trial_refusal (entries_in s) o) (said s (trial_text (database_in s).listed s.cell o))
 
-abbrev pub order_answer : Scene → DumpCommand → DumpOrder → Answer
+unfoldable pub order_answer : Scene → DumpCommand → DumpOrder → Answer
 order_answer s a o = if a.trial then trial_answer s o else real_answer s o
 
 abbrev pub port_answer : Scene → DumpCommand → Result PortFields (List ℕ) → Answer
@@ -169,3 +171,9 @@ pub record IsAnswered {D : Type 0} (P : Plant D) (s : Scene) (a : Answer) (budb 
   pub keeps : Keeps a.log (come a.effects s.state).log budb
   pub state : Alike (come a.effects s.state) (state_of P new)
   pub settled : IsSettled (come a.effects s.state)
+
+-- A dump went from this point to its end, and this was told of it.
+pub record IsFinished {D : Type 0} (P : Plant D) (s : Scene) (p : Point) (set : List ℕ) (offset : ℕ) (text : List ℕ) (budb : BudbView) (old new : D) : Type 0 where
+  pub end : End
+  pub ended : IsEnded P s p end budb old new
+  pub line : text ≡ end_line set offset budb.database.listed (answer_of end)

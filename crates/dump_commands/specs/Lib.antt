@@ -6,3 +6,4 @@ pub mod Trials
 pub mod Courses
 pub mod Running
 pub mod Answers
+pub mod Forms

@@ -5,6 +5,8 @@ use Rattle.vnode_model.specs.declared.listed.EntryState.{EntryState}
 use Rattle.vnode_model.specs.declared.listed.EntryState.TheVariants.{Good, Bad}
 use Rattle.dump_job.specs.declared.fault.JobFault.{JobFault}
 use Rattle.dump_job.specs.declared.fault.JobFault.TheVariants as fault
+use Rattle.dump_commands.specs.declared.stop.DumpStop.{DumpStop}
+use Rattle.dump_commands.specs.declared.stop.DumpStop.TheVariants as stop
 use Rattle.dump_job.specs.declared.first_tapes.FirstTape.{FirstTape}
 use Rattle.dump_job.specs.declared.order.DumpOrder.{DumpOrder}
 use Rattle.backup_replies.specs.declared.refusals.Refusal.TheVariants.{NoTape, NothingToAppend, CapacityTooSmall, NoVolumes, IdsSpent, LogFull, BadImage}
@@ -22,6 +24,16 @@ fault_line set offset fault.IdsSpent = refused_alone IdsSpent
 fault_line set offset (fault.LogFull size) = refused_number LogFull size
 fault_line set offset fault.Failed = []
 fault_line set offset fault.Memory = []
+
+-- what stops the session isn't told
+abbrev pub passed_on : JobFault → Result JobFault DumpStop
+passed_on fault.NothingToAppend = Ok fault.NothingToAppend
+passed_on (fault.NoTape name) = Ok (fault.NoTape name)
+passed_on fault.CapacityTooSmall = Ok fault.CapacityTooSmall
+passed_on fault.IdsSpent = Ok fault.IdsSpent
+passed_on (fault.LogFull size) = Ok (fault.LogFull size)
+passed_on fault.Failed = Err stop.Plant
+passed_on fault.Memory = Err stop.Memory
 
 abbrev pub fault_text : DumpOrder → JobFault → List ℕ
 fault_text o f = fault_line o.set o.port.offset f

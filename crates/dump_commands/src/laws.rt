@@ -1,12 +1,17 @@
 //! Laws, each the contract of a function without a body.
 
-ghost use Rattle.std.specs.Prelude.{◌≡◌, ◌<◌, true, false, List as AnyList};
+ghost use Rattle.std.specs.Prelude.{◌≡◌, ◌<◌, true, false, List as AnyList, All};
 ghost use Rattle.vnode_model.specs.declared.listed.VolEntry.{VolEntry};
 ghost use Rattle.volume_sets.specs.declared.sets.SetEntry.{SetEntry};
 ghost use Rattle.volume_sets.specs.Expansions.{IsExpansion};
+ghost use Rattle.dump_forms.specs.Forms.{IsStoredForm, HasForms};
+ghost use Rattle.dump_forms.specs.Journals.{IsJournalAfter};
+ghost use Rattle.dump_commands.specs.declared.command.DumpCommand.{DumpCommand as AnyCommand};
 ghost use Rattle.dump_commands.specs.Expanding.{expansion};
 ghost use Rattle.dump_commands.specs.Scenes.{Scene};
+ghost use Rattle.dump_commands.specs.Forms.{IsSceneForm, IsCommandForm};
 ghost use Rattle.dump_commands.specs.Courses.{Point, goes_on, next_event, behind, last_event, event_then, events_left, course};
+ghost use Rattle.dump_commands.specs.Answers.{dump_answer};
 
 /// The expansion of a volume set, as a function of its entries, is that of its definition.
 pub fn a_set_is_expanded()
@@ -19,4 +24,15 @@ pub fn a_course_goes_by_its_events()
     ensures more { (s : Scene) (p : Point) → goes_on (next_event s p).answer ≡ true → course s p ≡ event_then (next_event s p) (course s (behind p (next_event s p))) }
     ensures last { (s : Scene) (p : Point) → goes_on (next_event s p).answer ≡ false → course s p ≡ last_event p (next_event s p) }
     ensures fewer { (s : Scene) (p : Point) → goes_on (next_event s p).answer ≡ true → events_left s.cell (next_event s p).job < events_left s.cell p.job }
+{}
+
+/// What the course of a dump commits has bytes, from a point on at which the dump has its forms, over a cell of volumes of the types: the
+/// journal behind it is that of its changes.
+pub fn what_a_course_commits_has_bytes()
+    ensures { (s : Scene) (p : Point) → All IsStoredForm s.cell → HasForms p.job → IsJournalAfter p.log (course s p).effects (course s p).log }
+{}
+
+/// What a dump commits has bytes, where what it finds has its forms: the journal behind its effects is that of its changes.
+pub fn what_a_dump_commits_has_bytes()
+    ensures { (s : Scene) (a : AnyCommand) → IsSceneForm s → IsCommandForm a → IsJournalAfter s.log (dump_answer s a).effects (dump_answer s a).log }
 {}

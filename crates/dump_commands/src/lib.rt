@@ -2,6 +2,7 @@
 #![tactic(auto)]
 
 mod command;
+mod dumping;
 mod entries;
 mod laws;
 mod orders;
@@ -13,6 +14,9 @@ mod told;
 mod trials;
 
 pub use command::DumpCommand;
-pub use laws::{a_course_goes_by_its_events, a_set_is_expanded};
+pub use laws::{
+    a_course_goes_by_its_events, a_set_is_expanded, what_a_course_commits_has_bytes,
+    what_a_dump_commits_has_bytes,
+};
 pub use stop::DumpStop;
 pub use told::Dumped;
