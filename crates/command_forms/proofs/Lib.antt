@@ -1,3 +1,5 @@
 pub mod Expirations
+pub mod Words
 pub mod Values
 pub mod Lines
+pub mod NewNames

@@ -10,7 +10,7 @@ use Rattle.bk_text.specs.Digits.{digits_of}
 use Rattle.bk_text.specs.LevelPaths.{IsLevelPath}
 use Rattle.bk_text.specs.Partitions.{without_slash}
 use Rattle.bk_text.specs.Patterns.{IsPattern}
-use Rattle.bk_text.specs.Tests.{level_path_test}
+use Rattle.bk_text.specs.Tests.{name_test, level_path_test}
 use Rattle.byte_formats.specs.Forms.{IsTwo, IsAnyOr}
 use Rattle.dump_levels.specs.declared.dates.DateFault.{DateFault}
 use Rattle.dump_levels.specs.Expiries.{expiry_says}
@@ -22,12 +22,12 @@ use Rattle.backup_words.specs.declared.options.OptionName.TheVariants as option
 use Rattle.backup_words.specs.declared.options.Need.{Need}
 use Rattle.backup_words.specs.declared.options.Need.TheVariants.{Required}
 use Rattle.backup_words.specs.declared.options.TextForm.{TextForm}
-use Rattle.backup_words.specs.declared.options.TextForm.TheVariants.{AnyHost, AnyPart}
+use Rattle.backup_words.specs.declared.options.TextForm.TheVariants.{NewName, AnyHost, AnyPart}
 use Rattle.backup_words.specs.declared.options.Form.{Form}
 use Rattle.backup_words.specs.declared.options.Form.TheVariants.{Text, Number, Pattern, Levels}
 use Rattle.backup_words.specs.declared.faults.ValueFault.TheVariants.{Unfit, NoPattern}
 use Rattle.backup_words.specs.Fitting.{IsText, Fits}
-use Rattle.backup_words.specs.Forms.{is_text, is_any, within, number_within}
+use Rattle.backup_words.specs.Forms.{is_text, is_any, ends_in_backup, within, number_within}
 use Rattle.backup_words.specs.Table.{rule, port}
 use Rattle.backup_words.specs.Words.{given}
 use Rattle.backup_words.specs.Values.{unfit_unless, is_flag, is_excluded, values_fault, form_fault, given_fault, first_word, maybe_word, word_at, number_in, number_at, words_at, unless_any, ok_or_else, expiry_at}
@@ -69,6 +69,13 @@ module _ (words : List (List ℕ)) (o : OptionName) where
   text_at form fits =
       let it = is_given (Text form) refl fits in
       subst (λ (g : Option (List (List ℕ))). IsText form (unwrap_or (option_map first_word g) [])) (sym it.is) (text_form form it.value (unfit o (is_text form it.value) it.good))
+
+  -- a new name has another ending than `.backup`
+  pub new_at : Fits words (rule o Required (Text NewName)) → not (ends_in_backup (word_at o words)) ≡ true
+  new_at fits =
+      let it = is_given (Text NewName) refl fits in
+      subst (λ (g : Option (List (List ℕ))). not (ends_in_backup (unwrap_or (option_map first_word g) [])) ≡ true) (sym it.is)
+      (and_parts (name_test it.value) (not (ends_in_backup it.value)) (unfit o (is_text NewName it.value) it.good)).1
 
   pub pattern_at : Fits words (rule o Required Pattern) → IsPatternBytes (word_at o words)
   pattern_at fits =
@@ -139,6 +146,11 @@ any_host word form = host_unless word (is_any word) refl form
 
 pub any_part : (word : List ℕ) → IsText AnyPart word → IsAnyOr IsName (option_map without_slash (unless_any word))
 any_part word form = part_unless word (is_any word) refl form
+
+-- a partition that may be left out
+pub bare_part : (word : Option (List ℕ)) → IfSome word (λ w. IsName (without_slash w)) → IfSome (option_map without_slash word) IsName
+bare_part None form = tt
+bare_part (Some word) form = form
 
 -- ---- expirations
 

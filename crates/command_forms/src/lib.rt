@@ -3,4 +3,4 @@
 
 mod laws;
 
-pub use laws::parsed_commands_have_forms;
+pub use laws::{made_volumes_have_other_names, parsed_commands_have_forms};
