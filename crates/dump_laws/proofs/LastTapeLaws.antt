@@ -1,18 +1,18 @@
 -- A listed dump all of whose tapes are held ends on its last tape.
-use Rattle.std.proofs.Common.{◌≡◌, ℕ, zero, suc, ◌+◌, ◌≤◌, true, Some, List, [], ◌∷◌, map, take, refl, sym, ap, subst, ◌∙◌, arith, inl}
+use Rattle.std.proofs.Common.{◌≡◌, ℕ, zero, suc, ◌+◌, ◌≤◌, true, Some, List, [], ◌∷◌, map, take, refl, sym, ap, subst, ◌∙◌, arith, inl, inr}
 use Rattle.std.specs.Prelude.{◌==◌, find, Contains, slice_get}
 use Rattle.std.proofs.lemmas.List.Elements.{All-contains}
 use Rattle.budb_changes.specs.declared.records.TapePart.{TapePart}
 use Rattle.budb_changes.specs.declared.records.DumpRecordFields.{DumpRecordFields}
 use Rattle.plant_core.specs.Stock.{Stock}
-use Rattle.tape_text.specs.Texts.{Part, Linked, tape_items}
+use Rattle.tape_text.specs.Texts.{Linked, tape_items}
 use Rattle.tape_text.specs.Parts.{FoundPart}
 use Rattle.tape_text.specs.Wholes.{NextTape, EndsWhole, tape_part}
 use Rattle.tape_scan.specs.Slots.{Slot, Located, IsClosedAt, IsFound}
 use Rattle.tape_scan.proofs.ListLaws.{contains_map}
-use Rattle.archive_model.specs.Holding.{place_of, holds}
+use Rattle.archive_model.specs.Holding.{place_of, holds, LiesOn}
 use Rattle.archive_model.specs.Archives.{Archive, listed_of, IsHeld, Holds}
-use Rattle.archive_model.proofs.SlotLaws.{in_map}
+use Rattle.archive_model.proofs.SlotLaws.{in_map, first_or_later}
 use Rattle.archive_model.proofs.StreamLaws.{find_contains}
 use Rattle.archive_model.proofs.FoundLaws.{lies_held, own_place, contains_found, whole_linked, tapes_of_found, part_lies}
 use Rattle.dump_laws.specs.Made.{part_at}
@@ -31,10 +31,16 @@ greatest_ends (x ∷ y ∷ parts) l linked ends (zero, within, is) most =
     absurd (omega (arith, next, high, ap (λ (z : Located). z.found.part.head.tape) is))
 greatest_ends (x ∷ y ∷ parts) l linked ends (suc k, within, is) most = greatest_ends (y ∷ parts) l linked.1 ends (k, omega (arith, within), is) (λ m there. most m (suc there.0, omega (arith, there.1), there.2))
 
--- Where all tapes of each listed dump are held, listed dumps end on their last tapes.
-pub held_ends : (stock : Stock) (a : Archive) (records : List DumpRecordFields) → Holds stock a records → AreAllHeld (listed_of a) a.slots → EndOnLastTapes (listed_of a) a.slots
-held_ends stock a records held all d p k s listed place most at x =
-    let w = held.kept.whole d listed (all d listed) in
+-- a dump ends on its last tape
+abbrev EndsOnLastTape : DumpRecordFields → List Slot → Type 0
+EndsOnLastTape d slots =
+    (p : TapePart) (k : ℕ) (s : Slot) → place_of d p.tape ≡ Some p → ((q : TapePart) → Contains d.tapes q → q.tape ≤ p.tape) → slice_get slots k ≡ Some s → (x : LiesOn d p s.items) → x.found.part.end.more ≡ 0
+
+-- A listed dump all of whose tapes are held ends on its last tape.
+pub one_ends : (stock : Stock) (a : Archive) (records : List DumpRecordFields) → Holds stock a records → (d : DumpRecordFields) (p : TapePart) (k : ℕ) (s : Slot) → Contains (listed_of a) d → IsHeld d a.slots → place_of d p.tape ≡ Some p → ((q : TapePart) → Contains d.tapes q → q.tape ≤ p.tape)
+    → slice_get a.slots k ≡ Some s → (x : LiesOn d p s.items) → x.found.part.end.more ≡ 0
+one_ends stock a records held d p k s listed held_it place most at x =
+    let w = held.kept.whole d listed held_it in
     let tapes : d.tapes ≡ map tape_part (map (λ (l : Located). l.found) w.0) = tapes_of_found a.slots w.0 d w.1 in
     let named : Contains (map tape_part (map (λ (l : Located). l.found) w.0)) p = subst (λ (ts : List TapePart). Contains ts p) tapes (find_contains (λ (q : TapePart). q.tape == p.tape) d.tapes p place) in
     let q = contains_map tape_part (map (λ (l : Located). l.found) w.0) p named in
@@ -54,6 +60,19 @@ held_ends stock a records held all d p k s listed place most at x =
     let mine : IsClosedAt a.slots (record { slot = k; found = x.found }) = record { here = s; at = at; closed = record { tape = x.tape; is = x.is; there = x.there; front = front } } in
     let first : x.found.first ≡ l.0.found.first = ap (λ (y : TapePart). y.first) x.place ∙ sym (ap (λ (y : TapePart). y.first) its_place) in
     ap (λ (y : FoundPart). y.part.end.more) (one_part a.slots (record { slot = k; found = x.found }) l.0 mine c same_slot first) ∙ last
+
+-- so does a listed dump all of whose tapes are held
+pub one_held_ends : (stock : Stock) (a : Archive) (records : List DumpRecordFields) (d : DumpRecordFields) → Holds stock a records → Contains (listed_of a) d → IsHeld d a.slots → EndOnLastTapes (d ∷ []) a.slots
+one_held_ends stock a records d held listed all e p k s there =
+    let same : d ≡ e = elim (first_or_later d [] e there) [
+      | inl is ↦ is
+      | inr more ↦ absurd (omega (arith, more.1))
+    ] in
+    subst (λ (x : DumpRecordFields). EndsOnLastTape x a.slots) same (λ q j t place most at x. one_ends stock a records held d q j t listed all place most at x) p k s
+
+-- Where all tapes of each listed dump are held, listed dumps end on their last tapes.
+pub held_ends : (stock : Stock) (a : Archive) (records : List DumpRecordFields) → Holds stock a records → AreAllHeld (listed_of a) a.slots → EndOnLastTapes (listed_of a) a.slots
+held_ends stock a records held all d p k s listed place most at x = one_ends stock a records held d p k s listed (all d listed) place most at x
 
 -- all tapes of a dump that is found whole are held
 pub found_held : (slots : List Slot) (parts : List Located) (d : DumpRecordFields) → IsFound slots parts d → IsHeld d slots

@@ -16,6 +16,7 @@ pub mod ChosenLaws
 pub mod TapeSteps
 pub mod PartPasses
 pub mod FormLaws
+pub mod PutLaws
 pub mod Stepping
 pub mod EventLaws
 pub mod LastTapeLaws

@@ -1,9 +1,10 @@
 -- Loads between the events of a dump: they settle tapes, and a dump runs on behind them.
 use Rattle.std.proofs.Common.{◌≡◌, ℕ, ◌≤◌, Bool, true, false, List, [], ◌∷◌, ◌++◌, map, length, refl, sym, subst, arith}
-use Rattle.std.specs.Prelude.{◌==◌, if◌then◌else◌, Result, All, Contains}
+use Rattle.std.specs.Prelude.{◌==◌, if◌then◌else◌, Result, Contains}
 use Rattle.std.proofs.lemmas.Bool.{eqb-true}
 use Rattle.std.proofs.lemmas.List.Elements.{All-cons, All-contains}
 use Rattle.vnode_model.specs.declared.volumes.VolumeFields.{VolumeFields}
+use Rattle.cell_core.specs.declared.stored.Taken.{Taken}
 use Rattle.budb_changes.specs.declared.change.Change.{Change}
 use Rattle.budb_changes.specs.declared.records.DumpRecordFields.{DumpRecordFields}
 use Rattle.plant_core.specs.Crashes.{State, Alike}
@@ -21,7 +22,7 @@ use Rattle.dump_job.specs.declared.fields.Phase.TheVariants as phase
 use Rattle.dump_job.specs.Events.{Around, event}
 use Rattle.dump_laws.specs.Made.{Made}
 use Rattle.dump_laws.specs.Running.{Goes, UnlessOver, RunsIn}
-use Rattle.dump_laws.specs.Keeping.{MayStep, contents_behind, IsOnTheWay, Keeps, ImageHolds}
+use Rattle.dump_laws.specs.Keeping.{MayStep, contents_behind, clones_behind, dumps_behind, IsOnTheWay, Keeps, ImageHolds}
 use Rattle.dump_laws.proofs.Stepping.{first_on}
 use Rattle.dump_laws.proofs.EventLaws.{each_event, image_holds}
 
@@ -94,11 +95,11 @@ loads_run (k ∷ away) s a records j m r = loads_run away (comes (settles k) s) 
 
 -- ---- what keeps an archive behind loads keeps it
 
-behind_loads : (away : List ℕ) (s : State) (a : Archive) (records : List DumpRecordFields) (contents : ℕ → List ℕ → Result VolumeFields Refusal) (effects : List Effect) (changes : List Change) (next : JobFields)
-    → HoldsSettled s a records → Keeps (come (map settles away) s) a records contents effects changes next → Keeps s a records contents (map settles away ++ effects) changes next
-behind_loads [] s a records contents effects changes next held k = k
-behind_loads (n ∷ away) s a records contents effects changes next held k =
-    let r = behind_loads away (comes (settles n) s) a records contents effects changes next (settling_holds s a records n held) k in
+behind_loads : (away : List ℕ) (s : State) (a : Archive) (records : List DumpRecordFields) (contents : ℕ → List ℕ → Result VolumeFields Refusal) (clones : List Taken) (dumps : List DumpRecordFields) (effects : List Effect) (changes : List Change) (next : JobFields)
+    → HoldsSettled s a records → Keeps (come (map settles away) s) a records contents clones dumps effects changes next → Keeps s a records contents clones dumps (map settles away ++ effects) changes next
+behind_loads [] s a records contents clones dumps effects changes next held k = k
+behind_loads (n ∷ away) s a records contents clones dumps effects changes next held k =
+    let r = behind_loads away (comes (settles n) s) a records contents clones dumps effects changes next (settling_holds s a records n held) k in
     record {
       before = record { archive = a; records = records } ∷ r.before;
       last = r.last;
@@ -109,19 +110,22 @@ behind_loads (n ∷ away) s a records contents effects changes next held k =
       here = r.here;
       still = r.still;
       listed = r.listed;
-      each = All-cons (IsOnTheWay a r.last.archive) (record { archive = a; records = records }) r.before (first_on a r.last.archive records) r.each;
+      each = All-cons (IsOnTheWay a r.last.archive records dumps) (record { archive = a; records = records }) r.before (first_on a r.last.archive records dumps) r.each;
       runs = r.runs;
+      clones_are = r.clones_are;
+      dumps_are = r.dumps_are;
+      put = r.put;
     }
 
 -- A step, which is an event behind loads, keeps the archive.
 pub step_keeps : (s : State) (a : Archive) (records : List DumpRecordFields) (around : Around) (j : JobFields) (m : Made) → RunsIn s a records j m → MayStep a records around j → (away : List ℕ)
-    → Keeps s a records (contents_behind a j m j.phase) (map settles away ++ (event around j).effects) (event around j).changes (event around j).job
+    → Keeps s a records (contents_behind a j m j.phase) (clones_behind around j m j.phase) (dumps_behind records j j.phase) (map settles away ++ (event around j).effects) (event around j).changes (event around j).job
 step_keeps s a records around j m r may away =
-    behind_loads away s a records (contents_behind a j m j.phase) (event around j).effects (event around j).changes (event around j).job r.held
+    behind_loads away s a records (contents_behind a j m j.phase) (clones_behind around j m j.phase) (dumps_behind records j j.phase) (event around j).effects (event around j).changes (event around j).job r.held
     (each_event (come (map settles away) s) a records around j m (loads_run away s a records j m r) may)
 
 -- and so does each image within it
 pub step_image : (s : State) (a : Archive) (records : List DumpRecordFields) (around : Around) (j : JobFields) (m : Made) → RunsIn s a records j m → MayStep a records around j → (away : List ℕ) (old c : Stock)
     → Joint s (map settles away ++ (event around j).effects) old c → ImageHolds a (a.log ++ (event around j).changes) (contents_behind a j m j.phase) c
 step_image s a records around j m r may away old c joint =
-    image_holds s a records (contents_behind a j m j.phase) (map settles away ++ (event around j).effects) (event around j).changes (event around j).job (step_keeps s a records around j m r may away) old c joint
+    image_holds s a records (contents_behind a j m j.phase) (clones_behind around j m j.phase) (dumps_behind records j j.phase) (map settles away ++ (event around j).effects) (event around j).changes (event around j).job (step_keeps s a records around j m r may away) old c joint

@@ -126,7 +126,7 @@ pub take_held : (take : Option ℕ) (s : State) (a : Archive) (records : List Du
 take_held None s a records held forms = subst (λ (l : List Change). HoldsSettled s (with_log a l) records) (sym (append-nil a.log)) held
 take_held (Some initial) s a records held forms = take_commit s a records [] initial held forms tt
 
-among_passed : (take : Option ℕ) (a : Archive) (records : List DumpRecordFields) (e : DumpRecordFields) → Contains (passed_records take a records) e → Contains records e
+pub among_passed : (take : Option ℕ) (a : Archive) (records : List DumpRecordFields) (e : DumpRecordFields) → Contains (passed_records take a records) e → Contains records e
 among_passed None a records e there = there
 among_passed (Some initial) a records e there = remaining_among (without (is_initial initial) (listed_of a)) a.slots records e there
 

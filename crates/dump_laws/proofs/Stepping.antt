@@ -33,7 +33,7 @@ use Rattle.archive_model.specs.Settled.{HoldsSettled, Kept, AreHeld}
 use Rattle.archive_model.specs.Turns.{with_items, with_log, with_slot, is_here, remaining, StillHeld}
 use Rattle.archive_model.proofs.DumpLaws.{held_then}
 use Rattle.archive_model.proofs.ExampleLaws.{with_twice}
-use Rattle.archive_model.proofs.JobLaws.{slot_with}
+use Rattle.archive_model.proofs.JobLaws.{remaining_among, slot_with}
 use Rattle.archive_model.proofs.StillLaws.{cut_still_held}
 use Rattle.dump_job.specs.declared.fields.Hand.{Hand}
 use Rattle.dump_job.specs.declared.fields.JobFields.{JobFields}
@@ -49,8 +49,9 @@ use Rattle.dump_job.specs.Passing.{may_go_on, next_wanting, next_choice, next_ha
 use Rattle.dump_job.specs.Events.{Around, Event, clone_by, clone_from, head_event, piece_event, part_end_event, part_end_by, event_by, items_of, items_at}
 use Rattle.dump_laws.specs.Made.{Made, MayCome}
 use Rattle.dump_laws.specs.Running.{basis_of, Goes, IsOpen, IsChosen, Comes, BeforeTape, CloneGoes, BeforeClone, BeforeHead, HasOpenFragment, BeforePiece, BeforeVolumeEnd, BeforePartEnd, BeforeDumpEnd, WithHand, Before, UnlessOver, RunsIn}
-use Rattle.dump_laws.specs.Keeping.{IsFormedHand, IsFormed, HasRoomBefore, CloneIsFair, IsOnTheWay, Keeps}
+use Rattle.dump_laws.specs.Keeping.{IsFormedHand, IsFormed, HasRoomBefore, CloneIsFair, one_more, clone_for, IsOnTheWay, Keeps}
 use Rattle.dump_laws.proofs.NeighbourLaws.{ends_so, get_within}
+use Rattle.dump_laws.proofs.PutLaws.{AreOwn, same_put, more_put, front_put}
 use Rattle.dump_laws.proofs.StreamLaws.{with_fragment}
 use Rattle.dump_laws.proofs.StayingLaws.{still_self, still_then, still_put, still_free}
 use Rattle.dump_laws.proofs.FormLaws.{end_fits, fragment_end_fits, piece_fits, head_fits}
@@ -59,7 +60,7 @@ use Rattle.dump_laws.proofs.CloneSteps.{is_cloned}
 use Rattle.dump_laws.proofs.CloneGoes.{clone_with, first_clone_goes, first_clone, later_clone_goes, later_clone}
 use Rattle.dump_laws.proofs.ChosenLaws.{IsChosenOf, chosen_of}
 use Rattle.dump_laws.proofs.PartEnds.{EndsEarly, end_held as part_held_all, end_held_last}
-use Rattle.dump_laws.proofs.PartPasses.{passed_made, passed_archive, passed_records, took_among, take_held, passed_goes, passed_before, comes_cut, comes_whole}
+use Rattle.dump_laws.proofs.PartPasses.{passed_made, passed_archive, passed_records, among_passed, took_among, take_held, passed_goes, passed_before, comes_cut, comes_whole}
 use Rattle.dump_laws.proofs.TapeSteps.{taped_with, taken_held, taken_goes, taken_open, appended_held, appended_goes, appended_open, begun_room, begun_before}
 
 -- ---- what a dump runs by
@@ -88,29 +89,33 @@ here_same zero items (t ∷ slots) = refl
 here_same (suc k) items (t ∷ slots) = ap (λ (l : List Bool). t.here ∷ l) (here_same k items slots)
 
 -- an archive with other items on one slot
-pub slot_on : (a z : Archive) (k : ℕ) (items : List Item) (records : List DumpRecordFields) → StillHeld (listed_of a) a.slots (with_items k items a.slots) → IsOnTheWay a z (record { archive = with_slot a k items; records = records })
-slot_on a z k items records still = record { log = inl refl; contents = inl refl; here = here_same k items a.slots; still = still; listed = λ d there. inl there }
+pub slot_on : (a z : Archive) (records dumps : List DumpRecordFields) (k : ℕ) (items : List Item) (few : List DumpRecordFields) → StillHeld (listed_of a) a.slots (with_items k items a.slots) → ((d : DumpRecordFields) → Contains few d → Contains records d) → IsOnTheWay a z records dumps (record { archive = with_slot a k items; records = few })
+slot_on a z records dumps k items few still among = record { log = inl refl; contents = inl refl; here = here_same k items a.slots; still = still; listed = λ d there. inl there; dumps_are = λ d there. inl (among d there) }
 
-pub put_on_way : (a z : Archive) (k : ℕ) (s : Slot) (more : List Item) (records : List DumpRecordFields) → slice_get a.slots k ≡ Some s → IsOnTheWay a z (record { archive = with_slot a k (s.items ++ more); records = records })
-put_on_way a z k s more records at = slot_on a z k (s.items ++ more) records (still_put (listed_of a) a.slots k s more at)
+pub put_on_way : (a z : Archive) (records dumps : List DumpRecordFields) (k : ℕ) (s : Slot) (more : List Item) → slice_get a.slots k ≡ Some s → IsOnTheWay a z records dumps (record { archive = with_slot a k (s.items ++ more); records = records })
+put_on_way a z records dumps k s more at = slot_on a z records dumps k (s.items ++ more) records (still_put (listed_of a) a.slots k s more at) (λ d there. there)
 
-pub first_on : (a z : Archive) (records : List DumpRecordFields) → IsOnTheWay a z (record { archive = a; records = records })
-first_on a z records = record { log = inl refl; contents = inl refl; here = refl; still = still_self (listed_of a) a.slots; listed = λ d there. inl there }
+pub first_on : (a z : Archive) (records dumps : List DumpRecordFields) → IsOnTheWay a z records dumps (record { archive = a; records = records })
+first_on a z records dumps = record { log = inl refl; contents = inl refl; here = refl; still = still_self (listed_of a) a.slots; listed = λ d there. inl there; dumps_are = λ d there. inl there }
 
-pub on_one : (a z : Archive) (x : Kept) → IsOnTheWay a z x → All (IsOnTheWay a z) (x ∷ [])
-on_one a z x p = All-cons (IsOnTheWay a z) x [] p (All-nil (IsOnTheWay a z))
+module _ (a z : Archive) (records dumps : List DumpRecordFields) where
+  abbrev On : Kept → Type 0
+  On x = IsOnTheWay a z records dumps x
 
-pub on_two : (a z : Archive) (x y : Kept) → IsOnTheWay a z x → IsOnTheWay a z y → All (IsOnTheWay a z) (x ∷ y ∷ [])
-on_two a z x y p q = All-cons (IsOnTheWay a z) x (y ∷ []) p (on_one a z y q)
+  pub on_one : (x : Kept) → On x → All On (x ∷ [])
+  on_one x p = All-cons On x [] p (All-nil On)
 
-pub on_three : (a z : Archive) (x y w : Kept) → IsOnTheWay a z x → IsOnTheWay a z y → IsOnTheWay a z w → All (IsOnTheWay a z) (x ∷ y ∷ w ∷ [])
-on_three a z x y w p q r = All-cons (IsOnTheWay a z) x (y ∷ w ∷ []) p (on_two a z y w q r)
+  pub on_two : (x y : Kept) → On x → On y → All On (x ∷ y ∷ [])
+  on_two x y p q = All-cons On x (y ∷ []) p (on_one y q)
 
-pub on_four : (a z : Archive) (x y w v : Kept) → IsOnTheWay a z x → IsOnTheWay a z y → IsOnTheWay a z w → IsOnTheWay a z v → All (IsOnTheWay a z) (x ∷ y ∷ w ∷ v ∷ [])
-on_four a z x y w v p q r t = All-cons (IsOnTheWay a z) x (y ∷ w ∷ v ∷ []) p (on_three a z y w v q r t)
+  pub on_three : (x y w : Kept) → On x → On y → On w → All On (x ∷ y ∷ w ∷ [])
+  on_three x y w p q r = All-cons On x (y ∷ w ∷ []) p (on_two y w q r)
 
-pub on_five : (a z : Archive) (x y w v u : Kept) → IsOnTheWay a z x → IsOnTheWay a z y → IsOnTheWay a z w → IsOnTheWay a z v → IsOnTheWay a z u → All (IsOnTheWay a z) (x ∷ y ∷ w ∷ v ∷ u ∷ [])
-on_five a z x y w v u p q r t o = All-cons (IsOnTheWay a z) x (y ∷ w ∷ v ∷ u ∷ []) p (on_four a z y w v u q r t o)
+  pub on_four : (x y w v : Kept) → On x → On y → On w → On v → All On (x ∷ y ∷ w ∷ v ∷ [])
+  on_four x y w v p q r t = All-cons On x (y ∷ w ∷ v ∷ []) p (on_three y w v q r t)
+
+  pub on_five : (x y w v u : Kept) → On x → On y → On w → On v → On u → All On (x ∷ y ∷ w ∷ v ∷ u ∷ [])
+  on_five x y w v u p q r t o = All-cons On x (y ∷ w ∷ v ∷ u ∷ []) p (on_four y w v u q r t o)
 
 -- ---- tests
 
@@ -136,7 +141,7 @@ unfolding written
 written_some i same = absurd (cc)
 
 module _ (s : State) (a : Archive) (records : List DumpRecordFields) (around : Around) (j : JobFields) (m : Made) (g : Goes s a records j m) where
-  clone_kept : (next : JobFields) (m2 : Made) → RunsIn s a records next m2 → Keeps s a records a.contents [] [] next
+  clone_kept : (next : JobFields) (m2 : Made) → RunsIn s a records next m2 → Keeps s a records a.contents m2.clones records [] [] next
   clone_kept next m2 runs = record {
     before = [];
     last = record { archive = a; records = records };
@@ -147,14 +152,17 @@ module _ (s : State) (a : Archive) (records : List DumpRecordFields) (around : A
     here = refl;
     still = still_self (listed_of a) a.slots;
     listed = λ d there. inl there;
-    each = All-nil (IsOnTheWay a a);
+    each = All-nil (IsOnTheWay a a records records);
     runs = runs;
+    clones_are = refl;
+    dumps_are = λ d there. there;
+    put = same_put s a records g.held next.head.id;
   }
 
   parent_there : (p : DumpRecordFields) → j.parent ≡ Some p → Contains records p × (p.id ≡ j.head.parent)
   parent_there p is = (let x = g.parent.some p is in (g.held.seen.kept.dumps.complete p (inl x.0), x.1))
 
-  clone_by_hand : (c : CloneIsFair a records around j) (o : Option Hand) → j.hand ≡ o → IsOpen a j m [] → CloneGoes a j m o → Keeps s a records a.contents [] [] (cloned c.entry c.clone j)
+  clone_by_hand : (c : CloneIsFair a records around j) (o : Option Hand) → j.hand ≡ o → IsOpen a j m [] → CloneGoes a j m o → Keeps s a records a.contents (m.clones ++ c.clone ∷ []) records [] [] (cloned c.entry c.clone j)
   clone_by_hand c None is open_part n =
       let none : volumes_done j ≡ j.volumes = ap (λ (o : Option Hand). with_hand j.head.tape o j.volumes) is in
       let cloned_is = is_cloned around.cell c.cell a.contents records j.time c.place j.time c.entry c.clone c.fair c.listed c.taken (basis_of j) parent_there c.allowed in
@@ -163,7 +171,7 @@ module _ (s : State) (a : Archive) (records : List DumpRecordFields) (around : A
       let goes = first_clone_goes s a records j m g open_part c.entry c.clone cloned_is (written_some (selected c.clone.volume (from_time j c.entry c.clone) c.clone.time)) in
       let before = first_clone s a records j m g open_part c.entry c.clone cloned_is (written_some (selected c.clone.volume (from_time j c.entry c.clone) c.clone.time)) n.0 within n.1 in
       let m2 : Made = record m { clones = m.clones ++ c.clone ∷ [] } in
-      subst (λ (vs : List VolRecordFields). Keeps s a records a.contents [] [] (clone_with vs c.entry c.clone j)) (sym none)
+      subst (λ (vs : List VolRecordFields). Keeps s a records a.contents (m.clones ++ c.clone ∷ []) records [] [] (clone_with vs c.entry c.clone j)) (sym none)
       (clone_kept (clone_with j.volumes c.entry c.clone j) m2 (runs_by s a records (clone_with j.volumes c.entry c.clone j) m2 phase.Head refl goes before))
   clone_by_hand c (Some h) is open_part d =
       let vs : List VolRecordFields = j.volumes ++ record_with j.head.tape h ∷ [] in
@@ -176,23 +184,26 @@ module _ (s : State) (a : Archive) (records : List DumpRecordFields) (around : A
       let goes = later_clone_goes s a records j m g open_part c.entry c.clone cloned_is some h d in
       let before = later_clone s a records j m g open_part c.entry c.clone cloned_is some h d within after in
       let m2 : Made = record m { clones = m.clones ++ c.clone ∷ [] } in
-      subst (λ (l : List VolRecordFields). Keeps s a records a.contents [] [] (clone_with l c.entry c.clone j)) (sym none)
+      subst (λ (l : List VolRecordFields). Keeps s a records a.contents (m.clones ++ c.clone ∷ []) records [] [] (clone_with l c.entry c.clone j)) (sym none)
       (clone_kept (clone_with vs c.entry c.clone j) m2 (runs_by s a records (clone_with vs c.entry c.clone j) m2 phase.Head refl goes before))
 
-  abbrev KeepsBy : Event → Type 0
-  KeepsBy e = Keeps s a records a.contents e.effects e.changes e.job
+  abbrev KeepsOver : List Taken → Event → Type 0
+  KeepsOver clones e = Keeps s a records a.contents clones records e.effects e.changes e.job
 
-  pub clone_keeps : BeforeClone a j m → (c : CloneIsFair a records around j) → KeepsBy (event_by phase.Clone around j)
+  abbrev KeepsBy : Event → Type 0
+  KeepsBy e = KeepsOver m.clones e
+
+  pub clone_keeps : BeforeClone a j m → (c : CloneIsFair a records around j) → KeepsOver (one_more m.clones (clone_for around.cell j.time (slice_get j.places (length (volumes_done j))))) (event_by phase.Clone around j)
   clone_keeps b c =
-      let made : KeepsBy (clone_by (Some c.entry) (Some c.clone) j) = clone_by_hand c j.hand refl b.open_part b.hand in
-      subst (λ (o : Option ℕ). KeepsBy (clone_from around.cell o j)) (sym c.at)
-      (subst (λ (o : Option VolEntry). KeepsBy (clone_by o (clone_at around.cell c.place j.time) j)) (sym c.listed)
-      (subst (λ (o : Option Taken). KeepsBy (clone_by (Some c.entry) o j)) (sym c.taken) made))
+      let made : KeepsOver (m.clones ++ c.clone ∷ []) (clone_by (Some c.entry) (Some c.clone) j) = clone_by_hand c j.hand refl b.open_part b.hand in
+      subst (λ (o : Option ℕ). KeepsOver (one_more m.clones (clone_for around.cell j.time o)) (clone_from around.cell o j)) (sym c.at)
+      (subst (λ (o : Option VolEntry). KeepsOver (one_more m.clones (clone_at around.cell c.place j.time)) (clone_by o (clone_at around.cell c.place j.time) j)) (sym c.listed)
+      (subst (λ (o : Option Taken). KeepsOver (one_more m.clones o) (clone_by (Some c.entry) o j)) (sym c.taken) made))
 
   -- ---- the tape step
 
   tape_by : (b : BeforeTape a j m) (label : Option LabelFields) → j.label ≡ label → IsChosen a j m.front b.slot label → IfSome label FitsLabel → HasRoom 4 2 (counts_on j.port (reel_begun label j.reel)) → (uses : ℕ) → IsFitItem (Says (frames.DumpHead (head_with uses j.head)))
-      → (uses ≡ uses_by label j.head.uses b.slot.items) → Keeps s a records a.contents (cuts j.reel.slot (records_on j.reel) ∷ puts_on j.reel.slot (begun label (head_with uses j.head))) [] (taped_with label uses j)
+      → (uses ≡ uses_by label j.head.uses b.slot.items) → Keeps s a records a.contents m.clones records (cuts j.reel.slot (records_on j.reel) ∷ puts_on j.reel.slot (begun label (head_with uses j.head))) [] (taped_with label uses j)
   tape_by b (Some label) is t fit_label enough uses fit known =
       let k : ℕ = j.reel.slot in
       let all : List Item = Says (frames.Label label) ∷ Filemark ∷ Says (frames.DumpHead (head_with uses j.head)) ∷ [] in
@@ -200,6 +211,7 @@ module _ (s : State) (a : Archive) (records : List DumpRecordFields) (around : A
       let m2 : Made = record m { front = record { label = label; parts = [] } } in
       let few = remaining (listed_of a) (with_items k [] a.slots) records in
       let free = λ (l : List Item). still_free (listed_of a) a.slots k b.slot l b.at t.free in
+      let among : (d : DumpRecordFields) → Contains few d → Contains records d = remaining_among (listed_of a) (with_items k [] a.slots) records in
       record {
         before =
             record { archive = a; records = records } ∷ record { archive = with_slot a k []; records = few } ∷ record { archive = with_slot a k (Says (frames.Label label) ∷ []); records = few } ∷ record { archive = with_slot a k (Says (frames.Label label) ∷ Filemark ∷ []); records = few }
@@ -212,10 +224,13 @@ module _ (s : State) (a : Archive) (records : List DumpRecordFields) (around : A
         here = here_same k all a.slots;
         still = free all;
         listed = λ d there. inl there;
-        each = on_five a z _ _ _ _ _ (first_on a z records) (slot_on a z k [] few (free [])) (slot_on a z k (Says (frames.Label label) ∷ []) few (free (Says (frames.Label label) ∷ []))) (slot_on a z k (Says (frames.Label label) ∷ Filemark ∷ []) few (free (Says (frames.Label label) ∷ Filemark ∷ []))) (slot_on a z k (Says (frames.Label label) ∷ Filemark ∷ []) few (free (Says (frames.Label label) ∷ Filemark ∷ [])));
+        each = on_five a z records records _ _ _ _ _ (first_on a z records records) (slot_on a z records records k [] few (free []) among) (slot_on a z records records k (Says (frames.Label label) ∷ []) few (free (Says (frames.Label label) ∷ [])) among) (slot_on a z records records k (Says (frames.Label label) ∷ Filemark ∷ []) few (free (Says (frames.Label label) ∷ Filemark ∷ [])) among) (slot_on a z records records k (Says (frames.Label label) ∷ Filemark ∷ []) few (free (Says (frames.Label label) ∷ Filemark ∷ [])) among);
         runs =
             runs_by (come (cuts k (records_on j.reel) ∷ puts_on k all) s) z few (taped_with (Some label) uses j) m2 (phase_begun j.hand) refl (taken_goes s a records j m g b uses fit label t fit_label)
             (begun_before a j m (record { label = label; parts = [] }) all (Some label) uses j.hand refl b.comes b.none enough (taken_open s a records j m g b uses fit label t fit_label));
+        clones_are = refl;
+        dumps_are = among;
+        put = front_put s a records g.held j.head.id k b.slot 0 all b.at (λ other no. ((λ same. no (sym same)), tt)) (λ d tape p there place holds_it. absurd (t.free d tape there holds_it));
       }
   tape_by b None is t fit_label enough uses fit known =
       let k : ℕ = j.reel.slot in
@@ -223,6 +238,7 @@ module _ (s : State) (a : Archive) (records : List DumpRecordFields) (around : A
       let all : List Item = front ++ Says (frames.DumpHead (head_with uses j.head)) ∷ [] in
       let z : Archive = with_slot a k all in
       let few = remaining (listed_of a) (with_items k front a.slots) records in
+      let among : (d : DumpRecordFields) → Contains few d → Contains records d = remaining_among (listed_of a) (with_items k front a.slots) records in
       let cut : StillHeld (listed_of a) a.slots (with_items k front a.slots) = cut_still_held (listed_of a) records a.slots a.contents g.held.seen.kept k (records_on j.reel) b.slot b.at t.behind in
       let put : StillHeld (listed_of a) (with_items k front a.slots) (with_items k all (with_items k front a.slots)) =
       still_put (listed_of a) (with_items k front a.slots) k (record b.slot { items = front }) (Says (frames.DumpHead (head_with uses j.head)) ∷ []) (slot_with k front a.slots b.slot b.at) in
@@ -238,10 +254,13 @@ module _ (s : State) (a : Archive) (records : List DumpRecordFields) (around : A
         here = here_same k all a.slots;
         still = both;
         listed = λ d there. inl there;
-        each = on_two a z _ _ (first_on a z records) (slot_on a z k front few cut);
+        each = on_two a z records records _ _ (first_on a z records records) (slot_on a z records records k front few cut among);
         runs =
             runs_by (come (cuts k (records_on j.reel) ∷ puts_on k (Says (frames.DumpHead (head_with uses j.head)) ∷ [])) s) z few (taped_with None uses j) m (phase_begun j.hand) refl (appended_goes s a records j m g b uses fit t known)
             (begun_before a j m m.front all None uses j.hand refl b.comes b.none enough (appended_open s a records j m g b uses fit t known));
+        clones_are = refl;
+        dumps_are = among;
+        put = front_put s a records g.held j.head.id k b.slot (records_on j.reel) (Says (frames.DumpHead (head_with uses j.head)) ∷ []) b.at (λ other no. ((λ same. no (sym same)), tt)) t.behind;
       }
 
   pub tape_keeps : (b : BeforeTape a j m) → IsFormed j → HasRoomBefore j → around.slots ≡ a.slots → KeepsBy (event_by phase.Tape around j)
@@ -254,9 +273,9 @@ module _ (s : State) (a : Archive) (records : List DumpRecordFields) (around : A
   -- ---- the steps of the volume in hand
 
   -- one frame was put on the tape in hand
-  one_put : (t : Slot) (items : List Item) → slice_get a.slots j.reel.slot ≡ Some t → (next : JobFields) (m2 : Made) → AreHeld s (puts_on j.reel.slot items) (record { archive = a; records = records } ∷ record { archive = with_slot a j.reel.slot (t.items ++ items); records = records } ∷ [])
-      → RunsIn (come (puts_on j.reel.slot items) s) (with_slot a j.reel.slot (t.items ++ items)) records next m2 → Keeps s a records a.contents (puts_on j.reel.slot items) [] next
-  one_put t items at next m2 held runs =
+  one_put : (t : Slot) (items : List Item) → slice_get a.slots j.reel.slot ≡ Some t → (next : JobFields) (m2 : Made) → m2.clones ≡ m.clones → AreOwn next.head.id items → AreHeld s (puts_on j.reel.slot items) (record { archive = a; records = records } ∷ record { archive = with_slot a j.reel.slot (t.items ++ items); records = records } ∷ [])
+      → RunsIn (come (puts_on j.reel.slot items) s) (with_slot a j.reel.slot (t.items ++ items)) records next m2 → Keeps s a records a.contents m.clones records (puts_on j.reel.slot items) [] next
+  one_put t items at next m2 clones own held runs =
       let z : Archive = with_slot a j.reel.slot (t.items ++ items) in
       record {
         before = record { archive = a; records = records } ∷ [];
@@ -268,13 +287,16 @@ module _ (s : State) (a : Archive) (records : List DumpRecordFields) (around : A
         here = here_same j.reel.slot (t.items ++ items) a.slots;
         still = still_put (listed_of a) a.slots j.reel.slot t items at;
         listed = λ d there. inl there;
-        each = on_one a z _ (first_on a z records);
+        each = on_one a z records records _ (first_on a z records records);
         runs = runs;
+        clones_are = clones;
+        dumps_are = λ d there. there;
+        put = more_put s a records g.held next.head.id j.reel.slot t items at own;
       }
 
-  end_put : (h : Hand) (x : HasOpenFragment a j h m) (last : ℕ) (next : JobFields) (m2 : Made) → IsFitItem (Says (frames.VolEnd (fragment_end last h)))
-      → RunsIn (come (puts_on j.reel.slot (end_items last h)) s) (with_slot a j.reel.slot (x.open_part.slot.items ++ end_items last h)) records next m2 → Keeps s a records a.contents (puts_on j.reel.slot (end_items last h)) [] next
-  end_put h x last next m2 fit runs =
+  end_put : (h : Hand) (x : HasOpenFragment a j h m) (last : ℕ) (next : JobFields) (m2 : Made) → m2.clones ≡ m.clones → IsFitItem (Says (frames.VolEnd (fragment_end last h)))
+      → RunsIn (come (puts_on j.reel.slot (end_items last h)) s) (with_slot a j.reel.slot (x.open_part.slot.items ++ end_items last h)) records next m2 → Keeps s a records a.contents m.clones records (puts_on j.reel.slot (end_items last h)) [] next
+  end_put h x last next m2 clones fit runs =
       let k : ℕ = j.reel.slot in
       let one : List Item = x.open_part.slot.items ++ Says (frames.VolEnd (fragment_end last h)) ∷ [] in
       let all : List Item = x.open_part.slot.items ++ end_items last h in
@@ -289,34 +311,37 @@ module _ (s : State) (a : Archive) (records : List DumpRecordFields) (around : A
         here = here_same k all a.slots;
         still = still_put (listed_of a) a.slots k x.open_part.slot (end_items last h) x.open_part.at;
         listed = λ d there. inl there;
-        each = on_three a z _ _ _ (first_on a z records) (put_on_way a z k x.open_part.slot (Says (frames.VolEnd (fragment_end last h)) ∷ []) records x.open_part.at) (put_on_way a z k x.open_part.slot (end_items last h) records x.open_part.at);
+        each = on_three a z records records _ _ _ (first_on a z records records) (put_on_way a z records records k x.open_part.slot (Says (frames.VolEnd (fragment_end last h)) ∷ []) x.open_part.at) (put_on_way a z records records k x.open_part.slot (end_items last h) x.open_part.at);
         runs = runs;
+        clones_are = clones;
+        dumps_are = λ d there. there;
+        put = more_put s a records g.held next.head.id k x.open_part.slot (end_items last h) x.open_part.at (λ other no. tt);
       }
 
   nothing_or : (xs : List ℕ) → (xs ≡ []) ⊎ (xs ≡ [] → ⊥)
   nothing_or [] = inl refl
   nothing_or (x ∷ xs) = inr (λ same. absurd (cc))
 
-  piece_put : (h : Hand) → j.hand ≡ Some h → BeforePiece a j h m → IsFormedHand h → Keeps s a records a.contents (puts_on j.reel.slot (piece_items h)) [] (pieced h j)
+  piece_put : (h : Hand) → j.hand ≡ Some h → BeforePiece a j h m → IsFormedHand h → Keeps s a records a.contents m.clones records (puts_on j.reel.slot (piece_items h)) [] (pieced h j)
   piece_put h is b form =
       let fit : IsFitItem (Says (frames.Data (next_piece h))) = piece_fits h form b.left in
       let t : Slot = b.fragment.open_part.slot in
       let m2 : Made = record m { pieces = m.pieces ++ next_piece h ∷ [] } in
       let goes = piece_goes s a records j m g h b fit in
       let z : Archive = with_slot a j.reel.slot (t.items ++ piece_items h) in
-      one_put t (piece_items h) b.fragment.open_part.at (pieced h j) m2 (piece_held s a records j m g h b fit)
+      one_put t (piece_items h) b.fragment.open_part.at (pieced h j) m2 refl (λ other no. tt) (piece_held s a records j m g h b fit)
       (elim (nothing_or (drop (next_used h) h.stream)) [
         | inl none ↦ runs_by (come (puts_on j.reel.slot (piece_items h)) s) z records (pieced h j) m2 phase.VolumeEnd (phase_over (drop (next_used h) h.stream) none) goes (piece_last s a records j m g h b none)
         | inr some ↦ runs_by (come (puts_on j.reel.slot (piece_items h)) s) z records (pieced h j) m2 phase.Piece (phase_left (drop (next_used h) h.stream) some) goes (piece_before s a records j m g h b some)
       ])
 
-  cut_put : (h : Hand) → j.hand ≡ Some h → BeforePiece a j h m → IsFormedHand h → (m.pieces ≡ [] → ⊥) → Keeps s a records a.contents (puts_on j.reel.slot (end_items 0 h)) [] (volume_cut j)
+  cut_put : (h : Hand) → j.hand ≡ Some h → BeforePiece a j h m → IsFormedHand h → (m.pieces ≡ [] → ⊥) → Keeps s a records a.contents m.clones records (puts_on j.reel.slot (end_items 0 h)) [] (volume_cut j)
   cut_put h is b form some =
       let x = b.fragment in
       let fit : IsFitItem (Says (frames.VolEnd (fragment_end 0 h))) = fragment_end_fits h 0 form (omega arith) in
       let f : Fragment = record { head = h.head; pieces = m.pieces; end = fragment_end 0 h } in
       let z : Archive = with_slot a j.reel.slot (x.open_part.slot.items ++ end_items 0 h) in
-      end_put h x 0 (volume_cut j) (with_fragment m f) fit
+      end_put h x 0 (volume_cut j) (with_fragment m f) refl fit
       (runs_by (come (puts_on j.reel.slot (end_items 0 h)) s) z records (volume_cut j) (with_fragment m f) phase.PartEnd refl (end_goes s a records j m g h x 0 phase.PartEnd fit)
       (subst (λ (o : Option Hand). WithHand (λ (y : Hand). BeforePartEnd z (volume_cut j) y (with_fragment m f)) o) (sym is) (cut_behind s a records j m g h b some)))
 
@@ -326,7 +351,7 @@ module _ (s : State) (a : Archive) (records : List DumpRecordFields) (around : A
     | inr miss ↦ rw miss (cut_put h is b form (λ none. absurd (lack_room j 3 2 miss (b.room none))))
   ]
 
-  volume_end_put : (h : Hand) → j.hand ≡ Some h → BeforeVolumeEnd a j h m → IsFormedHand h → Keeps s a records a.contents (puts_on j.reel.slot (end_items 1 h)) [] (volume_ended h j)
+  volume_end_put : (h : Hand) → j.hand ≡ Some h → BeforeVolumeEnd a j h m → IsFormedHand h → Keeps s a records a.contents m.clones records (puts_on j.reel.slot (end_items 1 h)) [] (volume_ended h j)
   volume_end_put h is b form =
       let x = b.fragment in
       let fit : IsFitItem (Says (frames.VolEnd (fragment_end 1 h))) = fragment_end_fits h 1 form (omega arith) in
@@ -335,7 +360,7 @@ module _ (s : State) (a : Archive) (records : List DumpRecordFields) (around : A
       let z : Archive = with_slot a j.reel.slot (x.open_part.slot.items ++ end_items 1 h) in
       let last : JobFields = record j { reel = with_more 1 1 j.reel; phase = phase.DumpEnd } in
       let more : JobFields = record j { reel = with_more 1 1 j.reel; phase = phase.Clone } in
-      end_put h x 1 (volume_ended h j) m2 fit
+      end_put h x 1 (volume_ended h j) m2 refl fit
       (elim (cases_Bool (nat_lt (h.head.index + 1) (length j.places))) [
         | inl hit ↦
             rw hit
@@ -349,18 +374,18 @@ module _ (s : State) (a : Archive) (records : List DumpRecordFields) (around : A
             (record { open_part = end_open s a records j m g h x 1 phase.DumpEnd b.filled; hand = done_behind s a records j m g h x phase.DumpEnd b.over; all = all }))))
       ])
 
-  pub volume_end_keeps : (h : Hand) → j.hand ≡ Some h → BeforeVolumeEnd a j h m → IsFormedHand h → Keeps s a records a.contents (puts_on j.reel.slot (end_items 1 h)) [] (volume_ended h j)
+  pub volume_end_keeps : (h : Hand) → j.hand ≡ Some h → BeforeVolumeEnd a j h m → IsFormedHand h → Keeps s a records a.contents m.clones records (puts_on j.reel.slot (end_items 1 h)) [] (volume_ended h j)
   volume_end_keeps h is b form = volume_end_put h is b form
 
   -- ---- the end of a part
 
-  ended_list : (o : IsOpen a j m []) (z : Archive) → All (IsOnTheWay a z)
+  ended_list : (o : IsOpen a j m []) (z : Archive) → All (IsOnTheWay a z records records)
       (record { archive = a; records = records } ∷ record { archive = with_slot a j.reel.slot (o.slot.items ++ Says (frames.DumpEnd (part_end 1 j)) ∷ []); records = records } ∷ record { archive = with_slot a j.reel.slot (o.slot.items ++ part_end_items 1 j); records = records } ∷ [])
   ended_list o z =
-      on_three a z _ _ _ (first_on a z records) (put_on_way a z j.reel.slot o.slot (Says (frames.DumpEnd (part_end 1 j)) ∷ []) records o.at) (put_on_way a z j.reel.slot o.slot (part_end_items 1 j) records o.at)
+      on_three a z records records _ _ _ (first_on a z records records) (put_on_way a z records records j.reel.slot o.slot (Says (frames.DumpEnd (part_end 1 j)) ∷ []) o.at) (put_on_way a z records records j.reel.slot o.slot (part_end_items 1 j) o.at)
 
   -- the dump doesn't go on
-  part_refused_kept : (o : IsOpen a j m []) → EndsEarly j.head.volumes m.fragments → IsFitItem (Says (frames.DumpEnd (part_end 1 j))) → Keeps s a records a.contents (puts_on j.reel.slot (part_end_items 1 j)) [] (part_refused j)
+  part_refused_kept : (o : IsOpen a j m []) → EndsEarly j.head.volumes m.fragments → IsFitItem (Says (frames.DumpEnd (part_end 1 j))) → Keeps s a records a.contents m.clones records (puts_on j.reel.slot (part_end_items 1 j)) [] (part_refused j)
   part_refused_kept o early fit =
       let z : Archive = with_slot a j.reel.slot (o.slot.items ++ part_end_items 1 j) in
       let held = part_held_all s a records j m g o early fit in
@@ -376,13 +401,16 @@ module _ (s : State) (a : Archive) (records : List DumpRecordFields) (around : A
         listed = λ d there. inl there;
         each = ended_list o z;
         runs = runs_over (come (puts_on j.reel.slot (part_end_items 1 j)) s) z records (part_refused j) m refl (end_held_last s a records j m g o early fit);
+        clones_are = refl;
+        dumps_are = λ d there. there;
+        put = more_put s a records g.held j.head.id j.reel.slot o.slot (part_end_items 1 j) o.at (λ other no. tt);
       }
 
   -- the next tape's dump set is forgotten, where one is
-  took : (o : IsOpen a j m []) → EndsEarly j.head.volumes m.fragments → IsFitItem (Says (frames.DumpEnd (part_end 1 j))) → (take : Option ℕ) → AreChanges (takes take) → (next : JobFields) (m2 : Made)
+  took : (o : IsOpen a j m []) → EndsEarly j.head.volumes m.fragments → IsFitItem (Says (frames.DumpEnd (part_end 1 j))) → (take : Option ℕ) → AreChanges (takes take) → (next : JobFields) (m2 : Made) → m2.clones ≡ m.clones
       → RunsIn (come (committing (takes take)) (come (puts_on j.reel.slot (part_end_items 1 j)) s)) (passed_archive take (with_slot a j.reel.slot (o.slot.items ++ part_end_items 1 j))) (passed_records take (with_slot a j.reel.slot (o.slot.items ++ part_end_items 1 j)) records) next m2
-      → Keeps s a records a.contents (puts_on j.reel.slot (part_end_items 1 j) ++ committing (takes take)) (takes take) next
-  took o early fit None forms next m2 runs =
+      → Keeps s a records a.contents m.clones records (puts_on j.reel.slot (part_end_items 1 j) ++ committing (takes take)) (takes take) next
+  took o early fit None forms next m2 clones runs =
       let k : ℕ = j.reel.slot in
       let y : Archive = with_slot a k (o.slot.items ++ part_end_items 1 j) in
       let z : Archive = passed_archive None y in
@@ -402,8 +430,11 @@ module _ (s : State) (a : Archive) (records : List DumpRecordFields) (around : A
         listed = λ d there. inl (took_among None y d there);
         each = ended_list o z;
         runs = subst (λ (t : State). RunsIn t z records next m2) (sym (come_append (puts_on k (part_end_items 1 j)) [] s)) runs;
+        clones_are = clones;
+        dumps_are = λ d there. there;
+        put = more_put s a records g.held next.head.id k o.slot (part_end_items 1 j) o.at (λ other no. tt);
       }
-  took o early fit (Some initial) forms next m2 runs =
+  took o early fit (Some initial) forms next m2 clones runs =
       let k : ℕ = j.reel.slot in
       let y : Archive = with_slot a k (o.slot.items ++ part_end_items 1 j) in
       let z : Archive = passed_archive (Some initial) y in
@@ -421,8 +452,11 @@ module _ (s : State) (a : Archive) (records : List DumpRecordFields) (around : A
         here = here_same k (o.slot.items ++ part_end_items 1 j) a.slots;
         still = still_put (listed_of z) a.slots k o.slot (part_end_items 1 j) o.at;
         listed = λ d there. inl (took_among (Some initial) y d there);
-        each = on_four a z _ _ _ _ (first_on a z records) (put_on_way a z k o.slot (Says (frames.DumpEnd (part_end 1 j)) ∷ []) records o.at) (put_on_way a z k o.slot (part_end_items 1 j) records o.at) (put_on_way a z k o.slot (part_end_items 1 j) records o.at);
+        each = on_four a z records records _ _ _ _ (first_on a z records records) (put_on_way a z records records k o.slot (Says (frames.DumpEnd (part_end 1 j)) ∷ []) o.at) (put_on_way a z records records k o.slot (part_end_items 1 j) o.at) (put_on_way a z records records k o.slot (part_end_items 1 j) o.at);
         runs = subst (λ (t : State). RunsIn t z few next m2) (sym (come_append (puts_on k (part_end_items 1 j)) (committing (takes (Some initial))) s)) runs;
+        clones_are = clones;
+        dumps_are = λ d there. among_passed (Some initial) y records d there;
+        put = more_put s a records g.held next.head.id k o.slot (part_end_items 1 j) o.at (λ other no. tt);
       }
 
   choice_is : (c : Chosen) (b : Bool) (o : Option Chosen) → (if b then o else None) ≡ Some c → o ≡ Some c
@@ -431,13 +465,13 @@ module _ (s : State) (a : Archive) (records : List DumpRecordFields) (around : A
 
   closed_by : (cut : Bool) (o : IsOpen a j m []) → (early : EndsEarly j.head.volumes m.fragments) → (fit : IsFitItem (Says (frames.DumpEnd (part_end 1 j)))) → (c : Chosen) → next_choice (listed_of a) a.slots j ≡ Some c → (t : Bool) → AreChanges (if t then [] else takes c.take)
       → ((chosen : IsChosenOf (listed_of a) (next_wanting (listed_of a) j) a.slots c) → AreChanges (takes c.take) → BeforeTape (passed_archive c.take (with_slot a j.reel.slot (o.slot.items ++ part_end_items 1 j))) (part_passed cut c j) (passed_made j m))
-      → Keeps s a records a.contents (puts_on j.reel.slot (part_end_items 1 j) ++ committing (if t then [] else takes c.take)) (if t then [] else takes c.take) (if t then part_refused j else part_passed cut c j)
+      → Keeps s a records a.contents m.clones records (puts_on j.reel.slot (part_end_items 1 j) ++ committing (if t then [] else takes c.take)) (if t then [] else takes c.take) (if t then part_refused j else part_passed cut c j)
   closed_by cut o early fit c is true forms before =
-      subst (λ (es : List Effect). Keeps s a records a.contents es [] (part_refused j)) (sym (append-nil (puts_on j.reel.slot (part_end_items 1 j)))) (part_refused_kept o early fit)
+      subst (λ (es : List Effect). Keeps s a records a.contents m.clones records es [] (part_refused j)) (sym (append-nil (puts_on j.reel.slot (part_end_items 1 j)))) (part_refused_kept o early fit)
   closed_by cut o early fit c is false forms before =
       let chosen_is : IsChosenOf (listed_of a) (next_wanting (listed_of a) j) a.slots c = chosen_of (listed_of a) (next_wanting (listed_of a) j) j.port a.slots c (choice_is c (may_go_on j) (choice_of (listed_of a) (chosen (listed_of a) (next_wanting (listed_of a) j) j.port a.slots)) is) in
       let y : Archive = with_slot a j.reel.slot (o.slot.items ++ part_end_items 1 j) in
-      took o early fit c.take forms (part_passed cut c j) (passed_made j m)
+      took o early fit c.take forms (part_passed cut c j) (passed_made j m) refl
       (runs_by (come (committing (takes c.take)) (come (puts_on j.reel.slot (part_end_items 1 j)) s)) (passed_archive c.take y) (passed_records c.take y records) (part_passed cut c j) (passed_made j m) phase.Tape refl
       (passed_goes s a records j m g o early fit c chosen_is forms cut) (before chosen_is forms))
 
@@ -463,11 +497,11 @@ module _ (s : State) (a : Archive) (records : List DumpRecordFields) (around : A
 
   -- ---- the head of a fragment
 
-  head_put : (h : Hand) → j.hand ≡ Some h → BeforeHead a j h m → HasRoom 4 2 (counts_on j.port j.reel) → IsFormedHand h → Keeps s a records a.contents (puts_on j.reel.slot (head_items h)) [] (headed h j)
+  head_put : (h : Hand) → j.hand ≡ Some h → BeforeHead a j h m → HasRoom 4 2 (counts_on j.port j.reel) → IsFormedHand h → Keeps s a records a.contents m.clones records (puts_on j.reel.slot (head_items h)) [] (headed h j)
   head_put h is b enough form =
       let t : Slot = b.open_part.slot in
       let z : Archive = with_slot a j.reel.slot (t.items ++ head_items h) in
-      one_put t (head_items h) b.open_part.at (headed h j) m (head_held s a records j m g h b form.head)
+      one_put t (head_items h) b.open_part.at (headed h j) m refl (λ other no. tt) (head_held s a records j m g h b form.head)
       (runs_by (come (puts_on j.reel.slot (head_items h)) s) z records (headed h j) m phase.Piece (phase_left h.stream b.left) (head_goes s a records j m g h b form.head) (head_before s a records j m g h b enough))
 
   come_ends : (h : Hand) (fs : List Fragment) → MayCome m.ended fs h.head → (fs ≡ [] → ⊥) → Ends (λ f. (f.end.last ≡ 1) × NextVolume f.head h.head) fs

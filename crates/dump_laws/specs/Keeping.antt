@@ -1,24 +1,28 @@
 -- What a step of a dump asks, and how it keeps the archive.
-use Rattle.std.specs.Prelude.{◌≡◌, ◌⊎◌, ◌<◌, ℕ, Some, IfSome, Result, List, [], ◌∷◌, ◌++◌, length, map, slice_get, All, Contains}
+use Rattle.std.specs.Prelude.{◌≡◌, ◌⊎◌, ◌<◌, ◌≤◌, ℕ, true, Option, Some, None, IfSome, Result, List, [], ◌∷◌, ◌++◌, length, map, take, slice_get, All, Contains}
 use Rattle.vnode_model.specs.declared.volumes.VolumeFields.{VolumeFields}
 use Rattle.vnode_model.specs.declared.listed.VolEntry.{VolEntry}
 use Rattle.vnode_model.specs.Increments.{selected}
 use Rattle.dump_stream.specs.Allowed.{Allowed}
 use Rattle.byte_formats.specs.Forms.{IsFour}
 use Rattle.tape_frames.specs.Layouts.{FitsLabel, FitsDumpHead, FitsVolHead}
+use Rattle.cell_core.specs.declared.stored.Stored.{Stored}
 use Rattle.cell_core.specs.declared.stored.Taken.{Taken}
 use Rattle.cell_core.specs.Calls.{entry_at, clone_at}
 use Rattle.cell_core.specs.Cells.{IsCell}
 use Rattle.cell_core.specs.Fairness.{Fair}
 use Rattle.budb_changes.specs.declared.change.Change.{Change}
+use Rattle.budb_changes.specs.declared.records.TapePart.{TapePart}
 use Rattle.budb_changes.specs.declared.records.DumpRecordFields.{DumpRecordFields}
 use Rattle.budb_changes.specs.Forms.{AreChanges}
 use Rattle.plant_core.specs.Crashes.{State}
 use Rattle.plant_core.specs.Effects.{Effect, come}
 use Rattle.plant_core.specs.Stock.{Stock}
+use Rattle.tape_text.specs.Items.{Item}
 use Rattle.tape_text.specs.Texts.{IsBefore}
 use Rattle.tape_scan.specs.Slots.{Slot}
 use Rattle.tape_writer.specs.Room.{HasRoom, with_label}
+use Rattle.archive_model.specs.Holding.{place_of, holds, HasNoHead}
 use Rattle.archive_model.specs.Archives.{Archive, Refusal, listed_of, IsHeld, Holds}
 use Rattle.archive_model.specs.Settled.{Kept, AreHeld}
 use Rattle.archive_model.specs.Sources.{dumped_by}
@@ -29,6 +33,7 @@ use Rattle.dump_job.specs.declared.fields.Phase.{Phase}
 use Rattle.dump_job.specs.declared.fields.Phase.TheVariants as phase
 use Rattle.dump_job.specs.Reels.{counts_on}
 use Rattle.dump_job.specs.Cloning.{volumes_done, from_time}
+use Rattle.dump_job.specs.Ending.{done_record}
 use Rattle.dump_job.specs.Events.{Around, event}
 use Rattle.dump_laws.specs.Made.{Made}
 use Rattle.dump_laws.specs.Running.{basis_of, RunsIn}
@@ -96,6 +101,51 @@ contents_behind a j m phase.PartEnd = a.contents
 contents_behind a j m phase.DumpEnd = with_dump a.contents (basis_of j) m.clones
 contents_behind a j m phase.Over = a.contents
 
+-- one more, where there is one
+abbrev pub one_more : List Taken → Option Taken → List Taken
+one_more clones None = clones
+one_more clones (Some c) = clones ++ c ∷ []
+
+-- the clone of the volume at a place, where there is one
+abbrev pub clone_for : List Stored → ℕ → Option ℕ → Option Taken
+clone_for cell now None = None
+clone_for cell now (Some place) = clone_at cell place now
+
+-- The clones stay; at a clone step that of the next place joins them.
+abbrev pub clones_behind : Around → JobFields → Made → Phase → List Taken
+clones_behind around j m phase.Tape = m.clones
+clones_behind around j m phase.Clone = one_more m.clones (clone_for around.cell j.time (slice_get j.places (length (volumes_done j))))
+clones_behind around j m phase.Head = m.clones
+clones_behind around j m phase.Piece = m.clones
+clones_behind around j m phase.VolumeEnd = m.clones
+clones_behind around j m phase.PartEnd = m.clones
+clones_behind around j m phase.DumpEnd = m.clones
+clones_behind around j m phase.Over = m.clones
+
+-- The dumps stay; at a dump's end it joins them.
+abbrev pub dumps_behind : List DumpRecordFields → JobFields → Phase → List DumpRecordFields
+dumps_behind records j phase.Tape = records
+dumps_behind records j phase.Clone = records
+dumps_behind records j phase.Head = records
+dumps_behind records j phase.Piece = records
+dumps_behind records j phase.VolumeEnd = records
+dumps_behind records j phase.PartEnd = records
+dumps_behind records j phase.DumpEnd = records ++ done_record j ∷ []
+dumps_behind records j phase.Over = records
+
+-- What stands on a tape now: a front of what stood there, with all that was held there of listed dumps, and behind it no head of another
+-- dump than this one.
+pub record HasPut (id : ℕ) (listed : List DumpRecordFields) (old new : List Item) : Type 0 where
+  pub front : ℕ
+  pub more : List Item
+  pub items : new ≡ take front old ++ more
+  pub own : (other : ℕ) → (other ≡ id → ⊥) → HasNoHead other more
+  pub behind : (d : DumpRecordFields) (tape : ℕ) (p : TapePart) → Contains listed d → place_of d tape ≡ Some p → holds d tape old ≡ true → p.end ≤ front
+
+-- so it is on each slot
+abbrev pub HavePut : ℕ → List DumpRecordFields → List Slot → List Slot → Type 0
+HavePut id listed old new = (k : ℕ) (t : Slot) → slice_get new k ≡ Some t → (s : Slot) × (slice_get old k ≡ Some s) × HasPut id listed s.items t.items
+
 -- all tapes of each listed dump are held
 abbrev pub AreAllHeld : List DumpRecordFields → List Slot → Type 0
 AreAllHeld listed slots = (d : DumpRecordFields) → Contains listed d → IsHeld d slots
@@ -105,17 +155,19 @@ abbrev pub ListsWhole : List DumpRecordFields → List DumpRecordFields → List
 ListsWhole before listed slots = (d : DumpRecordFields) → Contains listed d → Contains before d ⊎ IsHeld d slots
 
 -- An archive on the way from one to another: it has the log and the contents of the one or of the other, the same slots are here, and each
--- of its listed dumps is held where it was; one that was listed since is held whole.
-pub record IsOnTheWay (a z : Archive) (x : Kept) : Type 0 where
+-- of its listed dumps is held where it was; one that was listed since is held whole. It has no dumps but those of before or these.
+pub record IsOnTheWay (a z : Archive) (records dumps : List DumpRecordFields) (x : Kept) : Type 0 where
   pub log : (x.archive.log ≡ a.log) ⊎ (x.archive.log ≡ z.log)
   pub contents : (x.archive.contents ≡ a.contents) ⊎ (x.archive.contents ≡ z.contents)
   pub here : map is_here x.archive.slots ≡ map is_here a.slots
   pub still : StillHeld (listed_of x.archive) a.slots x.archive.slots
   pub listed : ListsWhole (listed_of a) (listed_of x.archive) x.archive.slots
+  pub dumps_are : (d : DumpRecordFields) → Contains x.records d → Contains records d ⊎ Contains dumps d
 
 -- These effects, by which these changes are committed, lead from an archive to one with these contents; archives on the way are held settled, one
--- behind each effect; and the dump, as it is then, runs in the last of them.
-pub record Keeps (s : State) (a : Archive) (records : List DumpRecordFields) (contents : ℕ → List ℕ → Result VolumeFields Refusal) (effects : List Effect) (changes : List Change) (next : JobFields) : Type 0 where
+-- behind each effect; and the dump, as it is then, runs in the last of them, over these clones. That archive has no other dumps than these, and on
+-- its tapes stands nothing new but what the dump has put.
+pub record Keeps (s : State) (a : Archive) (records : List DumpRecordFields) (contents : ℕ → List ℕ → Result VolumeFields Refusal) (clones : List Taken) (dumps : List DumpRecordFields) (effects : List Effect) (changes : List Change) (next : JobFields) : Type 0 where
   pub before : List Kept
   pub last : Kept
   pub made : Made
@@ -125,8 +177,11 @@ pub record Keeps (s : State) (a : Archive) (records : List DumpRecordFields) (co
   pub here : map is_here last.archive.slots ≡ map is_here a.slots
   pub still : StillHeld (listed_of last.archive) a.slots last.archive.slots
   pub listed : ListsWhole (listed_of a) (listed_of last.archive) last.archive.slots
-  pub each : All (IsOnTheWay a last.archive) before
+  pub each : All (IsOnTheWay a last.archive records dumps) before
   pub runs : RunsIn (come effects s) last.archive last.records next made
+  pub clones_are : made.clones ≡ clones
+  pub dumps_are : (d : DumpRecordFields) → Contains last.records d → Contains dumps d
+  pub put : HavePut next.head.id (listed_of a) a.slots last.archive.slots
 
 -- ---- what each image holds
 

@@ -13,7 +13,7 @@ ghost use Rattle.tape_scan.specs.Slots.{Slot};
 ghost use Rattle.tape_choice.specs.declared.places.Place.{Place as AnyPlace};
 ghost use Rattle.tape_choice.specs.declared.places.Appending.TheVariants.{Found};
 ghost use Rattle.tape_choice.specs.Append.{appending};
-ghost use Rattle.archive_model.specs.Archives.{Archive, listed_of, Holds};
+ghost use Rattle.archive_model.specs.Archives.{Archive, listed_of, IsHeld, Holds};
 ghost use Rattle.archive_model.specs.Settled.{HoldsSettled, AreHeld};
 ghost use Rattle.dump_job.specs.declared.order.DumpOrder.{DumpOrder as AnyOrder};
 ghost use Rattle.dump_job.specs.declared.first_tapes.FirstTape.{FirstTape as AnyTape};
@@ -54,6 +54,11 @@ pub fn an_appending_dump_runs()
 /// Where all tapes of each listed dump are held, listed dumps end on their last tapes.
 pub fn held_dumps_end_on_their_last_tapes()
     ensures { (stock : Stock) (a : Archive) (records : AnyList DumpRecordFields) → Holds stock a records → AreAllHeld (listed_of a) a.slots → EndOnLastTapes (listed_of a) a.slots }
+{}
+
+/// A listed dump all of whose tapes are held ends on its last tape.
+pub fn a_held_dump_ends_on_its_last_tape()
+    ensures { (stock : Stock) (a : Archive) (records : AnyList DumpRecordFields) (d : DumpRecordFields) → Holds stock a records → Contains (listed_of a) d → IsHeld d a.slots → EndOnLastTapes (d ∷ []) a.slots }
 {}
 
 /// A begin keeps all tapes of listed dumps held.

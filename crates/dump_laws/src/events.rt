@@ -2,6 +2,7 @@
 
 ghost use Rattle.std.specs.Prelude.{◌≡◌, ℕ, Result, List as AnyList, [], ◌∷◌, ◌++◌};
 ghost use Rattle.vnode_model.specs.declared.volumes.VolumeFields.{VolumeFields as AnyVolume};
+ghost use Rattle.cell_core.specs.declared.stored.Taken.{Taken as AnyTaken};
 ghost use Rattle.tape_frames.specs.declared.frame.Frame.TheVariants as frames;
 ghost use Rattle.budb_changes.specs.declared.change.Change.{Change as AnyChange};
 ghost use Rattle.budb_changes.specs.declared.change.Change.TheVariants.{Done};
@@ -23,19 +24,19 @@ ghost use Rattle.dump_job.specs.Events.{Around, event};
 ghost use Rattle.dump_laws.specs.Made.{Made};
 ghost use Rattle.dump_laws.specs.Running.{basis_of, Goes, BeforeDumpEnd, RunsIn};
 ghost use Rattle.dump_laws.specs.Growing.{record_done, with_dump};
-ghost use Rattle.dump_laws.specs.Keeping.{MayStep, contents_behind, Keeps, ImageHolds};
+ghost use Rattle.dump_laws.specs.Keeping.{MayStep, contents_behind, clones_behind, dumps_behind, Keeps, ImageHolds};
 
 /// Each event of a dump that runs keeps the archive: what it puts and commits is held settled, effect by effect, with the
 /// contents that there were; at the dump's end those of the dump join them. The dump, as it is then, runs on.
 pub fn each_event_keeps()
     ensures { (s : State) (a : Archive) (records : AnyList DumpRecordFields) (around : Around) (j : AnyJob) (m : Made) → RunsIn s a records j m → MayStep a records around j
-        → Keeps s a records (contents_behind a j m j.phase) (event around j).effects (event around j).changes (event around j).job }
+        → Keeps s a records (contents_behind a j m j.phase) (clones_behind around j m j.phase) (dumps_behind records j j.phase) (event around j).effects (event around j).changes (event around j).job }
 {}
 
 /// What a crash leaves of effects that keep an archive holds an archive on the way.
 pub fn each_image_holds()
-    ensures { (s : State) (a : Archive) (records : AnyList DumpRecordFields) (contents : ℕ → AnyList ℕ → Result AnyVolume Refusal) (effects : AnyList Effect) (changes : AnyList AnyChange) (next : AnyJob)
-        → Keeps s a records contents effects changes next → (old c : Stock) → Joint s effects old c → ImageHolds a (a.log ++ changes) contents c }
+    ensures { (s : State) (a : Archive) (records : AnyList DumpRecordFields) (contents : ℕ → AnyList ℕ → Result AnyVolume Refusal) (clones : AnyList AnyTaken) (dumps : AnyList DumpRecordFields) (effects : AnyList Effect) (changes : AnyList AnyChange) (next : AnyJob)
+        → Keeps s a records contents clones dumps effects changes next → (old c : Stock) → Joint s effects old c → ImageHolds a (a.log ++ changes) contents c }
 {}
 
 /// And so each image within an event of a dump holds the archive before it or behind it, or one between them.
