@@ -30,7 +30,7 @@ use Rattle.dump_commands.specs.Answers.{said, begin_of, begun_point, begun, tape
 around_forms : (s : Scene) (p : Point) → All IsStoredForm s.cell → AroundHasForms (around s p)
 around_forms s p cell = record { labels = frames_fit (slots_of s.slots s.present p.state.tape) (tapes_fit s.slots s.present p.state.tape); cell = cell }
 
-next_forms : (s : Scene) (p : Point) → All IsStoredForm s.cell → HasForms p.job → EventHasForms (next_event s p)
+pub next_forms : (s : Scene) (p : Point) → All IsStoredForm s.cell → HasForms p.job → EventHasForms (next_event s p)
 next_forms s p cell form = event_forms (around s p) p.job (around_forms s p cell) form
 
 next_journaled : (s : Scene) (p : Point) → All IsStoredForm s.cell → HasForms p.job → IsJournalAfter p.log (next_event s p).effects (p.log ++ (next_event s p).changes)
@@ -62,7 +62,7 @@ some_of zero text is = absurd (cc)
 some_of (suc n) text is = omega arith
 
 -- what isn't refused has volumes
-some_volumes : (cell : List VolEntry) (o : DumpOrder) (f : Option JobFault) → refusal_by cell o f ≡ None → 1 ≤ length o.volumes
+pub some_volumes : (cell : List VolEntry) (o : DumpOrder) (f : Option JobFault) → refusal_by cell o f ≡ None → 1 ≤ length o.volumes
 some_volumes cell o f is =
     let late = both_none (early_by o f) _ is in
     some_of (length o.volumes) _ (both_none (none_of o) _ late.1).0

@@ -9,6 +9,8 @@ pub mod Passing
 pub mod Scenes
 pub mod Steps
 pub mod FormLaws
-mod OrderForms
+pub mod ShortTapes
+pub mod LeftForms
+pub mod OrderForms
 pub mod Checks
 pub mod Making

@@ -1,9 +1,9 @@
 -- A dump that is made, from what its calls tell.
-use Rattle.std.proofs.Common.{◌≡◌, ℕ, List, [], map, refl, sym, ◌∙◌, ap, subst}
-use Rattle.std.specs.Prelude.{max, Bool, true, false, if◌then◌else◌, Option, Some, None, Ok, Err}
+use Rattle.std.proofs.Common.{◌≡◌, ◌≢◌, ℕ, List, [], length, map, refl, sym, ◌∙◌, ap, subst}
+use Rattle.std.specs.Prelude.{max, Bool, true, false, if◌then◌else◌, Option, Some, None, Result, Ok, Err, IfOk}
 use Rattle.vnode_model.specs.declared.listed.VolEntry.{VolEntry}
 use Rattle.plant_core.specs.declared.plant.Plant.{Ghosts as Plant}
-use Rattle.plant_effects.specs.Runs.{Leaves, StaysQuiet}
+use Rattle.plant_effects.specs.Runs.{state_of, Leaves, StaysQuiet}
 use Rattle.plant_effects.proofs.Joining.{leaves_more, leaves_both, done_both, nothing_done}
 use Rattle.cell_core.specs.declared.cell.Cell.{Ghosts as Cell}
 use Rattle.cell_core.specs.Calls.{entry_of_stored}
@@ -18,9 +18,13 @@ use Rattle.dump_job.specs.declared.fault.JobFault.{JobFault}
 use Rattle.dump_job.specs.declared.first_tapes.FirstTape.{FirstTape}
 use Rattle.dump_job.specs.declared.order.DumpOrder.{DumpOrder}
 use Rattle.dump_job.specs.declared.fields.JobFields.{JobFields}
+use Rattle.dump_job.specs.declared.fields.Phase.{Phase}
+use Rattle.dump_job.specs.declared.fields.Phase.TheVariants as phase
+use Rattle.dump_job.specs.Jobs.{HasPlaces}
 use Rattle.dump_job.specs.Faults.{LeavesBehindLoads}
 use Rattle.dump_job.specs.Beginning.{id_of, begin_effects, first_tape, IsBegun}
 use Rattle.dump_commands.specs.declared.command.DumpCommand.{DumpCommand}
+use Rattle.dump_commands.specs.declared.stop.DumpStop.{DumpStop}
 use Rattle.dump_commands.specs.declared.told.Dumped.{Dumped}
 use Rattle.dump_commands.specs.Scenes.{Scene, database_in, slots_in, whole_in, entries_in, IsScene, Finds}
 use Rattle.dump_commands.specs.Refusals.{refusal_by, trial_refusal, fault_of}
@@ -31,8 +35,20 @@ use Rattle.dump_commands.specs.Running.{IsAtPoint}
 use Rattle.dump_commands.specs.Answers.{Answer, said, commit_of, begun_point, begun, tape_for, refused_or, begun_or, real_answer, trial_answer, order_answer, port_answer, dump_answer, IsAnswered, IsFinished}
 use Rattle.dump_commands.proofs.Ahead.{leaves_ahead}
 use Rattle.dump_commands.proofs.Passing.{FoundTape, passes, found_tape}
+use Rattle.dump_commands.proofs.Ways.{SlotLaws}
 use Rattle.dump_commands.proofs.Steps.{IsReady}
 use Rattle.dump_commands.proofs.Scenes.{scene_slots, scene_whole, scene_later, scene_settled, tape_told, answered_said, begun_done, begun_at, begin_left, begun_answered}
+
+-- ---- a dump that is begun
+
+not_over : (p : Phase) → p ≡ phase.Tape → p ≡ phase.Over → ⊥
+not_over p tape over = let e : phase.Tape ≡ phase.Over = sym tape ∙ over in cc
+
+pub begun_going : {D : Type 0} (P : Plant D) (o : DumpOrder) (budb budb_after : BudbView) (old new : D) (job : JobFields) → IsBegun P o budb budb_after old new job → job.phase ≢ phase.Over
+begun_going P o budb budb_after old new job first = λ over. not_over job.phase (ap (λ (j : JobFields). j.phase) first.is) over
+
+pub begun_places : {D E : Type 0} (P : Plant D) (C : Cell E) (o : DumpOrder) (budb budb_after : BudbView) (old new : D) (site : E) (job : JobFields) → IsBegun P o budb budb_after old new job → HasPlaces C o.volumes site → HasPlaces C job.places site
+begun_places P C o budb budb_after old new site job first has = subst (λ (places : List ℕ). HasPlaces C places site) (sym (ap (λ (j : JobFields). j.places) first.is)) has
 
 -- ---- a dump that nothing refuses
 
@@ -70,6 +86,16 @@ module _ {D E : Type 0} (P : Plant D) (C : Cell E) (s : Scene) (o : DumpOrder) (
         (begun_done P C s o t budb old site ready.slots told ready.sound (ready.within told) (ready.log_told told) is found budb_after mid job first)
         finished.ended (same ∙ finished.line) (time ∙ make_time now)
 
+    -- what is told of it, where it went to its end
+    pub make_told : (r : Result Dumped DumpStop) (budb_end : BudbView) (set : List ℕ) (offset time : ℕ) → set ≡ o.set → offset ≡ o.port.offset → time ≡ o.time → o.time ≡ s.time
+        → ((p : Point) → IsAtPoint P C s p budb_after mid site job → IfOk r (λ (d : Dumped). IsFinished P s p set offset d.text budb_end mid new))
+        → IfOk r (λ (d : Dumped). d.time ≡ max time job.head.id) → IfOk r (IsAnswered P s (begun s o t) budb_end old new)
+    make_told (Ok d) budb_end set offset time same_set same_offset same_time now runs told_time =
+        make_answered budb_end d.text d
+        (λ p at. subst (λ (x : List ℕ × ℕ). IsFinished P s p x.0 x.1 d.text budb_end mid new) (λ i. (same_set i, same_offset i)) (runs p at))
+        refl (told_time ∙ ap (λ (n : ℕ). max n job.head.id) same_time) now
+    make_told (Err stop) budb_end set offset time same_set same_offset same_time now runs told_time = tt
+
 -- ---- a dump that may be refused
 
 module _ {D E : Type 0} (P : Plant D) (C : Cell E) (s : Scene) (o : DumpOrder) (budb : BudbView) (old : D) (site : E) (told : P.tells) (is : IsScene P C s budb old site) where
@@ -78,6 +104,11 @@ module _ {D E : Type 0} (P : Plant D) (C : Cell E) (s : Scene) (o : DumpOrder) (
 
   pub real_left : (mid : D) → LeavesLoads P old mid → Leaves P (real_answer s o).effects old mid
   real_left mid left = search_left mid (real_answer s o) left
+
+  pub search_told : SlotLaws → (P.view old).log_size ≡ length (state_of P old).log → (fault : Option JobFault)
+      → ((slots : List Slot) (whole : ℕ → Bool) → HasSlots P slots old → AreWhole P whole old → fault ≡ fault_of (first_tape budb.database slots whole o (P.view old).log_size)) → fault ≡ fault_of (tape_for s o)
+  search_told laws log_told fault tells =
+      tells (slots_in s) (whole_in s) (scene_slots P C s laws budb old site is) (scene_whole P C s budb old site is) ∙ ap fault_of (tape_told P C s budb old site o log_told is)
 
   module _ (entries : List VolEntry) (fault : Option JobFault) (mid : D) (same : entries ≡ map entry_of_stored (C.list site)) (fault_is : fault ≡ fault_of (tape_for s o)) where
     by_scene : refusal_by (entries_in s) o (fault_of (tape_for s o)) ≡ refusal_by entries o fault
@@ -115,6 +146,11 @@ module _ {D E : Type 0} (P : Plant D) (C : Cell E) (s : Scene) (o : DumpOrder) (
           settled = made.settled;
         })
 
+    pub passed_told : (r : Result Dumped DumpStop) → refusal_by entries o fault ≡ None → Loads P old mid → StaysQuiet P old mid → (budb_after : BudbView) (new : D)
+        → ((t : FirstTape) → IsScene P C s budb mid site → tape_for s o ≡ Ok t → IfOk r (IsAnswered P s (begun s o t) budb_after mid new)) → IfOk r (IsAnswered P s (real_answer s o) budb_after old new)
+    passed_told (Ok d) passed loads stays budb_after new makes = passed_answered passed loads stays budb_after new d makes
+    passed_told (Err stop) passed loads stays budb_after new makes = tt
+
     pub passed_left : refusal_by entries o fault ≡ None → Loads P old mid → LeavesLoads P old mid → StaysQuiet P old mid → (new : D) → ((t : FirstTape) → IsScene P C s budb mid site → tape_for s o ≡ Ok t → Leaves P (begun s o t).effects mid new) → Leaves P (real_answer s o).effects old new
     passed_left passed loads left stays new makes =
         let found : FoundTape (tape_for s o) = passed_tape passed in
@@ -143,7 +179,23 @@ trial_answered P C s a o budb old site d trial sound told is text time =
     subst (λ (x : Answer). IsAnswered P s x budb old old d) (sym (order_trial s a o trial ∙ trial_said s o))
     (answered_said P C s told budb old old site (trial_answer s o).reply d is (nothing_done P old sound) text time)
 
+pub trial_told : {D E : Type 0} (P : Plant D) (C : Cell E) (s : Scene) (a : DumpCommand) (o : DumpOrder) (budb : BudbView) (old : D) (site : E) (r : Result Dumped DumpStop) → a.trial ≡ true → P.sound old → P.tells → IsScene P C s budb old site
+    → IfOk r (λ (d : Dumped). (d.text ≡ (trial_answer s o).reply) × (d.time ≡ s.time)) → IfOk r (IsAnswered P s (order_answer s a o) budb old old)
+trial_told P C s a o budb old site (Ok d) trial sound told is so = trial_answered P C s a o budb old site d trial sound told is so.0 so.1
+trial_told P C s a o budb old site (Err stop) trial sound told is so = tt
+
 -- ---- a command
+
+-- the cell was read, and its list is as it was
+pub scene_read : {D E : Type 0} (P : Plant D) (C : Cell E) (s : Scene) (budb : BudbView) (plant : D) (site site_after : E) → IsScene P C s budb plant site → C.list site_after ≡ C.list site → IsScene P C s budb plant site_after
+scene_read P C s budb plant site site_after is same = record {
+  keeps = is.keeps;
+  state = is.state;
+  settled = is.settled;
+  slots = is.slots;
+  present = is.present;
+  cell = same ∙ is.cell;
+}
 
 pub dump_refused : {D E : Type 0} (P : Plant D) (C : Cell E) (s : Scene) (used : Settings) (a : DumpCommand) (now : ℕ) (budb : BudbView) (old : D) (site : E) (text : List ℕ) (d : Dumped) → P.sound old → P.tells → Finds P C s used budb old site now → asked_port used budb.database a ≡ Err text → d.text ≡ text → d.time ≡ now → IsAnswered P s (dump_answer s a) budb old old d
 unfolding dump_answer

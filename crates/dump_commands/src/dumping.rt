@@ -1,6 +1,6 @@
-//! The command `dump`.
+//! What a dump is made of: the search for its first tape, its begin, all its steps, and its trial.
 
-ghost use Rattle.std.specs.Prelude.{◌≡◌, ◌≢◌, ◌<◌, ◌≤◌, [], ℕ, Bool, List as AnyList, None, Some, Ok, Err, length, map, All, IfOk, OnOk, IsOk, max};
+ghost use Rattle.std.specs.Prelude.{◌≡◌, ◌≢◌, ◌<◌, ◌≤◌, ℕ, Bool, List as AnyList, None, Some, Ok, Err, length, map, All, IfOk, OnOk, IsOk};
 ghost use Rattle.bk_text.specs.Alphabets.{IsHost};
 ghost use Rattle.byte_formats.specs.Forms.{IsMaybe};
 ghost use Rattle.crash_moments.specs.Moments.{HasCauseAt};
@@ -13,17 +13,13 @@ ghost use Rattle.dump_job.specs.declared.first_tapes.FirstTape.{FirstTape};
 ghost use Rattle.dump_job.specs.Beginning.{id_of, first_tape, begin_effects, IsBegun};
 ghost use Rattle.dump_job.specs.Faults.{LeavesBehindLoads};
 ghost use Rattle.dump_job.specs.Jobs.{FitsJob, HasPlaces};
-ghost use Rattle.dump_commands.specs.Scenes.{Scene, database_in, IsScene, Finds};
+ghost use Rattle.dump_commands.specs.Scenes.{Scene, database_in};
 ghost use Rattle.dump_commands.specs.Courses.{Point, course};
 ghost use Rattle.dump_commands.specs.Running.{IsAtPoint};
 ghost use Rattle.dump_commands.specs.Refusals.{passed_on, fault_of};
-ghost use Rattle.dump_commands.specs.Answers.{tape_for, begun, real_answer, trial_answer, order_answer, dump_answer, IsAnswered, IsFinished};
+ghost use Rattle.dump_commands.specs.Answers.{trial_answer, IsFinished};
 
-use crate::command::DumpCommand;
-use crate::entries::entries_of;
-use crate::orders::order_of;
-use crate::ports::asked_port;
-use crate::refusals::{fault_line, refusal_by, trial_refusal};
+use crate::refusals::trial_refusal;
 use crate::running::run_steps;
 use crate::stop::DumpStop;
 use crate::told::{Dumped, end_line};
@@ -35,8 +31,6 @@ use cell_core::Cell;
 use dump_job::{DumpOrder, Job, JobFault, Phase};
 use plant_core::Plant;
 use std::alloc::Global;
-use tape_answers::the_slots_are_read;
-use tape_config::Config;
 use vnode_model::VolEntry;
 
 /// A fault that is told as a refusal, or else the stop that it is.
@@ -55,7 +49,7 @@ fn pass_on(fault: JobFault) -> Result<JobFault, DumpStop>
 }
 
 /// What the search for the first tape of an order is refused by. Tapes are loaded, and nothing else is done.
-fn checked<P: Plant>(
+pub(crate) fn checked<P: Plant>(
     alloc: Global,
     budb: &Budb,
     plant: &mut P,
@@ -79,7 +73,7 @@ fn checked<P: Plant>(
 }
 
 /// Begins a dump of at least one volume, or tells what it is refused by.
-fn begin<P: Plant>(
+pub(crate) fn begin<P: Plant>(
     alloc: Global,
     budb: &mut Budb,
     plant: &mut P,
@@ -110,7 +104,7 @@ fn begin<P: Plant>(
 }
 
 /// Goes all steps of a dump that was begun, and tells how it ended.
-fn finish<P: Plant, C: Cell>(
+pub(crate) fn finish<P: Plant, C: Cell>(
     alloc: Global,
     budb: &mut Budb,
     plant: &mut P,
@@ -139,7 +133,7 @@ fn finish<P: Plant, C: Cell>(
 }
 
 /// Tells what would be dumped, or what it is refused by. Nothing is changed.
-fn try_out<C: Cell>(
+pub(crate) fn try_out<C: Cell>(
     alloc: Global,
     cell: &mut C,
     listed: &[DumpRecord],

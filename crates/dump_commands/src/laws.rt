@@ -1,6 +1,8 @@
 //! Laws, each the contract of a function without a body.
 
 ghost use Rattle.std.specs.Prelude.{◌≡◌, ◌<◌, true, false, List as AnyList, All};
+ghost use Rattle.byte_formats.specs.Forms.{IsFour};
+ghost use Rattle.plant_core.specs.Effects.{come};
 ghost use Rattle.vnode_model.specs.declared.listed.VolEntry.{VolEntry};
 ghost use Rattle.volume_sets.specs.declared.sets.SetEntry.{SetEntry};
 ghost use Rattle.volume_sets.specs.Expansions.{IsExpansion};
@@ -9,9 +11,9 @@ ghost use Rattle.dump_forms.specs.Journals.{IsJournalAfter};
 ghost use Rattle.dump_commands.specs.declared.command.DumpCommand.{DumpCommand as AnyCommand};
 ghost use Rattle.dump_commands.specs.Expanding.{expansion};
 ghost use Rattle.dump_commands.specs.Scenes.{Scene};
-ghost use Rattle.dump_commands.specs.Forms.{IsSceneForm, IsCommandForm};
+ghost use Rattle.dump_commands.specs.Forms.{IsSceneForm, IsCommandForm, AreShort, AreVolumes};
 ghost use Rattle.dump_commands.specs.Courses.{Point, goes_on, next_event, behind, last_event, event_then, events_left, course};
-ghost use Rattle.dump_commands.specs.Answers.{dump_answer};
+ghost use Rattle.dump_commands.specs.Answers.{Contents, dump_answer};
 
 /// The expansion of a volume set, as a function of its entries, is that of its definition.
 pub fn a_set_is_expanded()
@@ -35,4 +37,12 @@ pub fn what_a_course_commits_has_bytes()
 /// What a dump commits has bytes, where what it finds has its forms: the journal behind its effects is that of its changes.
 pub fn what_a_dump_commits_has_bytes()
     ensures { (s : Scene) (a : AnyCommand) → IsSceneForm s → IsCommandForm a → IsJournalAfter s.log (dump_answer s a).effects (dump_answer s a).log }
+{}
+
+/// What a dump leaves has its forms, where what it finds has them: the session's time has four bytes, no tape has more records than a number of four
+/// bytes counts, and what dumps have of volumes are volumes.
+pub fn what_a_dump_leaves_has_forms()
+    ensures time { (s : Scene) (a : AnyCommand) → IsSceneForm s → IsFour (dump_answer s a).time }
+    ensures tapes { (s : Scene) (a : AnyCommand) → IsSceneForm s → IsCommandForm a → AreShort s.state.tape → AreShort (come (dump_answer s a).effects s.state).tape }
+    ensures contents { (s : Scene) (a : AnyCommand) (contents : Contents) → IsSceneForm s → AreVolumes contents → AreVolumes ((dump_answer s a).contents contents) }
 {}

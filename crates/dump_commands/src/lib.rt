@@ -2,9 +2,11 @@
 #![tactic(auto)]
 
 mod command;
+mod commands;
 mod dumping;
 mod entries;
 mod laws;
+mod made;
 mod orders;
 mod ports;
 mod refusals;
@@ -14,9 +16,10 @@ mod told;
 mod trials;
 
 pub use command::DumpCommand;
+pub use commands::dump;
 pub use laws::{
     a_course_goes_by_its_events, a_set_is_expanded, what_a_course_commits_has_bytes,
-    what_a_dump_commits_has_bytes,
+    what_a_dump_commits_has_bytes, what_a_dump_leaves_has_forms,
 };
 pub use stop::DumpStop;
 pub use told::Dumped;

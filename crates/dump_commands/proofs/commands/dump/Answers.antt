@@ -1,0 +1,23 @@
+use Rattle.std.proofs.Common.{refl, sym, ◌∙◌, ap}
+use Rattle.plant_effects.proofs.Joining.{nothing_left}
+use Rattle.budb_fold.specs.declared.database.Database.{Database}
+use Rattle.dump_commands.specs.Orders.{asked_port}
+use Rattle.dump_commands.specs.Answers.{dump_answer}
+use Rattle.dump_commands.proofs.Making.{dump_refused}
+use Rattle.dump_commands.proofs.commands.dump.Goals as goal
+
+pub dump_to-requires-clause-port : goal.dump_to-requires-clause-port
+dump_to-requires-clause-port g c = ap (λ (d : Database). asked_port c.args.config.now d c.args.command.now) (sym c.database.ensures) ∙ sym c.in_ok-port.ensures ∙ c.in-Ok.is
+
+pub returns-in-Err-clause-answered : goal.returns-in-Err-clause-answered
+returns-in-Err-clause-answered g c = λ told told_cell s finds.
+    dump_refused g.P.Plant g.C.Cell s c.args.config.now c.args.command.now c.args.time c.args.budb.now c.args.plant.now c.args.cell.now c.in-Err.text (record { text = c.in-Err.text; time = c.args.time }) c.requires.sound told finds
+    (ap (λ (d : Database). asked_port c.args.config.now d c.args.command.now) (sym c.database.ensures) ∙ sym c.in_ok-port.ensures ∙ c.in-Err.is) refl refl
+
+pub returns-in-Err-clause-leaves : goal.returns-in-Err-clause-leaves
+returns-in-Err-clause-leaves g c = λ told told_cell s finds.
+    nothing_left g.P.Plant (dump_answer s c.args.command.now).effects c.args.plant.now (λ tells survives image left. g.met.P.Plant.left c.args.plant.now image tells c.requires.sound survives left)
+
+pub returns-in_err-port-clause-leaves : goal.returns-in_err-port-clause-leaves
+returns-in_err-port-clause-leaves g c = λ told told_cell s finds.
+    nothing_left g.P.Plant (dump_answer s c.args.command.now).effects c.args.plant.now (λ tells survives image left. g.met.P.Plant.left c.args.plant.now image tells c.requires.sound survives left)

@@ -1,0 +1,57 @@
+use Rattle.std.proofs.Common.{refl, sym, ◌∙◌, subst}
+use Rattle.std.specs.Prelude.{◌<◌, ℕ, All}
+use Rattle.dump_commands.proofs.Checks.{good_places}
+use Rattle.dump_commands.proofs.Passing.{passes}
+use Rattle.dump_commands.proofs.Ways.{SlotLaws}
+use Rattle.dump_commands.proofs.Making.{search_told, real_left, refused_answered, passed_told, passed_left}
+use Rattle.dump_commands.proofs.made.make_or_refuse.Goals as goal
+
+pub make-requires-clause-some : goal.make-requires-clause-some
+make-requires-clause-some g c = (passes c.args.entries.now c.args.order c.in_ok-fault.fault (sym c.in_ok-text.ensures ∙ c.in-None.is)).some
+
+pub make-requires-clause-places : goal.make-requires-clause-places
+make-requires-clause-places g c = record {
+  within = subst (λ (n : ℕ). All (λ (place : ℕ). place < n) c.args.order.volumes) c.requires.count c.requires.within;
+  good = λ told. good_places (g.C.Cell.list c.args.cell.now) c.args.entries.now c.args.order.volumes (c.requires.entries told) c.requires.within (passes c.args.entries.now c.args.order c.in_ok-fault.fault (sym c.in_ok-text.ensures ∙ c.in-None.is)).good;
+}
+
+pub returns-in-Some-clause-answered : goal.returns-in-Some-clause-answered
+returns-in-Some-clause-answered g c = λ told told_cell s is time.
+    let P = g.P.Plant in
+    let C = g.C.Cell in
+    let laws : SlotLaws = record { count = c.the_slots_are_read.ensures.count; here = c.the_slots_are_read.ensures.here; items = c.the_slots_are_read.ensures.items } in
+    let found = search_told P C s c.args.order c.args.budb.now c.args.plant.now c.args.cell.now told is laws (g.met.P.Plant.log_told c.args.plant.now told c.requires.sound) c.in_ok-fault.fault (c.in_ok-fault.ensures.told told) in
+    refused_answered P C s c.args.order c.args.budb.now c.args.plant.now c.args.cell.now told is c.args.entries.now c.in_ok-fault.fault c.checked.new.plant (c.requires.entries told_cell) found
+    c.in-Some.text (record { text = c.in-Some.text; time = c.args.order.time }) (sym c.in_ok-text.ensures ∙ c.in-Some.is) c.in_ok-fault.ensures.loads refl time
+
+pub returns-in-Some-clause-leaves : goal.returns-in-Some-clause-leaves
+returns-in-Some-clause-leaves g c = λ told told_cell s is.
+    real_left g.P.Plant g.C.Cell s c.args.order c.args.budb.now c.args.plant.now c.args.cell.now told is c.checked.new.plant c.checked.ensures.leaves
+
+pub returns-in-None-clause-answered : goal.returns-in-None-clause-answered
+returns-in-None-clause-answered g c = λ told told_cell s is time.
+    let P = g.P.Plant in
+    let C = g.C.Cell in
+    let laws : SlotLaws = record { count = c.the_slots_are_read.ensures.count; here = c.the_slots_are_read.ensures.here; items = c.the_slots_are_read.ensures.items } in
+    let found = search_told P C s c.args.order c.args.budb.now c.args.plant.now c.args.cell.now told is laws (g.met.P.Plant.log_told c.args.plant.now told c.requires.sound) c.in_ok-fault.fault (c.in_ok-fault.ensures.told told) in
+    passed_told P C s c.args.order c.args.budb.now c.args.plant.now c.args.cell.now told is c.args.entries.now c.in_ok-fault.fault c.checked.new.plant (c.requires.entries told_cell) found
+    c.make.result (sym c.in_ok-text.ensures ∙ c.in-None.is) c.in_ok-fault.ensures.loads c.checked.ensures.stays c.make.new.budb c.make.new.plant
+    (λ t there tape. c.make.ensures.answered told told_cell s t there time tape)
+
+pub returns-in-None-clause-leaves : goal.returns-in-None-clause-leaves
+returns-in-None-clause-leaves g c = λ told told_cell s is.
+    let P = g.P.Plant in
+    let C = g.C.Cell in
+    let laws : SlotLaws = record { count = c.the_slots_are_read.ensures.count; here = c.the_slots_are_read.ensures.here; items = c.the_slots_are_read.ensures.items } in
+    let found = search_told P C s c.args.order c.args.budb.now c.args.plant.now c.args.cell.now told is laws (g.met.P.Plant.log_told c.args.plant.now told c.requires.sound) c.in_ok-fault.fault (c.in_ok-fault.ensures.told told) in
+    passed_left P C s c.args.order c.args.budb.now c.args.plant.now c.args.cell.now told is c.args.entries.now c.in_ok-fault.fault c.checked.new.plant (c.requires.entries told_cell) found
+    (sym c.in_ok-text.ensures ∙ c.in-None.is) c.in_ok-fault.ensures.loads c.checked.ensures.leaves c.checked.ensures.stays c.make.new.plant
+    (λ t there tape. c.make.ensures.leaves told told_cell s t there tape)
+
+pub returns-in_err-fault-clause-leaves : goal.returns-in_err-fault-clause-leaves
+returns-in_err-fault-clause-leaves g c = λ told told_cell s is.
+    real_left g.P.Plant g.C.Cell s c.args.order c.args.budb.now c.args.plant.now c.args.cell.now told is c.checked.new.plant c.checked.ensures.leaves
+
+pub returns-in_err-text-clause-leaves : goal.returns-in_err-text-clause-leaves
+returns-in_err-text-clause-leaves g c = λ told told_cell s is.
+    real_left g.P.Plant g.C.Cell s c.args.order c.args.budb.now c.args.plant.now c.args.cell.now told is c.checked.new.plant c.checked.ensures.leaves
