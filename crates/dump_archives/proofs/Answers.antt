@@ -1,0 +1,403 @@
+-- A DUMP, whatever it is told: it keeps the archive, and leaves one.
+use Rattle.std.proofs.Common.{◌≡◌, ◌⊎◌, ℕ, zero, suc, ◌+◌, ◌<◌, ◌≤◌, max, Bool, true, false, not, Option, Some, None, Ok, Err, List, [], ◌∷◌, ◌++◌, length, refl, sym, subst, arith, inl, inr}
+use Rattle.std.specs.Prelude.{Contains, Result, slice_get, ◌&&◌, if◌then◌else◌}
+use Rattle.std.specs.Option.{unwrap_or}
+use Rattle.std.proofs.lemmas.List.Elements.{All-weaker}
+use Rattle.bk_text.specs.Blanks.{is_same_text}
+use Rattle.byte_formats.specs.Forms.{IsFour}
+use Rattle.tape_frames.specs.declared.frame.Frame.TheVariants as frames
+use Rattle.tape_frames.specs.declared.dump_head.DumpHeadFields.{DumpHeadFields}
+use Rattle.tape_config.specs.declared.port.PortFields.{PortFields}
+use Rattle.cell_core.specs.declared.stored.Stored.{Stored}
+use Rattle.cell_core.specs.declared.stored.Image.{Image}
+use Rattle.cell_core.specs.declared.stored.Image.TheVariants.{Good, Bad}
+use Rattle.cell_core.specs.Calls.{entry_of_stored}
+use Rattle.cell_core.specs.Fairness.{Fair, IsNotMadeAfter, NoneIsMadeAfter}
+use Rattle.cell_core.proofs.FairLaws.{fair_later}
+use Rattle.std.proofs.lemmas.List.{length-map}
+use Rattle.volume_sets.specs.Sets.{entries_at, place_of as set_place}
+use Rattle.dump_levels.specs.Elements.{paths_above}
+use Rattle.budb.proofs.FoldForms.{forms_after}
+use Rattle.budb_changes.specs.declared.records.DumpRecordFields.{DumpRecordFields}
+use Rattle.budb_changes.specs.Bytes.{encoded}
+use Rattle.budb_changes.specs.Forms.{AreChanges}
+use Rattle.budb_fold.specs.Database.{is_initial, without, after}
+use Rattle.budb_fold.specs.Lookups.{dumps_at, greatest_id, greatest_at, parent_at}
+use Rattle.plant_core.specs.Crashes.{seen_in, IsSettled}
+use Rattle.plant_core.specs.Effects.{come}
+use Rattle.tape_text.specs.Texts.{Tape}
+use Rattle.tape_text.specs.Items.{Says}
+use Rattle.tape_scan.specs.Slots.{Slot}
+use Rattle.tape_scan.proofs.ListLaws.{of_filter}
+use Rattle.tape_choice.specs.declared.places.Place.{Place}
+use Rattle.tape_choice.specs.declared.places.Appending.TheVariants.{Found}
+use Rattle.tape_choice.specs.Append.{appending}
+use Rattle.archive_model.specs.Archives.{Archive, listed_of}
+use Rattle.archive_model.specs.Settled.{HoldsSettled}
+use Rattle.archive_model.specs.Sources.{dumped_by}
+use Rattle.archive_model.proofs.GrowLaws.{ids_below}
+use Rattle.dump_job.specs.declared.fault.JobFault.{JobFault}
+use Rattle.dump_job.specs.declared.order.DumpOrder.{DumpOrder}
+use Rattle.dump_job.specs.declared.first_tapes.FirstTape.{FirstTape}
+use Rattle.dump_job.specs.Beginning.{new_id, id_of, begin_changes, begun_job, place_tape, first_tape}
+use Rattle.dump_forms.specs.Forms.{HasForms}
+use Rattle.dump_forms.specs.Begins.{IsOrderForm}
+use Rattle.dump_forms.proofs.BeginForms.{begin_forms}
+use Rattle.dump_forms.proofs.SlotForms.{tapes_fit}
+use Rattle.dump_laws.specs.Running.{RunsIn}
+use Rattle.dump_laws.specs.Beginning.{HeadsAreBelow, HasParent, TakenBy, begun_archive, begun_records, nothing_made}
+use Rattle.dump_laws.proofs.BeginLaws.{heads_below, begun_kept, listed_begun, taken_runs, first_taken}
+use Rattle.dump_laws.proofs.AppendingLaws.{appending_runs}
+use Rattle.dump_laws.proofs.ChosenLaws.{without_taken}
+use Rattle.archive_model.proofs.JobLaws.{remaining_among}
+use Rattle.dump_commands.specs.declared.command.DumpCommand.{DumpCommand}
+use Rattle.dump_commands.specs.Scenes.{Scene, database_in, slots_in, entries_in, whole_in}
+use Rattle.dump_commands.specs.Forms.{IsCommandForm}
+use Rattle.dump_commands.specs.Orders.{asked_port, order_of}
+use Rattle.dump_commands.specs.Refusals.{refusal_by, fault_of, trial_refusal}
+use Rattle.dump_commands.specs.Trials.{trial_text}
+use Rattle.dump_commands.specs.Courses.{Point, Course, course}
+use Rattle.dump_commands.specs.Answers.{Contents, Answer, said, contents_with, begin_of, commit_of, begun_point, ended, begun, tape_for, begun_or, refused_or, real_answer, trial_answer, order_answer, port_answer, dump_answer}
+use Rattle.dump_commands.proofs.Passing.{Passes, passes}
+use Rattle.dump_commands.proofs.Settling.{commit_settled}
+use Rattle.dump_commands.proofs.OrderForms.{order_form}
+use Rattle.dump_archives.specs.Asking.{archive_in, AsksOfScene}
+use Rattle.dump_archives.specs.Keeping.{IsKnown, HoldsOnTheWay, EachKeepsListed, AsksBehind}
+use Rattle.dump_archives.proofs.Clones.{AreUp, expansion_up, expansion_within, good_places, HasGoodPlaces}
+use Rattle.dump_archives.proofs.Contents.{free_contents, dumped_same, grown_other}
+use Rattle.dump_archives.proofs.Courses.{Underway, Left, course_done}
+use Rattle.dump_archives.proofs.Fairs.{fewer_fair}
+use Rattle.dump_archives.proofs.Formed.{label_fits}
+use Rattle.dump_archives.proofs.Growing.{greatest_begun}
+use Rattle.dump_archives.proofs.Keeping.{Keeps, keeps_then, keeps_so, kept_after}
+use Rattle.dump_archives.proofs.Puts.{HeadsUpTo}
+use Rattle.dump_archives.proofs.Slots.{ReadOnce}
+use Rattle.dump_archives.proofs.Staying.{kept_step}
+
+-- ---- an order's parent
+
+two_cases : (a b : ℕ) → (a ≤ b) ⊎ (b < a)
+two_cases zero b = inl (omega arith)
+two_cases (suc a) zero = inr (omega arith)
+two_cases (suc a) (suc b) = elim (two_cases a b) [
+  | inl le ↦ inl (omega (arith, le))
+  | inr lt ↦ inr (omega (arith, lt))
+]
+
+-- a dump of this id is among these
+abbrev HasId : List DumpRecordFields → ℕ → Type 0
+HasId ds g = (p : DumpRecordFields) × Contains ds p × (p.id ≡ g)
+
+one_more_id : (d : DumpRecordFields) (ds : List DumpRecordFields) (g : ℕ) → HasId ds g → HasId (d ∷ ds) g
+one_more_id d ds g has = (has.0, (suc has.1.0, omega (arith, has.1.1), has.1.2), has.2)
+
+greater_there : (d : DumpRecordFields) (ds : List DumpRecordFields) (g n : ℕ) → HasId ds n → max d.id n ≡ g → HasId (d ∷ ds) g
+greater_there d ds g n has same = elim (two_cases d.id n) [
+  | inl le ↦ one_more_id d ds g (has.0, has.1, (let id = has.2 in omega (arith, le, same, id)))
+  | inr lt ↦ (d, (0, omega arith, refl), omega (arith, lt, same))
+]
+
+greatest_by : (d : DumpRecordFields) (ds : List DumpRecordFields) (g : ℕ) (o : Option ℕ) → ((n : ℕ) → o ≡ Some n → HasId ds n) → max d.id (unwrap_or o 0) ≡ g → HasId (d ∷ ds) g
+greatest_by d ds g None each same = (d, (0, omega arith, refl), omega (arith, same))
+greatest_by d ds g (Some n) each same = greater_there d ds g n (each n refl) same
+
+greatest_there : (ds : List DumpRecordFields) (g : ℕ) → greatest_id ds ≡ Some g → HasId ds g
+greatest_there [] g is = absurd (cc)
+greatest_there (d ∷ ds) g is = (let same : max d.id (unwrap_or (greatest_id ds) 0) ≡ g = cc in greatest_by d ds g (greatest_id ds) (λ n some. greatest_there ds n some) same)
+
+level_parent : (listed : List DumpRecordFields) (set level : List ℕ) (o : Option ℕ) (rest : ℕ) → greatest_at listed set level ≡ o → HasParent listed rest → HasParent listed (unwrap_or o rest)
+level_parent listed set level None rest is has = has
+level_parent listed set level (Some g) rest is has =
+    let p = greatest_there (dumps_at listed set level) g is in
+    inr (p.0, (of_filter (λ (d : DumpRecordFields). is_same_text d.set set && is_same_text d.level level) listed p.0 p.1).0, p.2)
+
+has_parent_at : (listed : List DumpRecordFields) (set : List ℕ) (levels : List (List ℕ)) → HasParent listed (parent_at listed set levels)
+has_parent_at listed set [] = inl refl
+has_parent_at listed set (level ∷ levels) = level_parent listed set level (greatest_at listed set level) (parent_at listed set levels) refl (has_parent_at listed set levels)
+
+-- ---- a later time
+
+image_later : (time now : ℕ) → time ≤ now → (image : Image) → IsNotMadeAfter time image → IsNotMadeAfter now image
+image_later time now le (Good v) is = omega (arith, le, is)
+image_later time now le (Bad at) is = is
+
+made_later : (time now : ℕ) → time ≤ now → (cell : List Stored) → NoneIsMadeAfter time cell → NoneIsMadeAfter now cell
+made_later time now le cell none = All-weaker (λ (x : Stored). IsNotMadeAfter time x.image) (λ (x : Stored). IsNotMadeAfter now x.image) (λ x is. image_later time now le x.image is) cell none
+
+-- ---- ids that are known
+
+-- the dumps of a scene's archive are
+within_two : (id time greatest : ℕ) → id < max (greatest + 1) time → (id ≤ greatest) ⊎ (id < time)
+within_two id time greatest less = elim (two_cases id greatest) [
+  | inl le ↦ inl le
+  | inr lt ↦ inr (omega (arith, less, lt))
+]
+
+known_heads : (slots : List Slot) (time greatest : ℕ) → HeadsAreBelow slots time greatest → (k : ℕ) (x : Slot) (n : ℕ) (h : DumpHeadFields) → slice_get slots k ≡ Some x → slice_get x.items n ≡ Some (Says (frames.DumpHead h)) → h.id < max (greatest + 1) time
+known_heads slots time greatest heads k x n h at is = elim (heads k x n h at is) [
+  | inl le ↦ omega (arith, le)
+  | inr lt ↦ omega (arith, lt)
+]
+
+known_dumps : (s : Scene) (contents : Contents) (records : List DumpRecordFields) → AsksOfScene s contents records → (d : DumpRecordFields) → Contains records d → IsKnown s.time (database_in s).greatest d
+known_dumps s contents records asks d there =
+    within_two d.id s.time (database_in s).greatest
+    (ids_below (seen_in s.state) (archive_in s contents) records (max ((database_in s).greatest + 1) s.time) asks.holds.seen (known_heads (slots_in s) s.time (database_in s).greatest asks.heads) (omega arith) d there)
+
+-- ---- a dump that is begun
+
+among_begun : (take : Option ℕ) (a : Archive) (records : List DumpRecordFields) (e : DumpRecordFields) → Contains (begun_records take a records) e → Contains records e
+among_begun None a records e there = there
+among_begun (Some initial) a records e there = remaining_among (without (is_initial initial) (listed_of a)) a.slots records e there
+
+among_listed : (take : Option ℕ) (listed : List DumpRecordFields) (e : DumpRecordFields) → Contains (without_taken take listed) e → Contains listed e
+among_listed None listed e there = there
+among_listed (Some initial) listed e there = (of_filter (λ (d : DumpRecordFields). not (is_initial initial d)) listed e there).0
+
+at_most : (slots : List Slot) (time greatest id : ℕ) → ((k : ℕ) (s : Slot) (n : ℕ) (h : DumpHeadFields) → slice_get slots k ≡ Some s → slice_get s.items n ≡ Some (Says (frames.DumpHead h)) → h.id < id) → HeadsUpTo id slots
+at_most slots time greatest id below k s n h at is = (let less = below k s n h at is in omega (arith, less))
+
+module _ (once : ReadOnce) (s : Scene) (contents : Contents) (records : List DumpRecordFields) (asks : AsksOfScene s contents records) (o : DumpOrder) (order : IsOrderForm o) (time : o.time ≡ s.time) (parent : HasParent (database_in s).listed o.parent) (some : 1 ≤ length o.volumes)
+    (good : HasGoodPlaces s.cell o.volumes) (t : FirstTape) (tape : tape_for s o ≡ Ok t) where
+  abbrev its : ℕ
+  its = id_of o (database_in s)
+
+  abbrev grown : Contents
+  grown = contents_with s o contents
+
+  abbrev IsLow : DumpRecordFields → Type 0
+  IsLow d = d.id ≤ its
+
+  abbrev start : Archive
+  start = archive_in s grown
+
+  begun_tape : first_tape (database_in s) (slots_in s) (whole_in s) o (length (encoded s.log)) ≡ Ok t
+  unfolding tape_for
+  begun_tape = tape
+
+  its_tape : (((p : Place) × (appending (database_in s).listed o.set o.port (whole_in s) (slots_in s) ≡ Found p) × (t ≡ place_tape p)) ⊎ TakenBy o (database_in s).listed (slots_in s) t) × ((database_in s).greatest < 4294967295)
+  its_tape = first_taken start o (slots_in s) (whole_in s) (length (encoded s.log)) t begun_tape
+
+  few : o.time ≤ 4294967295
+  few = order.time
+
+  heads : HeadsAreBelow (slots_in s) o.time (database_in s).greatest
+  heads = subst (λ (n : ℕ). HeadsAreBelow (slots_in s) n (database_in s).greatest) (sym time) asks.heads
+
+  all_below : (k : ℕ) (x : Slot) (n : ℕ) (h : DumpHeadFields) → slice_get (slots_in s) k ≡ Some x → slice_get x.items n ≡ Some (Says (frames.DumpHead h)) → h.id < its
+  all_below = heads_below (slots_in s) o.time (database_in s).greatest few its_tape.1 heads
+
+  id_above : (greatest n : ℕ) → greatest < 4294967295 → greatest < new_id n greatest
+  id_above greatest n less = omega (arith, less)
+
+  time_below : (greatest n : ℕ) → n ≤ 4294967295 → n ≤ new_id n greatest
+  time_below greatest n le = omega (arith, le)
+
+  new : (e : DumpRecordFields) → Contains records e → e.id < its
+  new = ids_below (seen_in s.state) (archive_in s contents) records its asks.holds.seen all_below (id_above (database_in s).greatest o.time its_tape.1)
+
+  other : (d : DumpRecordFields) (name : List ℕ) → Contains records d → grown d.id name ≡ contents d.id name
+  other d name there = grown_other s o contents d.id name (λ same. absurd (let less = new d there in omega (arith, less, same)))
+
+  held : HoldsSettled s.state start records
+  held = free_contents s.state (archive_in s contents) records grown asks.holds other
+
+  fair : Fair s.cell (dumped_by grown records) o.time
+  fair = subst (λ (n : ℕ). Fair s.cell (dumped_by grown records) n) (sym time) (subst (λ (l : List _). Fair s.cell l s.time) (sym (dumped_same grown contents records other)) asks.fair)
+
+  begin : AreChanges (begin_of s o t) × HasForms (begun_job o (database_in s).listed its t)
+  begin = begin_forms o (database_in s) (slots_in s) (whole_in s) (length (encoded s.log)) t order some (forms_after s.log asks.form.log).listed (tapes_fit s.slots s.present s.state.tape) begun_tape
+
+  abbrev point : Point
+  point = begun_point s o t
+
+  abbrev begun_so : Archive
+  begun_so = begun_archive its t.take start
+
+  -- what it runs in, on a tape that is taken or appended to
+  appended_run : (p : Place) → appending (database_in s).listed o.set o.port (whole_in s) (slots_in s) ≡ Found p → t ≡ place_tape p → (front : Tape) × RunsIn point.state begun_so (begun_records t.take start records) point.job (nothing_made front)
+  appended_run p found is =
+      let forms : AreChanges (begin_changes its None) = subst (λ (x : FirstTape). AreChanges (begin_changes its x.take)) is begin.0 in
+      let x = appending_runs s.state start records held o few its_tape.1 heads parent asks.ends (whole_in s) p found forms in
+      subst (λ (y : FirstTape). (front : Tape) × RunsIn (come (commit_of s o y) s.state) (begun_archive its y.take start) (begun_records y.take start records) (begun_job o (database_in s).listed its y) (nothing_made front)) (sym is) x
+
+  runs : (front : Tape) × RunsIn point.state begun_so (begun_records t.take start records) point.job (nothing_made front)
+  runs = elim its_tape.0 [
+    | inl placed ↦ appended_run placed.0 placed.1 placed.2
+    | inr taken ↦ taken_runs s.state start records held o few its_tape.1 heads parent t taken begin.0
+  ]
+
+  listed_less : (d : DumpRecordFields) → Contains (after point.log).listed d → Contains (database_in s).listed d
+  listed_less d there = among_listed t.take (database_in s).listed d (subst (λ (l : List DumpRecordFields). Contains l d) (listed_begun t.take its start) there)
+
+  later_made : NoneIsMadeAfter o.time s.cell
+  later_made = subst (λ (n : ℕ). NoneIsMadeAfter n s.cell) (sym time) asks.made
+
+  underway : Underway once s o contents asks.cell asks.form.cell few good later_made asks.named point
+  underway = record {
+    archive = begun_so;
+    records = begun_records t.take start records;
+    put = nothing_made runs.0;
+    log = refl;
+    slots = refl;
+    contents_are = refl;
+    runs = runs.1;
+    running = tt;
+    forms = begin.1;
+    stream = tt;
+    label = label_fits begun_so point.job (nothing_made runs.0) begin.1.head runs.1.before;
+    places = refl;
+    time = refl;
+    parent = refl;
+    id = refl;
+    above = refl;
+    clones = tt;
+    fair = fewer_fair s.cell grown records (begun_records t.take start records) o.time fair (among_begun t.take start records);
+    heads = at_most (slots_in s) o.time (database_in s).greatest its all_below;
+    greatest = greatest_begun s.log _ its;
+    ends = λ d p k x there. asks.ends d p k x (listed_less d there);
+    settled = commit_settled (encoded (begin_of s o t)) s.state asks.settled;
+    short = asks.short;
+  }
+
+  -- ---- it keeps the archive
+
+  commit_way : Keeps s.slots s.present grown IsLow s.log s.state (commit_of s o t) (s.log ++ begin_of s o t)
+  commit_way =
+      let both = begun_kept s.state start records held o few its_tape.1 heads parent t begin.0 in
+      let low : (d : DumpRecordFields) → Contains records d → IsLow d = λ d there. (let less = new d there in omega (arith, less)) in
+      ((records, held, low), (begin_of s o t, record { form = begin.0; is = refl }, ((begun_records t.take start records, both.1, λ d there. low d (among_begun t.take start records d there)), refl)))
+
+  abbrev its_course : Course
+  its_course = course s point
+
+  course_way : Keeps s.slots s.present grown IsLow point.log point.state its_course.effects its_course.log × Left once s o contents asks.cell asks.form.cell few good later_made asks.named its_course.log (come its_course.effects point.state)
+      × IsSettled (come its_course.effects point.state)
+  course_way = course_done once s o contents asks.cell asks.form.cell few good later_made asks.named point underway
+
+  begun_way : Keeps s.slots s.present grown IsLow s.log s.state (commit_of s o t ++ its_course.effects) its_course.log
+  begun_way = keeps_then s.slots s.present grown IsLow (commit_of s o t) its_course.effects s.state s.log point.log its_course.log commit_way course_way.0
+
+  begun_known : Keeps s.slots s.present grown (IsKnown (ended s o t its_course).time (after its_course.log).greatest) s.log s.state (commit_of s o t ++ its_course.effects) its_course.log
+  begun_known =
+      keeps_so s.slots s.present grown (IsKnown (ended s o t its_course).time (after its_course.log).greatest) IsLow (λ d low. inl (let more = course_way.1.greatest in omega (arith, low, more))) (commit_of s o t ++ its_course.effects) s.state s.log its_course.log begun_way
+
+  -- what is known has the contents that it had
+  begun_others : (d : DumpRecordFields) (name : List ℕ) → IsKnown s.time (database_in s).greatest d → grown d.id name ≡ contents d.id name
+  begun_others d name known = grown_other s o contents d.id name (λ same. elim known [
+    | inl le ↦ absurd (let above = id_above (database_in s).greatest o.time its_tape.1 in omega (arith, le, same, above))
+    | inr lt ↦ absurd (let above : o.time ≤ its = time_below (database_in s).greatest o.time few in omega (arith, lt, same, above, time))
+  ])
+
+  -- ---- what a dump asks is so again
+
+  four_id : (n greatest : ℕ) → IsFour (new_id n greatest)
+  four_id n greatest = omega arith
+
+  begun_asks : AsksBehind s (ended s o t its_course) grown
+  begun_asks =
+      let left = course_way.1 in
+      let now : ℕ = max s.time its in
+      let four : IsFour now = (let one = asks.form.time in let two = four_id o.time (database_in s).greatest in omega (arith, one, two)) in
+      record {
+        records = left.records;
+        asks = record {
+          form = record { log = left.holds.seen.changes; cell = asks.form.cell; few = asks.form.few; time = four; name = asks.form.name; ports = asks.form.ports };
+          holds = left.holds;
+          settled = course_way.2;
+          short = left.short;
+          cell = asks.cell;
+          fair = fair_later s.cell (dumped_by grown left.records) o.time now left.fair (omega (arith, time));
+          made = made_later s.time now (omega arith) s.cell asks.made;
+          named = asks.named;
+          heads = λ k x n h at is. inl (let low = left.heads k x n h at is in omega (arith, low, left.greatest));
+          ends = left.ends;
+        };
+      }
+
+-- ---- whatever is answered
+
+-- an answer keeps the archive with its contents, and behind it all that a dump asks is so again
+pub record KeptBy (s : Scene) (contents : Contents) (a : Answer) : Type 0 where
+  pub keeps : Keeps s.slots s.present (a.contents contents) (IsKnown a.time (after a.log).greatest) s.log s.state a.effects a.log
+  pub behind : AsksBehind s a (a.contents contents)
+  pub others : (d : DumpRecordFields) (name : List ℕ) → IsKnown s.time (database_in s).greatest d → a.contents contents d.id name ≡ contents d.id name
+
+said_kept : (s : Scene) (contents : Contents) (records : List DumpRecordFields) → AsksOfScene s contents records → (text : List ℕ) → KeptBy s contents (said s text)
+said_kept s contents records asks text = record {
+  keeps = ((records, asks.holds, known_dumps s contents records asks), refl);
+  behind = record { records = records; asks = asks };
+  others = λ d name known. refl;
+}
+
+module _ (once : ReadOnce) (s : Scene) (contents : Contents) (records : List DumpRecordFields) (asks : AsksOfScene s contents records) where
+  -- the volumes of an order are good ones, in order
+  record IsOrder (o : DumpOrder) : Type 0 where
+    form : IsOrderForm o
+    time : o.time ≡ s.time
+    parent : HasParent (database_in s).listed o.parent
+    up : AreUp 0 o.volumes
+    within : (n p : ℕ) → slice_get o.volumes n ≡ Some p → p < length s.cell
+
+  by_tape : (o : DumpOrder) → IsOrder o → (f : Option JobFault) → Passes (entries_in s) o f → (r : Result FirstTape JobFault) → tape_for s o ≡ r → KeptBy s contents (begun_or s o r)
+  unfolding begun
+  by_tape o order f pass (Ok t) is =
+      let good : HasGoodPlaces s.cell o.volumes = record { up = order.up; good = good_places s.cell o.volumes pass.good order.within } in
+      record {
+        keeps = begun_known once s contents records asks o order.form order.time order.parent pass.some good t is;
+        behind = begun_asks once s contents records asks o order.form order.time order.parent pass.some good t is;
+        others = begun_others once s contents records asks o order.form order.time order.parent pass.some good t is;
+      }
+  by_tape o order f pass (Err fault) is = said_kept s contents records asks _
+
+  by_refusal : (o : DumpOrder) → IsOrder o → (r : Option (List ℕ)) → refusal_by (entries_in s) o (fault_of (tape_for s o)) ≡ r → KeptBy s contents (refused_or s r (begun_or s o (tape_for s o)))
+  by_refusal o order (Some text) is = said_kept s contents records asks text
+  by_refusal o order None is = by_tape o order (fault_of (tape_for s o)) (passes (entries_in s) o (fault_of (tape_for s o)) is) (tape_for s o) refl
+
+  by_trial_refusal : (r : Option (List ℕ)) (text : List ℕ) → KeptBy s contents (refused_or s r (said s text))
+  by_trial_refusal (Some line) text = said_kept s contents records asks line
+  by_trial_refusal None text = said_kept s contents records asks text
+
+  by_trial : (o : DumpOrder) → IsOrder o → (trial : Bool) → KeptBy s contents (if trial then trial_answer s o else real_answer s o)
+  unfolding real_answer
+  by_trial o order true = by_trial_refusal (trial_refusal (entries_in s) o) (trial_text (database_in s).listed s.cell o)
+  by_trial o order false = by_refusal o order (refusal_by (entries_in s) o (fault_of (tape_for s o))) refl
+
+  is_order : (a : DumpCommand) (port : PortFields) → IsCommandForm a → asked_port s.config (database_in s) a ≡ Ok port → IsOrder (order_of s.config (database_in s) (entries_in s) s.time a port)
+  is_order a port command is =
+      let db = database_in s in
+      let entries = entries_at (set_place a.set db.sets) db.sets in
+      record {
+        form = order_form s a port asks.form command is;
+        time = refl;
+        parent = has_parent_at db.listed a.set (paths_above a.level);
+        up = expansion_up entries (entries_in s);
+        within = λ n p at. (let less = expansion_within entries (entries_in s) n p at in omega (arith, less, length-map s.cell entry_of_stored));
+      }
+
+  by_port : (a : DumpCommand) → IsCommandForm a → (r : Result PortFields (List ℕ)) → asked_port s.config (database_in s) a ≡ r → KeptBy s contents (port_answer s a r)
+  unfolding order_answer
+  by_port a command (Err text) is = said_kept s contents records asks text
+  by_port a command (Ok port) is = by_trial (order_of s.config (database_in s) (entries_in s) s.time a port) (is_order a port command is) a.trial
+
+  pub answer_kept : (a : DumpCommand) → IsCommandForm a → KeptBy s contents (dump_answer s a)
+  unfolding dump_answer
+  answer_kept a command = by_port a command (asked_port s.config (database_in s) a) refl
+
+  -- ---- on the way
+
+  pub on_the_way : (a : DumpCommand) → IsCommandForm a → HoldsOnTheWay s (dump_answer s a) contents
+  on_the_way a command count =
+      let x = kept_after s.slots s.present ((dump_answer s a).contents contents) (IsKnown (dump_answer s a).time (after (dump_answer s a).log).greatest) count (dump_answer s a).effects s.state s.log (dump_answer s a).log (answer_kept a command).keeps in
+      record { changes = x.0; journal = x.1; records = x.2.0; holds = x.2.1; known = x.2.2 }
+
+  pub each_keeps_listed : (a : DumpCommand) → IsCommandForm a → EachKeepsListed s (dump_answer s a).effects
+  each_keeps_listed a command count e at =
+      let x = kept_step s.slots s.present ((dump_answer s a).contents contents) (IsKnown (dump_answer s a).time (after (dump_answer s a).log).greatest) count (dump_answer s a).effects s.state s.log (dump_answer s a).log (answer_kept a command).keeps e at in
+      record { changes = x.0; journal = x.1; still = x.2 }
+
+  pub asks_behind : (a : DumpCommand) → IsCommandForm a → AsksBehind s (dump_answer s a) ((dump_answer s a).contents contents)
+  asks_behind a command = (answer_kept a command).behind
+
+  pub known_contents : (a : DumpCommand) → IsCommandForm a → (d : DumpRecordFields) (name : List ℕ) → IsKnown s.time (database_in s).greatest d → (dump_answer s a).contents contents d.id name ≡ contents d.id name
+  known_contents a command = (answer_kept a command).others

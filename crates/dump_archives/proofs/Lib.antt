@@ -1,0 +1,17 @@
+mod Slots
+mod TapeNames
+pub mod Keeping
+pub mod Staying
+mod StreamBytes
+mod Growing
+mod Clones
+mod Contents
+mod Fairs
+mod Fields
+mod Formed
+mod Puts
+mod Ways
+mod Lasts
+mod Lengths
+pub mod Courses
+pub mod Answers
