@@ -14,13 +14,13 @@ use Rattle.budb_fold.specs.Checkpoints.{checkpoint}
 use Rattle.cell_core.specs.declared.cell.Cell.{Ghosts as Cell}
 use Rattle.cell_core.specs.declared.stored.Stored.{Stored}
 use Rattle.backup_words.specs.declared.command.Command.{Command}
-use Rattle.backup_replies.specs.declared.refusals.Refusal.TheVariants.{NoSuchCommand, LogFull}
-use Rattle.backup_replies.specs.Texts.{refused_word, refused_number}
+use Rattle.backup_replies.specs.declared.refusals.Refusal.TheVariants.{LogFull}
+use Rattle.backup_replies.specs.Texts.{refused_number}
 use Rattle.backup_session.specs.declared.verdict.Verdict.{Verdict}
 use Rattle.backup_session.specs.declared.verdict.Verdict.TheVariants.{Refuses, Makes, Shortens, Shows}
 use Rattle.backup_session.specs.Views.{SessionView, ReplyView}
 use Rattle.backup_session.specs.Worlds.{World, Turn, at_moment, last_cell}
-use Rattle.backup_session.specs.Asks.{asks_cell, asks_archive, asks_tape, is_built, first_word}
+use Rattle.backup_session.specs.Asks.{asks_cell, asks_archive, asks_dump, asks_tape}
 use Rattle.backup_session.specs.Cells.{CellAnswer, cell_answer, IsAnswer}
 use Rattle.backup_session.specs.Verdicts.{verdict}
 use Rattle.backup_session.specs.Turns.{said, length_with}
@@ -32,7 +32,8 @@ use Rattle.backup_session.specs.Scanning.{port_of, scan_turn, slots_here}
 use Rattle.backup_session.proofs.ScanLaws.{slots_cells}
 use Rattle.backup_session.specs.Tapes.{slot_of, new_label, taken, labeled, label_turn, read_turn, tape_turn}
 use Rattle.backup_session.specs.Restores.{archive_turn}
-use Rattle.backup_session.specs.Machine.{committed, replaced, carried, on_cell, on_plant, done, turn}
+use Rattle.backup_session.specs.Dumps.{dump_turn}
+use Rattle.backup_session.specs.Machine.{committed, replaced, carried, on_cell, on_plant, off_cell, done, turn}
 use Rattle.backup_session.specs.Fitting.{Fits, Turned, OnTheWay, FitsPlant, TurnedPlant}
 
 pub full_true : (a b : ℕ) → a < b → nat_lt a b ≡ true
@@ -58,32 +59,31 @@ made_leaves P w changes text old new session fits size images over leaves =
 
 -- ---- what a turn is
 
-pub turn_unbuilt : (w : World) (now : ℕ) (command : Command) → is_built command ≡ false → turn w now command ≡ said w (refused_word NoSuchCommand (first_word command))
+pub turn_done : (w : World) (now : ℕ) (command : Command) → turn w now command ≡ done (at_moment w now) command
 unfolding turn
-turn_unbuilt w now command is = ap (λ (b : Bool). if b then done (at_moment w now) command else said w (refused_word NoSuchCommand (first_word command))) is
+turn_done w now command = refl
 
-turn_done : (w : World) (now : ℕ) (command : Command) → is_built command ≡ true → turn w now command ≡ done (at_moment w now) command
-unfolding turn
-turn_done w now command is = ap (λ (b : Bool). if b then done (at_moment w now) command else said w (refused_word NoSuchCommand (first_word command))) is
+module _ (w : World) (command : Command) where
+  abbrev not_on_cell : Turn
+  not_on_cell = if asks_archive command then archive_turn w command else off_cell w command
 
-abbrev not_on_cell : World → ℕ → Command → Turn
-not_on_cell w now command = if asks_archive command then archive_turn (at_moment w now) command else on_plant (at_moment w now) command
+  pub done_cell : asks_cell command ≡ true → done w command ≡ on_cell w (cell_answer w.cell w.time command)
+  done_cell is = ap (λ (b : Bool). if b then on_cell w (cell_answer w.cell w.time command) else not_on_cell) is
 
-turn_off_cell : (w : World) (now : ℕ) (command : Command) → is_built command ≡ true → asks_cell command ≡ false → turn w now command ≡ not_on_cell w now command
-turn_off_cell w now command built off = turn_done w now command built
-    ∙ ap (λ (b : Bool). if b then on_cell (at_moment w now) (cell_answer w.cell (at_moment w now).time command) else not_on_cell w now command) off
+  done_not_cell : asks_cell command ≡ false → done w command ≡ not_on_cell
+  done_not_cell is = ap (λ (b : Bool). if b then on_cell w (cell_answer w.cell w.time command) else not_on_cell) is
 
-pub turn_cell : (w : World) (now : ℕ) (command : Command) → is_built command ≡ true → asks_cell command ≡ true → turn w now command ≡ on_cell (at_moment w now) (cell_answer w.cell (at_moment w now).time command)
-turn_cell w now command built is = turn_done w now command built
-    ∙ ap (λ (b : Bool). if b then on_cell (at_moment w now) (cell_answer w.cell (at_moment w now).time command) else not_on_cell w now command) is
+  pub done_archive : asks_cell command ≡ false → asks_archive command ≡ true → done w command ≡ archive_turn w command
+  done_archive off is = done_not_cell off ∙ ap (λ (b : Bool). if b then archive_turn w command else off_cell w command) is
 
-pub turn_archive : (w : World) (now : ℕ) (command : Command) → is_built command ≡ true → asks_cell command ≡ false → asks_archive command ≡ true → turn w now command ≡ archive_turn (at_moment w now) command
-turn_archive w now command built off is = turn_off_cell w now command built off
-    ∙ ap (λ (b : Bool). if b then archive_turn (at_moment w now) command else on_plant (at_moment w now) command) is
+  done_off_cell : asks_cell command ≡ false → asks_archive command ≡ false → done w command ≡ off_cell w command
+  done_off_cell off out = done_not_cell off ∙ ap (λ (b : Bool). if b then archive_turn w command else off_cell w command) out
 
-pub turn_plant : (w : World) (now : ℕ) (command : Command) → is_built command ≡ true → asks_cell command ≡ false → asks_archive command ≡ false → turn w now command ≡ on_plant (at_moment w now) command
-turn_plant w now command built off is = turn_off_cell w now command built off
-    ∙ ap (λ (b : Bool). if b then archive_turn (at_moment w now) command else on_plant (at_moment w now) command) is
+  pub done_dump : asks_cell command ≡ false → asks_archive command ≡ false → asks_dump command ≡ true → done w command ≡ dump_turn w command
+  done_dump off out is = done_off_cell off out ∙ ap (λ (b : Bool). if b then dump_turn w command else on_plant w command) is
+
+  pub done_plant : asks_cell command ≡ false → asks_archive command ≡ false → asks_dump command ≡ false → done w command ≡ on_plant w command
+  done_plant off out is = done_off_cell off out ∙ ap (λ (b : Bool). if b then dump_turn w command else on_plant w command) is
 
 -- a verdict leaves the cell alone
 pub carried_cells : (w : World) (v : Verdict) → (carried w v).cells ≡ []
@@ -138,7 +138,7 @@ plant_cells w command = go (asks_tape command)
 
 module _ {D E : Type 0} (P : Plant D) (C : Cell E) (w : World) (old : D) (site : E) (session : SessionView) (fits : Fits P C w old site session) where
   -- the same at a moment of the clock
-  pub fits_at : (now : ℕ) (later : SessionView) → later.budb ≡ session.budb → later.config ≡ session.config → later.time ≡ max session.time (min now 4294967295) → FitsPlant P (at_moment w now) old later
+  pub fits_at : (now : ℕ) (later : SessionView) → later.budb ≡ session.budb → later.config ≡ session.config → later.time ≡ max session.time (min now 4294967295) → Fits P C (at_moment w now) old site later
   fits_at now later budb config time = record {
     keeps = record { form = fits.keeps.form; is = fits.keeps.is; fold = ap (λ b. b.database) budb ∙ fits.keeps.fold };
     time = time ∙ ap (λ (t : ℕ). max t (min now 4294967295)) fits.time;
@@ -147,26 +147,24 @@ module _ {D E : Type 0} (P : Plant D) (C : Cell E) (w : World) (old : D) (site :
     settled = fits.settled;
     slots = fits.slots;
     present = fits.present;
+    cell = fits.cell;
   }
 
-  -- the same with the cell
-  pub all_fits_at : (now : ℕ) (later : SessionView) → later.budb ≡ session.budb → later.config ≡ session.config → later.time ≡ max session.time (min now 4294967295) → Fits P C (at_moment w now) old site later
-  all_fits_at now later budb config time =
-      let plant = fits_at now later budb config time in
-      record {
-        keeps = plant.keeps;
-        time = plant.time;
-        config = plant.config;
-        state = plant.state;
-        settled = plant.settled;
-        slots = plant.slots;
-        present = plant.present;
-        cell = fits.cell;
-      }
+  -- the same without the cell
+  pub fits_plant : FitsPlant P w old session
+  fits_plant = record {
+    keeps = fits.keeps;
+    time = fits.time;
+    config = fits.config;
+    state = fits.state;
+    settled = fits.settled;
+    slots = fits.slots;
+    present = fits.present;
+  }
 
   -- a turn that leaves the cell alone
-  pub turned_by : (now : ℕ) (t : Turn) (new : D) (later : SessionView) (reply : ReplyView) → t.cells ≡ [] → TurnedPlant P (at_moment w now) t old new later reply → Turned P C w t old new site later reply
-  turned_by now t new later reply cells turned = record {
+  pub turned_by : (t : Turn) (new : D) (later : SessionView) (reply : ReplyView) → t.cells ≡ [] → TurnedPlant P w t old new later reply → Turned P C w t old new site later reply
+  turned_by t new later reply cells turned = record {
     done = turned.done;
     text = turned.text;
     fits = record {
@@ -181,39 +179,41 @@ module _ {D E : Type 0} (P : Plant D) (C : Cell E) (w : World) (old : D) (site :
     };
   }
 
+  -- where the cell is then
+  pub list_stays : (cells : List (List Stored)) (new : List Stored) → new ≡ C.list site → OnTheWay w.cell cells new
+  list_stays cells new is = subst (λ (l : List Stored). OnTheWay w.cell cells l) (sym (is ∙ fits.cell)) (0, omega arith, refl)
+
   -- a turn of the cell alone
-  pub turned_cell : (now : ℕ) (new : E) (later : SessionView) (reply : ReplyView) (command : Command) → P.sound old → later.budb ≡ session.budb → later.config ≡ session.config → later.time ≡ max session.time (min now 4294967295)
-      → IsAnswer (cell_answer (C.list site) later.time command) reply (C.list site) (C.list new) → Turned P C w (on_cell (at_moment w now) (cell_answer w.cell (at_moment w now).time command)) old old new later reply
-  turned_cell now new later reply command sound budb config time answer =
-      let plant = fits_at now later budb config time in
-      let same : cell_answer (C.list site) later.time command ≡ cell_answer w.cell (at_moment w now).time command =
-      ap (λ (l : List Stored). cell_answer l later.time command) fits.cell ∙ ap (λ (t : ℕ). cell_answer w.cell t command) plant.time in
+  pub turned_cell : (new : E) (reply : ReplyView) (command : Command) → P.sound old → IsAnswer (cell_answer (C.list site) session.time command) reply (C.list site) (C.list new)
+      → Turned P C w (on_cell w (cell_answer w.cell w.time command)) old old new session reply
+  turned_cell new reply command sound answer =
+      let same : cell_answer (C.list site) session.time command ≡ cell_answer w.cell w.time command = λ i. cell_answer (fits.cell i) (fits.time i) command in
       record {
         done = nothing_done P old sound;
         text = answer.text ∙ ap (λ (a : CellAnswer). a.reply) same;
         fits = record {
-          keeps = plant.keeps;
-          time = plant.time;
-          config = plant.config;
-          state = plant.state;
-          settled = plant.settled;
-          slots = plant.slots;
-          present = plant.present;
-          cell = answer.list ∙ ap (λ (l : List Stored). last_cell l (cell_answer (C.list site) later.time command).cells) fits.cell ∙ ap (λ (a : CellAnswer). last_cell w.cell a.cells) same;
+          keeps = fits.keeps;
+          time = fits.time;
+          config = fits.config;
+          state = fits.state;
+          settled = fits.settled;
+          slots = fits.slots;
+          present = fits.present;
+          cell = answer.list ∙ (λ i. last_cell (fits.cell i) (same i).cells);
         };
       }
 
   -- the cell on the way
-  pub cell_way : (now : ℕ) (new : List Stored) (time : ℕ) (command : Command) → time ≡ max session.time (min now 4294967295) → OnTheWay (C.list site) (cell_answer (C.list site) time command).cells new → OnTheWay w.cell (cell_answer w.cell (at_moment w now).time command).cells new
-  cell_way now new time command is way =
-      subst (λ (l : List Stored). OnTheWay l (cell_answer l (at_moment w now).time command).cells new) fits.cell
-      (subst (λ (t : ℕ). OnTheWay (C.list site) (cell_answer (C.list site) t command).cells new) (is ∙ ap (λ (t : ℕ). max t (min now 4294967295)) fits.time) way)
+  pub cell_way : (new : List Stored) (command : Command) → OnTheWay (C.list site) (cell_answer (C.list site) session.time command).cells new → OnTheWay w.cell (cell_answer w.cell w.time command).cells new
+  cell_way new command way =
+      subst (λ (l : List Stored). OnTheWay l (cell_answer l w.time command).cells new) fits.cell
+      (subst (λ (t : ℕ). OnTheWay (C.list site) (cell_answer (C.list site) t command).cells new) fits.time way)
+
+-- a turn at a moment is one of the world before it
+pub turned_at : {D E : Type 0} (P : Plant D) (C : Cell E) (w : World) (now : ℕ) (t : Turn) (old new : D) (site : E) (session : SessionView) (reply : ReplyView) → Turned P C (at_moment w now) t old new site session reply → Turned P C w t old new site session reply
+turned_at P C w now t old new site session reply turned = record { done = turned.done; text = turned.text; fits = turned.fits }
 
 -- in an Ok
 pub in_ok : {A F : Type 0} (r : Result A F) (Q R : A → Type 0) → ((x : A) → Q x → R x) → IfOk r Q → IfOk r R
 in_ok (Ok x) Q R map is = map x is
 in_ok (Err e) Q R map is = tt
-
--- nothing but a reply
-pub said_turned : {D E : Type 0} (P : Plant D) (C : Cell E) (w : World) (old : D) (site : E) (session : SessionView) → Fits P C w old site session → (reply : ReplyView) (text : List ℕ) → P.sound old → reply.text ≡ text → Turned P C w (said w text) old old site session reply
-said_turned P C w old site session fits reply text sound is = record { done = nothing_done P old sound; text = is; fits = fits }

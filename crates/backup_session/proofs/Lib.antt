@@ -10,3 +10,4 @@ pub mod LabelLaws
 pub mod Taking
 pub mod Settling
 pub mod RestoreLaws
+pub mod DumpLaws

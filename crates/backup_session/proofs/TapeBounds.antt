@@ -20,14 +20,15 @@ use Rattle.backup_words.specs.declared.command.Command.{Command}
 use Rattle.backup_words.specs.declared.command.Command.TheVariants.{Labeltape, Readlabel, Scantape}
 use Rattle.backup_session.specs.declared.verdict.Verdict.{Verdict}
 use Rattle.backup_session.specs.declared.verdict.Verdict.TheVariants.{Refuses, Makes, Shortens, Shows}
-use Rattle.backup_session.specs.Asks.{asks_cell, asks_archive, asks_tape, is_built}
+use Rattle.backup_session.specs.Asks.{asks_cell, asks_archive, asks_dump, asks_tape}
 use Rattle.backup_session.specs.Worlds.{World, Turn, before_reply, with_told, after_turn, at_moment}
 use Rattle.backup_session.specs.Turns.{length_with}
 use Rattle.backup_session.specs.Verdicts.{verdict}
 use Rattle.backup_session.specs.Labels.{label_of}
 use Rattle.backup_session.specs.Scanning.{port_of, slots_here, scans_of, Step, says, has_wrong_parent, added, added_if, with_dump, adding, dumps_turn, slots_turn, scan_turn}
 use Rattle.backup_session.specs.Tapes.{slot_of, read_turn, new_label, taken, putting_label, labeled, label_turn, tape_turn}
-use Rattle.backup_session.specs.Machine.{carried, on_plant, done, turn}
+use Rattle.backup_session.specs.Dumps.{dump_turn}
+use Rattle.backup_session.specs.Machine.{carried, on_plant, off_cell, done, turn}
 use Rattle.backup_session.specs.Bounded.{HasTapes}
 
 -- ---- effects that change no tape
@@ -78,7 +79,7 @@ scan_leaves w dbadd (Ok port) = slots_leave w dbadd (slots_here w.setting.presen
 
 -- ---- tapes with few records
 
-abbrev AreShort : (ℕ → List Record) → Type 0
+abbrev pub AreShort : (ℕ → List Record) → Type 0
 AreShort tape = (k : ℕ) → length (tape k) ≤ 4294967295
 
 still_short : (es : List Effect) (s : State) → LeavesTapes es → AreShort s.tape → AreShort (come es s).tape
@@ -128,18 +129,21 @@ module _ (w : World) (short : AreShort w.state.tape) where
   plant_stays : (command : Command) → Stays (on_plant w command)
   plant_stays command = picked (asks_tape command) _ _ (tape_stays command) (carried_stays (verdict (after w.log) command))
 
-  done_stays : (command : Command) → Stays (done w command)
-  done_stays command = picked (asks_cell command) _ _ short (picked (asks_archive command) _ _ short (plant_stays command))
+  off_cell_stays : (command : Command) → Stays (dump_turn w command) → Stays (off_cell w command)
+  off_cell_stays command dump = picked (asks_dump command) _ _ dump (plant_stays command)
 
-turn_short : (w : World) (now : ℕ) (command : Command) → AreShort w.state.tape → AreShort (come (turn w now command).effects w.state).tape
+  done_stays : (command : Command) → Stays (dump_turn w command) → Stays (done w command)
+  done_stays command dump = picked (asks_cell command) _ _ short (picked (asks_archive command) _ _ short (off_cell_stays command dump))
+
+turn_short : (w : World) (now : ℕ) (command : Command) → AreShort w.state.tape → AreShort (come (dump_turn (at_moment w now) command).effects w.state).tape → AreShort (come (turn w now command).effects w.state).tape
 unfolding turn
-turn_short w now command short = picked w short (is_built command) _ _ (done_stays (at_moment w now) short command) short
+turn_short w now command short dump = done_stays (at_moment w now) short command dump
 
 -- ---- worlds
 
--- behind a turn, and its reply told
-pub turn_has_tapes : (w : World) (now : ℕ) (command : Command) → HasTapes w → HasTapes (after_turn w (turn w now command))
-turn_has_tapes w now command has = record { slots = has.slots; records = turn_short w now command has.records }
+-- behind a turn, and its reply told, where a dump keeps them
+pub turn_has_tapes : (w : World) (now : ℕ) (command : Command) → HasTapes w → AreShort (come (dump_turn (at_moment w now) command).effects w.state).tape → HasTapes (after_turn w (turn w now command))
+turn_has_tapes w now command has dump = record { slots = has.slots; records = turn_short w now command has.records dump }
 
 pub told_has_tapes : (w : World) (text : List ℕ) → HasTapes w → HasTapes (with_told w text)
 told_has_tapes w text has = record { slots = has.slots; records = has.records }

@@ -9,6 +9,7 @@ pub mod Turns
 pub mod Scanning
 pub mod Tapes
 pub mod Restores
+pub mod Dumps
 pub mod Machine
 pub mod Views
 pub mod Fitting

@@ -6,17 +6,18 @@ use Rattle.budb_changes.specs.Bytes.{encoded}
 use Rattle.budb_fold.specs.Database.{after}
 use Rattle.budb_fold.specs.Checkpoints.{checkpoint}
 use Rattle.backup_words.specs.declared.command.Command.{Command}
-use Rattle.backup_replies.specs.declared.refusals.Refusal.TheVariants.{NoSuchCommand, LogFull}
-use Rattle.backup_replies.specs.Texts.{refused_word, refused_number, ok_line}
+use Rattle.backup_replies.specs.declared.refusals.Refusal.TheVariants.{LogFull}
+use Rattle.backup_replies.specs.Texts.{refused_number, ok_line}
 use Rattle.backup_session.specs.declared.verdict.Verdict.{Verdict}
 use Rattle.backup_session.specs.declared.verdict.Verdict.TheVariants.{Refuses, Makes, Shortens, Shows}
-use Rattle.backup_session.specs.Asks.{asks_cell, asks_archive, asks_tape, is_built, first_word}
+use Rattle.backup_session.specs.Asks.{asks_cell, asks_archive, asks_dump, asks_tape}
 use Rattle.backup_session.specs.Cells.{CellAnswer, cell_answer}
 use Rattle.backup_session.specs.Verdicts.{verdict}
 use Rattle.backup_session.specs.Worlds.{World, Turn, at_moment}
 use Rattle.backup_session.specs.Turns.{said, length_with}
 use Rattle.backup_session.specs.Tapes.{tape_turn}
 use Rattle.backup_session.specs.Restores.{archive_turn}
+use Rattle.backup_session.specs.Dumps.{dump_turn}
 
 -- changes are made by one commit
 abbrev pub committed : World → List Change → List ℕ → Turn
@@ -45,11 +46,14 @@ on_cell w answer = record { effects = []; reply = answer.reply; log = w.log; tim
 abbrev pub on_plant : World → Command → Turn
 on_plant w command = if asks_tape command then tape_turn w command else carried w (verdict (after w.log) command)
 
--- a command that has a body, at the session's time
-abbrev pub done : World → Command → Turn
-done w command = if asks_cell command then on_cell w (cell_answer w.cell w.time command) else (if asks_archive command then archive_turn w command else on_plant w command)
+-- a command that asks neither the cell nor the archive
+abbrev pub off_cell : World → Command → Turn
+off_cell w command = if asks_dump command then dump_turn w command else on_plant w command
 
--- ONE COMMAND at a moment of the clock. A command without a body yet is refused as none, in this one place, and isn't one: the
--- session's time stays.
+-- a command at the session's time
+abbrev pub done : World → Command → Turn
+done w command = if asks_cell command then on_cell w (cell_answer w.cell w.time command) else (if asks_archive command then archive_turn w command else off_cell w command)
+
+-- ONE COMMAND at a moment of the clock.
 unfoldable pub turn : World → ℕ → Command → Turn
-turn w now command = if is_built command then done (at_moment w now) command else said w (refused_word NoSuchCommand (first_word command))
+turn w now command = done (at_moment w now) command

@@ -4,6 +4,7 @@
 mod adding;
 mod asks;
 mod decide;
+mod dumping;
 mod dumps;
 mod hosts;
 mod labeling;

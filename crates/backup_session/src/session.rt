@@ -12,17 +12,17 @@ ghost use Rattle.plant_effects.specs.Runs.{state_of, Done, Leaves, SameNumbers, 
 ghost use Rattle.backup_session.specs.declared.verdict.Verdict.TheVariants.{Makes, Shortens};
 ghost use Rattle.backup_session.specs.Worlds.{World, Setting, Contents, at_moment};
 ghost use Rattle.backup_session.specs.Verdicts.{verdict};
-ghost use Rattle.backup_session.specs.Machine.{carried, on_plant, turn};
+ghost use Rattle.backup_session.specs.Machine.{carried, on_plant, done, turn};
 ghost use Rattle.backup_session.specs.Held.{HeldFor};
 
-use crate::asks::{asks_archive, asks_cell, asks_tape, first_word, is_built};
+use crate::asks::{asks_archive, asks_cell, asks_dump, asks_tape};
 use crate::decide::decide;
 use crate::opening::{first_time, open_database};
 use crate::reply::Reply;
 use crate::stops::{OpenStop, Stop};
 use crate::verdict::Verdict;
 use crate::vos::on_cell;
-use backup_replies::{Refusal, ok_line, refused_number, refused_word};
+use backup_replies::{Refusal, ok_line, refused_number};
 use backup_words::Command;
 use bk_text::Bytes;
 use budb::{Budb, CommitFault};
@@ -192,6 +192,34 @@ impl Session {
         }
     }
 
+    /// A command at the session's time.
+    fn run<P: Plant, C: Cell>(
+        &mut self,
+        alloc: Global,
+        plant: &mut P,
+        cell: &mut C,
+        command: &Command,
+    ) -> Result<Reply, Stop>
+        requires { P.sound plant.old }
+        ensures sound { OnOk result (P.sound plant.new) }
+        ensures turned { P.tells → C.tells → (w : World) → Fits P.Plant C.Cell w plant.old cell.old self.old → HeldFor w command.now → IfOk result (λ reply. Turned P.Plant C.Cell w (done w command.now) plant.old plant.new cell.new self.new reply) }
+        ensures leaves { P.tells → C.tells → (w : World) → Fits P.Plant C.Cell w plant.old cell.old self.old → Leaves P.Plant (done w command.now).effects plant.old plant.new }
+        ensures cells { P.tells → C.tells → (w : World) → Fits P.Plant C.Cell w plant.old cell.old self.old → HeldFor w command.now → OnTheWay w.cell (done w command.now).cells (C.list cell.new) }
+        ensures stays { StaysQuiet P.Plant plant.old plant.new }
+        ensures plant_cause { HasCauseAt Stop.Plant (P.view plant.old).faults (P.view plant.new).faults result }
+        ensures cell_cause { HasCauseAt Stop.Cell (C.faults cell.old) (C.faults cell.new) result }
+    {
+        if asks_cell(command) {
+            on_cell(alloc, cell, command, self.time)
+        } else if asks_archive(command) {
+            self.on_archive(alloc, plant, cell, command)
+        } else if asks_dump(command) {
+            self.on_dump(alloc, plant, cell, command)
+        } else {
+            self.on_plant(alloc, plant, command)
+        }
+    }
+
     /// Executes a command at a moment of the clock. What it tells is handed back and not told.
     pub fn exec<P: Plant, C: Cell>(
         &mut self,
@@ -210,17 +238,7 @@ impl Session {
         ensures plant_cause { HasCauseAt Stop.Plant (P.view plant.old).faults (P.view plant.new).faults result }
         ensures cell_cause { HasCauseAt Stop.Cell (C.faults cell.old) (C.faults cell.new) result }
     {
-        if !is_built(command) {
-            let text = refused_word(alloc, Refusal::NoSuchCommand, first_word(command))?;
-            return Ok(Reply::new(text));
-        }
         self.time = self.time.max(now.min(4_294_967_295) as u32);
-        if asks_cell(command) {
-            on_cell(alloc, cell, command, self.time)
-        } else if asks_archive(command) {
-            self.on_archive(alloc, plant, cell, command)
-        } else {
-            self.on_plant(alloc, plant, command)
-        }
+        self.run(alloc, plant, cell, command)
     }
 }

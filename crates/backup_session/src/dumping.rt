@@ -1,0 +1,148 @@
+//! Dumps: a volume set is dumped as the database, the tapes and the cell have it.
+
+ghost use Rattle.std.specs.Prelude.{◌≡◌, ◌≢◌, [], IfOk, OnOk};
+ghost use Rattle.crash_moments.specs.Moments.{HasCauseAt};
+ghost use Rattle.plant_effects.specs.Runs.{Leaves, StaysQuiet};
+ghost use Rattle.dump_commands.specs.Answers.{dump_answer};
+ghost use Rattle.backup_session.specs.Worlds.{World};
+ghost use Rattle.backup_session.specs.Dumps.{scene_of, asked_of, answered, dump_turn};
+
+use crate::reply::Reply;
+use crate::session::Session;
+use crate::stops::Stop;
+use backup_words::Command;
+use bk_text::{Bytes, LevelPath, SetName};
+use cell_core::Cell;
+use dump_commands::{DumpCommand, DumpStop, dump};
+use plant_core::Plant;
+use std::alloc::{AllocError, Global};
+
+/// What a dump stops for, as a session says it.
+fn stop_of(stop: DumpStop) -> Stop
+    ensures plant { result ≡ Stop.Plant → stop ≡ DumpStop.Plant }
+    ensures only_plant { stop ≡ DumpStop.Plant → result ≡ Stop.Plant }
+    ensures cell { result ≡ Stop.Cell → stop ≡ DumpStop.Cell }
+    ensures only_cell { stop ≡ DumpStop.Cell → result ≡ Stop.Cell }
+{
+    match stop {
+        DumpStop::Plant => Stop::Plant,
+        DumpStop::Cell => Stop::Cell,
+        DumpStop::Memory => Stop::Memory,
+    }
+}
+
+/// What a command asks to be dumped, by its fields.
+fn asked_of(
+    volumeset: &SetName,
+    level: &LevelPath,
+    offset: u16,
+    append: bool,
+    trial: bool,
+) -> Result<DumpCommand, AllocError>
+    ensures { IfOk result (λ asked. asked ≡ asked_of volumeset.now level.now offset append trial) }
+{
+    Ok(DumpCommand {
+        set: volumeset.clone()?,
+        level: level.clone()?,
+        offset,
+        append,
+        trial,
+    })
+}
+
+impl Session {
+    ghost use Rattle.backup_session.specs.Fitting.{Fits, Turned, OnTheWay};
+
+    /// Makes a dump, or tells what it is refused by, at the session's time, which takes in the id of a dump that is begun.
+    fn make_dump<P: Plant, C: Cell>(
+        &mut self,
+        alloc: Global,
+        plant: &mut P,
+        cell: &mut C,
+        asked: &DumpCommand,
+    ) -> Result<Reply, Stop>
+        requires { P.sound plant.old }
+        ensures sound { OnOk result (P.sound plant.new) }
+        ensures turned { P.tells → C.tells → (w : World) → Fits P.Plant C.Cell w plant.old cell.old self.old → IfOk result (λ reply. Turned P.Plant C.Cell w (answered w (dump_answer (scene_of w) asked.now)) plant.old plant.new cell.new self.new reply) }
+        ensures leaves { P.tells → C.tells → (w : World) → Fits P.Plant C.Cell w plant.old cell.old self.old → Leaves P.Plant (dump_answer (scene_of w) asked.now).effects plant.old plant.new }
+        ensures list { C.tells → C.list cell.new ≡ C.list cell.old }
+        ensures stays { StaysQuiet P.Plant plant.old plant.new }
+        ensures plant_cause { HasCauseAt Stop.Plant (P.view plant.old).faults (P.view plant.new).faults result }
+        ensures cell_cause { HasCauseAt Stop.Cell (C.faults cell.old) (C.faults cell.new) result }
+    {
+        match dump(
+            alloc,
+            &self.config,
+            &mut self.budb,
+            plant,
+            cell,
+            self.time,
+            asked,
+        ) {
+            Ok(dumped) => {
+                self.time = dumped.time;
+                Ok(Reply::new(dumped.text))
+            }
+            Err(stop) => Err(stop_of(stop)),
+        }
+    }
+
+    /// A command that dumps, at the session's time. Another command has no reply.
+    pub(crate) fn on_dump<P: Plant, C: Cell>(
+        &mut self,
+        alloc: Global,
+        plant: &mut P,
+        cell: &mut C,
+        command: &Command,
+    ) -> Result<Reply, Stop>
+        requires { P.sound plant.old }
+        ensures sound { OnOk result (P.sound plant.new) }
+        ensures turned { P.tells → C.tells → (w : World) → Fits P.Plant C.Cell w plant.old cell.old self.old → IfOk result (λ reply. Turned P.Plant C.Cell w (dump_turn w command.now) plant.old plant.new cell.new self.new reply) }
+        ensures leaves { P.tells → C.tells → (w : World) → Fits P.Plant C.Cell w plant.old cell.old self.old → Leaves P.Plant (dump_turn w command.now).effects plant.old plant.new }
+        ensures list { C.tells → C.list cell.new ≡ C.list cell.old }
+        ensures stays { StaysQuiet P.Plant plant.old plant.new }
+        ensures plant_cause { HasCauseAt Stop.Plant (P.view plant.old).faults (P.view plant.new).faults result }
+        ensures cell_cause { HasCauseAt Stop.Cell (C.faults cell.old) (C.faults cell.new) result }
+    {
+        match command {
+            Command::Dump {
+                volumeset,
+                dump,
+                portoffset,
+                append,
+                n,
+            } => {
+                let asked = asked_of(volumeset, dump, *portoffset, *append, *n)?;
+                self.make_dump(alloc, plant, cell, &asked)
+            }
+            Command::Addvolset { .. }
+            | Command::Delvolset { .. }
+            | Command::Addvolentry { .. }
+            | Command::Delvolentry { .. }
+            | Command::Listvolsets { .. }
+            | Command::Adddump { .. }
+            | Command::Setexp { .. }
+            | Command::Deldump { .. }
+            | Command::Listdumps
+            | Command::Listhosts
+            | Command::Checkpoint
+            | Command::Addhost { .. }
+            | Command::Delhost { .. }
+            | Command::Labeltape { .. }
+            | Command::Readlabel { .. }
+            | Command::Scantape { .. }
+            | Command::Deletedump { .. }
+            | Command::Dumpinfo { .. }
+            | Command::Volinfo { .. }
+            | Command::Volrestore { .. }
+            | Command::Diskrestore { .. }
+            | Command::Volsetrestore { .. }
+            | Command::VosCreate { .. }
+            | Command::VosWrite { .. }
+            | Command::VosRmvnode { .. }
+            | Command::VosBackup { .. }
+            | Command::VosRemove { .. }
+            | Command::VosListvol => Ok(Reply::new(Bytes::new(alloc))),
+        }
+    }
+}
