@@ -7,19 +7,10 @@ use Rattle.budb.proofs.Keeping.{encoded_more}
 use Rattle.budb_changes.specs.declared.change.Change.{Change}
 use Rattle.budb_changes.specs.Bytes.{encoded}
 use Rattle.budb_changes.specs.Forms.{IsChange, AreChanges}
-use Rattle.script_journals.specs.Journals.{AreBytesOf, IsJournalAfter}
+use Rattle.dump_forms.specs.Journals.{AreBytesOf, IsJournalAfter}
 
 pub own_bytes : (changes : List Change) → AreChanges changes → AreBytesOf changes (encoded changes)
 own_bytes changes form = record { form = form; is = refl }
-
-pub journal_then : (es fs : List Effect) (log mid new : List Change) → IsJournalAfter log es mid → IsJournalAfter mid fs new → IsJournalAfter log (es ++ fs) new
-journal_then [] fs log mid new first second = subst (λ (l : List Change). IsJournalAfter l fs new) first second
-journal_then (commits bytes ∷ es) fs log mid new (changes, are, first) second = (changes, are, journal_then es fs (log ++ changes) mid new first second)
-journal_then (replaces bytes ∷ es) fs log mid new (changes, are, first) second = (changes, are, journal_then es fs changes mid new first second)
-journal_then (tells text ∷ es) fs log mid new first second = journal_then es fs log mid new first second
-journal_then (puts k r ∷ es) fs log mid new first second = journal_then es fs log mid new first second
-journal_then (settles k ∷ es) fs log mid new first second = journal_then es fs log mid new first second
-journal_then (cuts k n ∷ es) fs log mid new first second = journal_then es fs log mid new first second
 
 -- the journal after the first effects
 pub journal_front : (es fs : List Effect) (log new : List Change) → IsJournalAfter log (es ++ fs) new → (mid : List Change) × IsJournalAfter log es mid

@@ -1,5 +1,9 @@
 pub mod Following
 pub mod Verdicts
 pub mod Scans
+pub mod CellForms
+pub mod RestoreForms
+pub mod TurnForms
 pub mod Turns
 pub mod Scripts
+pub mod DumpingScripts

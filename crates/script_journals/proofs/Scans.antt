@@ -12,8 +12,9 @@ use Rattle.budb_fold.specs.Database.{after, has_dump}
 use Rattle.backup_session.specs.Worlds.{World, before_reply}
 use Rattle.backup_session.specs.Turns.{length_with}
 use Rattle.backup_session.specs.Scanning.{scans_of, Step, says, has_wrong_parent, added, added_if, with_dump, adding, dumps_turn, slots_turn}
-use Rattle.script_journals.specs.Journals.{IsJournalAfter}
-use Rattle.script_journals.proofs.Following.{own_bytes, journal_then}
+use Rattle.dump_forms.specs.Journals.{IsJournalAfter}
+use Rattle.dump_forms.proofs.JournalLaws.{journal_joined}
+use Rattle.script_journals.proofs.Following.{own_bytes}
 
 -- of a step from a world
 abbrev Follows : List Change → Step → Type 0
@@ -35,7 +36,7 @@ steps_follow w s [] so_far forms = so_far
 steps_follow w s (d ∷ ds) so_far forms =
     let here = before_reply w s.turn in
     let one = added_if here s.full d in
-    steps_follow w (with_dump w s d) ds (journal_then s.turn.effects one.turn.effects w.log s.turn.log one.turn.log so_far (one_follows here s.full d (All-head IsDumpRecord d ds forms))) (All-tail IsDumpRecord d ds forms)
+    steps_follow w (with_dump w s d) ds (journal_joined w.log s.turn.log one.turn.log s.turn.effects one.turn.effects so_far (one_follows here s.full d (All-head IsDumpRecord d ds forms))) (All-tail IsDumpRecord d ds forms)
 
 adding_follows : (w : World) (ds : List DumpRecordFields) → All IsDumpRecord ds → Follows w.log (adding w ds)
 unfolding adding

@@ -1,6 +1,9 @@
--- The journal of a turn.
-use Rattle.std.proofs.Common.{ℕ, Bool, true, false, List, [], ◌∷◌, length, refl}
-use Rattle.std.specs.Prelude.{nat_lt, if◌then◌else◌, Option, Result, Ok, Err}
+-- The journal of a turn, and the forms of the world behind it.
+use Rattle.std.proofs.Common.{ℕ, Bool, true, false, List, [], ◌∷◌, length, refl, arith}
+use Rattle.std.specs.Prelude.{◌↔◌, nat_lt, if◌then◌else◌, IsTrue, Option, Result, Ok, Err}
+use Rattle.bk_text.specs.Alphabets.{IsName}
+use Rattle.bk_text.specs.Tests.{name_test}
+use Rattle.plant_core.specs.Effects.{come}
 use Rattle.tape_config.specs.declared.port.PortFields.{PortFields}
 use Rattle.tape_frames.specs.declared.label.LabelFields.{LabelFields}
 use Rattle.budb_changes.specs.declared.change.Change.{Change}
@@ -10,24 +13,31 @@ use Rattle.budb_fold.specs.Database.{after}
 use Rattle.budb_fold.specs.Checkpoints.{checkpoint}
 use Rattle.budb.proofs.FoldForms.{forms_after, checkpoint_form}
 use Rattle.backup_words.specs.declared.command.Command.{Command}
-use Rattle.backup_words.specs.declared.command.Command.TheVariants.{Labeltape, Readlabel, Scantape}
-use Rattle.backup_replies.specs.declared.refusals.Refusal.TheVariants.{NoSuchCommand}
-use Rattle.backup_replies.specs.Texts.{refused_word}
+use Rattle.backup_words.specs.declared.command.Command.TheVariants.{Labeltape, Readlabel, Scantape, Dump}
 use Rattle.backup_session.specs.declared.verdict.Verdict.{Verdict}
 use Rattle.backup_session.specs.declared.verdict.Verdict.TheVariants.{Refuses, Makes, Shortens, Shows}
-use Rattle.backup_session.specs.Worlds.{World, Turn, at_moment}
-use Rattle.backup_session.specs.Turns.{said, length_with}
+use Rattle.backup_session.specs.Worlds.{World, Turn, at_moment, after_turn, with_told}
+use Rattle.backup_session.specs.Turns.{length_with}
 use Rattle.backup_session.specs.Verdicts.{verdict}
 use Rattle.backup_session.specs.Bounded.{HasTapes}
 use Rattle.backup_session.specs.Labels.{label_of}
 use Rattle.backup_session.specs.Scanning.{port_of, slots_here, scan_turn}
 use Rattle.backup_session.specs.Tapes.{slot_of, new_label, taken, labeled, label_turn, read_turn, tape_turn}
-use Rattle.backup_session.specs.Asks.{asks_cell, asks_archive, asks_tape, is_built, first_word}
+use Rattle.backup_session.specs.Dumps.{scene_of, asked_of, dump_turn}
+use Rattle.backup_session.specs.Asks.{asks_cell, asks_archive, asks_dump, asks_tape}
 use Rattle.backup_session.specs.Machine.{carried, on_plant, done, turn}
+use Rattle.backup_session.proofs.TapeBounds.{turn_has_tapes, told_has_tapes}
 use Rattle.command_forms.specs.Forms.{HasForms}
-use Rattle.script_journals.specs.Journals.{IsJournalAfter}
-use Rattle.script_journals.proofs.Following.{own_bytes}
+use Rattle.dump_forms.specs.Journals.{IsJournalAfter}
+use Rattle.dump_commands.specs.Forms.{AreShort}
+use Rattle.dump_commands.proofs.FormLaws.{answer_journaled}
+use Rattle.dump_commands.proofs.OrderForms.{order_form}
+use Rattle.dump_commands.proofs.ShortTapes.{answer_short}
+use Rattle.script_journals.proofs.Following.{own_bytes, journal_form}
 use Rattle.scan_laws.proofs.FoundForms.{found_forms}
+use Rattle.script_journals.specs.Worlds.{IsWorldForm}
+use Rattle.script_journals.proofs.CellForms.{last_form}
+use Rattle.script_journals.proofs.TurnForms.{LeavesForms, scene_form, done_forms}
 use Rattle.script_journals.proofs.Scans.{slots_follow}
 use Rattle.script_journals.proofs.Verdicts.{HasBytes, verdict_form, initial_form, taken_form}
 
@@ -71,16 +81,73 @@ module _ (w : World) (has : HasTapes w) (log : AreChanges w.log) where
   tape_follows (Scantape dbadd offset) = scan_follows dbadd (port_of w.setting.config (after w.log).hosts offset)
   tape_follows command = refl
 
-  plant_follows : (command : Command) → HasForms command → Follows (on_plant w command)
+  pub plant_follows : (command : Command) → HasForms command → Follows (on_plant w command)
   plant_follows command form = picked (asks_tape command) _ _ (tape_follows command) (carried_follows (verdict (after w.log) command) (verdict_form (after w.log) (forms_after w.log log).listed command form))
 
-  done_follows : (command : Command) → HasForms command → Follows (done w command)
-  done_follows command form = picked (asks_cell command) _ _ refl (picked (asks_archive command) _ _ refl (plant_follows command form))
+-- what a dump commits has bytes
+pub dump_follows : (w : World) → IsWorldForm w → (command : Command) → HasForms command → IsJournalAfter w.log (dump_turn w command).effects (dump_turn w command).log
+dump_follows w world (Dump volumeset dump portoffset append n) form =
+    let asked = asked_of volumeset dump portoffset append n in
+    let scene = scene_form w world in
+    answer_journaled (scene_of w) asked scene.log scene.cell (λ port is. order_form (scene_of w) asked port scene (record { set = form.0; level = form.1 }) is)
+dump_follows w world command form = refl
 
-pub turn_follows : (w : World) (now : ℕ) (command : Command) → HasTapes w → AreChanges w.log → HasForms command → IsJournalAfter w.log (turn w now command).effects (turn w now command).log
+done_follows : (w : World) → IsWorldForm w → (command : Command) → HasForms command → IsJournalAfter w.log (done w command).effects (done w command).log
+done_follows w world command form =
+    picked w world.tapes world.log (asks_cell command) _ _ refl
+    (picked w world.tapes world.log (asks_archive command) _ _ refl
+    (picked w world.tapes world.log (asks_dump command) _ _ (dump_follows w world command form) (plant_follows w world.tapes world.log command form)))
+
+-- the same world at a moment of the clock
+pub form_at : (w : World) (now : ℕ) → IsWorldForm w → IsWorldForm (at_moment w now)
+form_at w now form = record {
+  tapes = record { slots = form.tapes.slots; records = form.tapes.records };
+  log = form.log;
+  cell = form.cell;
+  contents = form.contents;
+  time = omega (arith, form.time);
+  name = form.name;
+  ports = form.ports;
+}
+
+pub turn_follows : (w : World) (now : ℕ) (command : Command) → IsWorldForm w → HasForms command → IsJournalAfter w.log (turn w now command).effects (turn w now command).log
 unfolding turn
-turn_follows w now command has log form = go (is_built command)
-  where
-    go : (b : Bool) → let t = (if b then done (at_moment w now) command else said w (refused_word NoSuchCommand (first_word command))) in IsJournalAfter w.log t.effects t.log
-    go true = done_follows (at_moment w now) (record { slots = has.slots; records = has.records }) log command form
-    go false = refl
+turn_follows w now command world form = done_follows (at_moment w now) (form_at w now world) command form
+
+-- ---- the world behind it
+
+pub dump_short : (w : World) → IsWorldForm w → (command : Command) → HasForms command → AreShort (come (dump_turn w command).effects w.state).tape
+dump_short w world (Dump volumeset dump portoffset append n) form =
+    let asked = asked_of volumeset dump portoffset append n in
+    let scene = scene_form w world in
+    answer_short (scene_of w) scene.log scene.cell world.tapes.records asked (λ port is. order_form (scene_of w) asked port scene (record { set = form.0; level = form.1 }) is)
+dump_short w world command form = world.tapes.records
+
+turn_leaves : (tests : (text : List ℕ) → IsTrue (name_test text) ↔ IsName text) (w : World) (now : ℕ) (command : Command) → IsWorldForm w → HasForms command → LeavesForms (turn w now command)
+unfolding turn
+turn_leaves tests w now command world form = done_forms tests (at_moment w now) (form_at w now world) command form
+
+pub turn_form : (tests : (text : List ℕ) → IsTrue (name_test text) ↔ IsName text) (w : World) (now : ℕ) (command : Command) → IsWorldForm w → HasForms command → IsWorldForm (after_turn w (turn w now command))
+turn_form tests w now command world form =
+    let t : Turn = turn w now command in
+    let leaves : LeavesForms t = turn_leaves tests w now command world form in
+    record {
+      tapes = turn_has_tapes w now command world.tapes (dump_short (at_moment w now) (form_at w now world) command form);
+      log = journal_form t.effects w.log t.log world.log (turn_follows w now command world form);
+      cell = last_form w.cell t.cells world.cell leaves.cells;
+      contents = leaves.contents;
+      time = leaves.time;
+      name = world.name;
+      ports = world.ports;
+    }
+
+pub told_form : (w : World) (text : List ℕ) → IsWorldForm w → IsWorldForm (with_told w text)
+told_form w text world = record {
+  tapes = told_has_tapes w text world.tapes;
+  log = world.log;
+  cell = world.cell;
+  contents = world.contents;
+  time = world.time;
+  name = world.name;
+  ports = world.ports;
+}
