@@ -16,15 +16,15 @@ use Rattle.archive_model.specs.Turns.{StillHeld, remaining}
 use Rattle.archive_model.proofs.StillLaws.{image_still_held}
 use Rattle.archive_model.proofs.DumpLaws.{rest_holds}
 use Rattle.archive_model.proofs.HeldLaws.{blank_holds}
-use Rattle.backup_session.specs.Worlds.{World, Setting, archive_of}
+use Rattle.backup_session.specs.Worlds.{World, Setting, Contents, archive_of}
 use Rattle.backup_session.specs.Bounded.{HasTapes}
 use Rattle.session_archives.specs.Held.{HoldsWorld, archive_with, HoldsAfter, HoldsOnTheWay, HoldsImage}
 use Rattle.session_archives.proofs.Slots.{ReadOnce, slots_again}
 
-pub image_holds : ReadOnce → (w : World) (effects : List Effect) (image : Stock) → HoldsAfter w effects → LeftIn (come effects w.state) image → HoldsImage w effects image
-image_holds once w effects image held left =
+pub image_holds : ReadOnce → (w : World) (contents : Contents) (effects : List Effect) (image : Stock) → HoldsAfter w contents effects → LeftIn (come effects w.state) image → HoldsImage w contents effects image
+image_holds once w contents effects image held left =
     let s = come effects w.state in
-    let a = archive_with w held.changes s.tape in
+    let a = archive_with w contents held.changes s.tape in
     let found = image_still_held s image a held.records held.holds left in
     let same : found.0 ≡ slots_of w.setting.slots w.setting.present image.tape = slots_again once w.setting.present s.tape image.tape w.setting.slots found.0 found.1 found.3.tapes in
     record {
@@ -35,8 +35,9 @@ image_holds once w effects image held left =
       still = subst (λ (l : List Slot). StillHeld (listed_of a) a.slots l) same found.2;
     }
 
-pub joint_holds : ReadOnce → (w : World) (effects : List Effect) (old image : Stock) → HoldsOnTheWay w effects → (joint : Joint w.state effects old image) → HoldsImage w (take joint.count effects) image
-joint_holds once w effects old image way joint = image_holds once w (take joint.count effects) image (way joint.count) joint.left
+pub joint_holds : ReadOnce → (w : World) (contents : ℕ → Contents) (effects : List Effect) (old image : Stock) → HoldsOnTheWay w contents effects → (joint : Joint w.state effects old image)
+    → HoldsImage w (contents joint.count) (take joint.count effects) image
+joint_holds once w contents effects old image way joint = image_holds once w (contents joint.count) (take joint.count effects) image (way joint.count) joint.left
 
 -- all is settled at the start
 pub world_at_rest : (w : World) (records : List DumpRecordFields) → Holds (seen_in w.state) (archive_of w) records → IsSettled w.state → ((k : ℕ) → IsTrue (w.setting.present k) → k < w.setting.slots) → HasTapes w → HoldsWorld w
@@ -44,12 +45,12 @@ world_at_rest w records held settled within has = record { records = records; ho
 
 -- ---- an image that is opened again
 
-module _ (w : World) (effects : List Effect) (image : Stock) (held : HoldsImage w effects image) (v : World) (setting : v.setting ≡ w.setting) (contents : v.contents ≡ w.contents) (log : v.log ≡ held.changes) (bytes : image.log ≡ Some v.state.log) (tapes : (k : ℕ) → v.state.tape k ≡ image.tape k) where
-  same_archive : archive_with w held.changes image.tape ≡ archive_of v
+module _ (w : World) (contents : Contents) (effects : List Effect) (image : Stock) (held : HoldsImage w contents effects image) (v : World) (setting : v.setting ≡ w.setting) (is : v.contents ≡ contents) (log : v.log ≡ held.changes) (bytes : image.log ≡ Some v.state.log) (tapes : (k : ℕ) → v.state.tape k ≡ image.tape k) where
+  same_archive : archive_with w contents held.changes image.tape ≡ archive_of v
   same_archive =
       let x = sym setting in
       let tape : image.tape ≡ v.state.tape = λ i. λ k. sym (tapes k) i in
-      λ i. record { log = sym log i; slots = slots_of (x i).slots (x i).present (tape i); contents = sym contents i }
+      λ i. record { log = sym log i; slots = slots_of (x i).slots (x i).present (tape i); contents = sym is i }
 
   seen_again : Holds (seen_in v.state) (archive_of v) held.records
   seen_again =
@@ -72,7 +73,7 @@ module _ (present : ℕ → Bool) (tape : ℕ → List Record) (none : (k : ℕ)
   from_blank first zero = All-nil (λ (s : Slot). s.items ≡ [])
   from_blank first (suc n) = All-cons (λ (s : Slot). s.items ≡ []) (slot_of present tape first) (slots_from (suc first) n present tape) (ap items_of (none first)) (from_blank (suc first) n)
 
-  slots_blank : (n : ℕ) → AreBlank (slots_of n present tape)
+  pub slots_blank : (n : ℕ) → AreBlank (slots_of n present tape)
   unfolding slots_of
   slots_blank n = from_blank 0 n
 

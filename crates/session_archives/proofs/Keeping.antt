@@ -12,7 +12,7 @@ use Rattle.budb_fold.specs.Database.{after}
 use Rattle.archive_model.specs.Archives.{Archive, Refusal}
 use Rattle.archive_model.specs.Settled.{HoldsSettled}
 use Rattle.archive_model.specs.Turns.{StillHeld}
-use Rattle.script_journals.specs.Journals.{AreBytesOf, IsJournalAfter}
+use Rattle.dump_forms.specs.Journals.{AreBytesOf, IsJournalAfter}
 
 module _ (n : ℕ) (present : ℕ → Bool) (contents : ℕ → List ℕ → Result VolumeFields Refusal) where
   abbrev pub archive_at : List Change → (ℕ → List Record) → Archive
@@ -73,3 +73,13 @@ module _ (n : ℕ) (present : ℕ → Bool) (contents : ℕ → List ℕ → Res
   kept_after (suc count) (puts k r ∷ es) s log new (held, rest) = kept_after count es (comes (puts k r) s) log new rest
   kept_after (suc count) (settles k ∷ es) s log new (held, rest) = kept_after count es (comes (settles k) s) log new rest
   kept_after (suc count) (cuts k m ∷ es) s log new (held, (still, rest)) = kept_after count es (comes (cuts k m) s) log new rest
+
+  -- the journal of all of them
+  pub keeps_journal : (es : List Effect) (s : State) (log new : List Change) → Keeps log s es new → IsJournalAfter log es new
+  keeps_journal [] s log new keeps = keeps.1
+  keeps_journal (commits bytes ∷ es) s log new (held, (changes, are, rest)) = (changes, are, keeps_journal es (comes (commits bytes) s) (log ++ changes) new rest)
+  keeps_journal (replaces bytes ∷ es) s log new (held, (changes, are, rest)) = (changes, are, keeps_journal es (comes (replaces bytes) s) changes new rest)
+  keeps_journal (tells text ∷ es) s log new (held, rest) = keeps_journal es (comes (tells text) s) log new rest
+  keeps_journal (puts k r ∷ es) s log new (held, rest) = keeps_journal es (comes (puts k r) s) log new rest
+  keeps_journal (settles k ∷ es) s log new (held, rest) = keeps_journal es (comes (settles k) s) log new rest
+  keeps_journal (cuts k count ∷ es) s log new (held, (still, rest)) = keeps_journal es (comes (cuts k count) s) log new rest

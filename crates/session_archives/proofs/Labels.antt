@@ -143,7 +143,7 @@ permanent_form : (old : Option LabelFields) → IfSome old FitsLabel → IsMaybe
 permanent_form None fits = inr refl
 permanent_form (Some a) fits = fits.permanent
 
-new_fits : (old : Option LabelFields) (name pname : Option (List ℕ)) → IfSome old FitsLabel → IfSome name IsTapeName → IfSome pname IsTapeName → FitsLabel (new_label old name pname)
+pub new_fits : (old : Option LabelFields) (name pname : Option (List ℕ)) → IfSome old FitsLabel → IfSome name IsTapeName → IfSome pname IsTapeName → FitsLabel (new_label old name pname)
 new_fits old name pname fits is_name is_pname = record {
   initial = omega arith;
   tape = omega arith;

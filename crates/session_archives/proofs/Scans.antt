@@ -39,7 +39,7 @@ use Rattle.session_archives.proofs.Kept.{TurnKeeps, Finds, finds_behind, said_ke
 
 -- ---- turns behind one another
 
-both_keep : (w : World) (s t : Turn) → TurnKeeps w s → TurnKeeps (before_reply w s) t → TurnKeeps w (then_turn s t)
+pub both_keep : (w : World) (s t : Turn) → TurnKeeps w s → TurnKeeps (before_reply w s) t → TurnKeeps w (then_turn s t)
 both_keep w s t first second = record {
   keeps = keeps_then w.setting.slots w.setting.present w.contents s.effects t.effects w.state w.log s.log t.log first.keeps
       (subst (λ (c : Contents). Keeps w.setting.slots w.setting.present c s.log (come s.effects w.state) t.effects t.log) first.contents second.keeps);
@@ -55,17 +55,17 @@ behind_keeps w t text keeps = record { keeps = keeps.keeps; settled = keeps.sett
 
 -- ---- a dump that lies whole on the plant's tapes, and has the form of a record
 
-record IsThere (w : World) (d : DumpRecordFields) : Type 0 where
-  parts : List Located
-  found : IsFound (slots_of w.setting.slots w.setting.present w.state.tape) parts d
-  form : IsDumpRecord d
+pub record IsThere (w : World) (d : DumpRecordFields) : Type 0 where
+  pub parts : List Located
+  pub found : IsFound (slots_of w.setting.slots w.setting.present w.state.tape) parts d
+  pub form : IsDumpRecord d
 
 -- a step keeps the archive, and the tapes stay
-record StepKeeps (w : World) (s : Step) : Type 0 where
-  turn : TurnKeeps w s.turn
-  tape : (come s.turn.effects w.state).tape ≡ w.state.tape
+pub record StepKeeps (w : World) (s : Step) : Type 0 where
+  pub turn : TurnKeeps w s.turn
+  pub tape : (come s.turn.effects w.state).tape ≡ w.state.tape
 
-says_keeps : (w : World) → Finds w → (full : Bool) (text : List ℕ) → StepKeeps w (says w full text)
+pub says_keeps : (w : World) → Finds w → (full : Bool) (text : List ℕ) → StepKeeps w (says w full text)
 says_keeps w finds full text = record { turn = said_keeps w finds text; tape = refl }
 
 either : (w : World) (b : Bool) (s t : Step) → (b ≡ true → StepKeeps w s) → (b ≡ false → StepKeeps w t) → StepKeeps w (if b then s else t)
@@ -81,17 +81,17 @@ fits_by false false false none whole z h b n = absurd (cc)
 fits_by false true below none whole z h b n = absurd (cc)
 fits_by true has below none whole z h b n = absurd (cc)
 
-record_fits : (id parent : ℕ) (has whole : Bool) → (nat_le id parent || ((parent == 0) && not whole)) ≡ false → has ≡ false → (not (id == 0) && not has && nat_lt parent id && (if parent == 0 then whole else true)) ≡ true
+pub record_fits : (id parent : ℕ) (has whole : Bool) → (nat_le id parent || ((parent == 0) && not whole)) ≡ false → has ≡ false → (not (id == 0) && not has && nat_lt parent id && (if parent == 0 then whole else true)) ≡ true
 record_fits id parent has whole right unlisted =
     let parts = or_parts (nat_le id parent) ((parent == 0) && not whole) right in
     let below : parent < id = leb-false id parent parts.0 in
     fits_by (id == 0) has (nat_lt parent id) (parent == 0) whole (ne_eqb id 0 (λ none. omega (arith, below, none))) unlisted (lt-ltb parent id below) parts.1
 
 module _ (w : World) (finds : Finds w) (d : DumpRecordFields) (there : IsThere w d) where
-  is_unlisted : has_dump (after w.log).listed d.id ≡ false → has_wrong_parent d ≡ false → IsUnlisted (after w.log).listed (slots_of w.setting.slots w.setting.present w.state.tape) d
+  pub is_unlisted : has_dump (after w.log).listed d.id ≡ false → has_wrong_parent d ≡ false → IsUnlisted (after w.log).listed (slots_of w.setting.slots w.setting.present w.state.tape) d
   is_unlisted new right = record { parts = there.parts; found = there.found; unlisted = new; above = leb-false d.id d.parent (or_parts (nat_le d.id d.parent) ((d.parent == 0) && not (list_all is_whole d.volumes)) right).0 }
 
-  recorded_keeps : has_dump (after w.log).listed d.id ≡ false → has_wrong_parent d ≡ false → StepKeeps w (record { turn = recorded w d; full = false })
+  pub recorded_keeps : has_dump (after w.log).listed d.id ≡ false → has_wrong_parent d ≡ false → StepKeeps w (record { turn = recorded w d; full = false })
   recorded_keeps new right =
       let changes = change.Found d ∷ [] in
       let form : AreChanges (change.Found d ∷ []) = All-cons IsChange (change.Found d) [] there.form (All-nil IsChange) in
@@ -107,7 +107,7 @@ module _ (w : World) (finds : Finds w) (d : DumpRecordFields) (there : IsThere w
         tape = refl;
       }
 
-  one_keeps : (full : Bool) → StepKeeps w (added_if w full d)
+  pub one_keeps : (full : Bool) → StepKeeps w (added_if w full d)
   one_keeps full =
       either w (has_dump (after w.log).listed d.id) _ _ (λ known. says_keeps w finds full _) (λ new.
       either w (has_wrong_parent d) _ _ (λ wrong. says_keeps w finds full _) (λ right.
@@ -115,14 +115,14 @@ module _ (w : World) (finds : Finds w) (d : DumpRecordFields) (there : IsThere w
       either w (nat_lt 268435456 (length_with w (change.Found d ∷ []))) _ _ (λ long. says_keeps w finds true _) (λ short. recorded_keeps new right))))
 
 -- the same dump behind a step, since the tapes stayed
-there_behind : (w : World) (s : Step) (d : DumpRecordFields) → StepKeeps w s → IsThere w d → IsThere (before_reply w s.turn) d
+pub there_behind : (w : World) (s : Step) (d : DumpRecordFields) → StepKeeps w s → IsThere w d → IsThere (before_reply w s.turn) d
 there_behind w s d step there = record {
   parts = there.parts;
   found = subst (λ (tape : ℕ → List Record). IsFound (slots_of w.setting.slots w.setting.present tape) there.parts d) (sym step.tape) there.found;
   form = there.form;
 }
 
-step_keeps : (w : World) (s : Step) (d : DumpRecordFields) → Finds w → StepKeeps w s → IsThere w d → StepKeeps w (with_dump w s d)
+pub step_keeps : (w : World) (s : Step) (d : DumpRecordFields) → Finds w → StepKeeps w s → IsThere w d → StepKeeps w (with_dump w s d)
 step_keeps w s d finds so_far there =
     let v = before_reply w s.turn in
     let next = added_if v s.full d in
@@ -145,7 +145,7 @@ dumps_keep w true ds finds all = adding_keeps w ds finds all
 dumps_keep w false ds finds all = said_keeps w finds _
 
 -- a turn behind one that is but a text
-behind_text : (w : World) (text : List ℕ) (t : Turn) → TurnKeeps w t → TurnKeeps (before_reply w (said w text)) t
+pub behind_text : (w : World) (text : List ℕ) (t : Turn) → TurnKeeps w t → TurnKeeps (before_reply w (said w text)) t
 behind_text w text t keeps = record { keeps = keeps.keeps; settled = keeps.settled; contents = keeps.contents }
 
 tapes_keep : (w : World) (dbadd : Bool) (tapes : List Sections) (found : Found) → Finds w → All (IsThere w) found.whole → TurnKeeps w (tapes_turn w dbadd tapes found)
@@ -176,7 +176,7 @@ some_there w finds (j ∷ slots) all zero s at = slot_there w.setting.present w.
 some_there w finds (j ∷ slots) all (suc k) s at = some_there w finds slots (All-tail (λ (k : ℕ). IsTrue (w.setting.present k)) j slots all) k s at
 
 module _ (w : World) (finds : Finds w) (slots : List ℕ) (here : All (λ k. IsTrue (w.setting.present k)) slots) where
-  all_there : (ds : List DumpRecordFields) → All (λ d. (parts : List Located) × IsChosen (map (slot_of w.setting.present w.state.tape) slots) parts d) ds → All IsDumpRecord ds → All (IsThere w) ds
+  pub all_there : (ds : List DumpRecordFields) → All (λ d. (parts : List Located) × IsChosen (map (slot_of w.setting.present w.state.tape) slots) parts d) ds → All IsDumpRecord ds → All (IsThere w) ds
   all_there [] each forms = All-nil (IsThere w)
   all_there (d ∷ ds) each forms =
       let chosen = All-head (λ d. (parts : List Located) × IsChosen (map (slot_of w.setting.present w.state.tape) slots) parts d) d ds each in

@@ -1,5 +1,5 @@
 -- The slots of a plant are those whose items its tapes' records say.
-use Rattle.std.proofs.Common.{◌≡◌, ℕ, zero, suc, ◌+◌, ◌<◌, Bool, Some, List, [], ◌∷◌, map, refl, ap, subst, ◌∙◌, arith}
+use Rattle.std.proofs.Common.{◌≡◌, ℕ, zero, suc, ◌+◌, ◌<◌, Bool, Some, List, [], ◌∷◌, map, refl, sym, ap, subst, ◌∙◌, arith}
 use Rattle.std.specs.Prelude.{slice_get}
 use Rattle.plant_core.specs.Records.{Record}
 use Rattle.tape_text.specs.Items.{Item, Read}
@@ -48,3 +48,19 @@ module _ (present : ℕ → Bool) (tape : ℕ → List Record) where
   pub slot_there : (n k : ℕ) → k < n → slice_get (slots_of n present tape) k ≡ Some (slot_of present tape k)
   unfolding slots_of
   slot_there n k below = (let place : 0 + k ≡ k = omega arith in from_there 0 n k below ∙ ap (λ (j : ℕ). Some (slot_of present tape j)) place)
+
+  from_told : (first n k : ℕ) (s : Slot) → slice_get (slots_from first n present tape) k ≡ Some s → (k < n) × (s ≡ slot_of present tape (first + k))
+  from_told first zero k s at = absurd (cc)
+  from_told first (suc n) zero s at =
+      let place : first ≡ first + 0 = omega arith in
+      let same : slot_of present tape first ≡ s = (let e : Some (slot_of present tape first) ≡ Some s = at in cc) in
+      (omega arith, sym same ∙ ap (slot_of present tape) place)
+  from_told first (suc n) (suc k) s at =
+      let rest = from_told (suc first) n k s at in
+      let place : suc first + k ≡ first + suc k = omega arith in
+      (omega (arith, rest.0), rest.1 ∙ ap (slot_of present tape) place)
+
+  -- and one that is among them is the plant's of its number
+  pub slot_told : (n k : ℕ) (s : Slot) → slice_get (slots_of n present tape) k ≡ Some s → (k < n) × (s ≡ slot_of present tape k)
+  unfolding slots_of
+  slot_told n k s at = (let rest = from_told 0 n k s at in let place : 0 + k ≡ k = omega arith in (rest.0, rest.1 ∙ ap (slot_of present tape) place))

@@ -19,7 +19,7 @@ use Rattle.budb_fold.specs.Database.{after}
 use Rattle.archive_model.specs.Holding.{is_label_frame, is_head_frame, is_so, holds_at, holds, place_of}
 use Rattle.archive_model.specs.Archives.{Refusal}
 use Rattle.archive_model.specs.Turns.{StillHeld}
-use Rattle.script_journals.specs.Journals.{IsJournalAfter}
+use Rattle.dump_forms.specs.Journals.{IsJournalAfter}
 use Rattle.session_archives.proofs.Keeping.{Keeps}
 
 -- ---- what is held stays held behind a put

@@ -1,4 +1,4 @@
--- A command's turn keeps the archive.
+-- The turn of a command that is no dump keeps the archive.
 use Rattle.std.proofs.Common.{◌≡◌, inl, inr, ℕ, List, [], ◌++◌, length, refl, sym, ap, subst}
 use Rattle.std.specs.Prelude.{nat_lt, Result, Ok, Err}
 use Rattle.plant_core.specs.Effects.{commits, comes}
@@ -13,18 +13,18 @@ use Rattle.backup_words.specs.declared.command.Command.{Command}
 use Rattle.backup_words.specs.declared.command.Command.TheVariants.{Labeltape, Readlabel, Scantape}
 use Rattle.backup_session.specs.declared.verdict.Verdict.{Verdict}
 use Rattle.backup_session.specs.declared.verdict.Verdict.TheVariants.{Refuses, Makes, Shortens, Shows}
-use Rattle.backup_session.specs.Worlds.{World, Turn, archive_of, at_moment}
+use Rattle.backup_session.specs.Worlds.{World}
 use Rattle.backup_session.specs.Turns.{length_with}
 use Rattle.backup_session.specs.Verdicts.{verdict}
 use Rattle.tape_config.specs.declared.port.PortFields.{PortFields}
 use Rattle.backup_session.specs.Bounded.{HasTapes}
 use Rattle.backup_session.specs.Scanning.{port_of}
 use Rattle.backup_session.specs.Tapes.{slot_of, read_turn, tape_turn}
-use Rattle.backup_session.specs.Cells.{CellAnswer, cell_answer}
-use Rattle.backup_session.specs.Asks.{asks_cell, asks_archive, asks_tape, is_built}
+use Rattle.backup_session.specs.Cells.{CellAnswer}
+use Rattle.backup_session.specs.Asks.{asks_tape}
 use Rattle.restore_commands.specs.Answers.{RestoreAnswer}
-use Rattle.backup_session.specs.Restores.{restore_answer, restored}
-use Rattle.backup_session.specs.Machine.{committed, replaced, carried, on_cell, on_plant, done, turn}
+use Rattle.backup_session.specs.Restores.{restored}
+use Rattle.backup_session.specs.Machine.{committed, replaced, carried, on_cell, on_plant}
 use Rattle.backup_session.proofs.Settling.{settled_commit, settled_replace}
 use Rattle.command_forms.specs.Forms.{HasForms}
 use Rattle.script_journals.proofs.Following.{own_bytes}
@@ -81,14 +81,14 @@ module _ (w : World) (finds : Finds w) where
   read_keeps (Err text) = said_keeps w finds text
   read_keeps (Ok slot) = said_keeps w finds _
 
-  cell_keeps : (answer : CellAnswer) → TurnKeeps w (on_cell w answer)
+  pub cell_keeps : (answer : CellAnswer) → TurnKeeps w (on_cell w answer)
   cell_keeps answer = record { keeps = (finds.holds, refl); settled = finds.settled; contents = refl }
 
-  restore_keeps : (answer : RestoreAnswer) → TurnKeeps w (restored w answer)
+  pub restore_keeps : (answer : RestoreAnswer) → TurnKeeps w (restored w answer)
   restore_keeps answer = record { keeps = (finds.holds, refl); settled = finds.settled; contents = refl }
 
 -- the dumps that a scan finds have records of the journal's form
-forms_found : (w : World) → HasTapes w → (port : Result PortFields (List ℕ)) → HaveForms w port
+pub forms_found : (w : World) → HasTapes w → (port : Result PortFields (List ℕ)) → HaveForms w port
 forms_found w has (Err text) = tt
 forms_found w has (Ok port) = found_forms w has port
 
@@ -102,24 +102,7 @@ module _ (reads : Reads) (assembles : Assembles) (same : MakesSame) (w : World) 
       scan_keeps assembles w dbadd port finds (forms_found w has port)
   tape_keeps command form = said_keeps w finds []
 
-  plant_keeps : (command : Command) → HasForms command → TurnKeeps w (on_plant w command)
+  pub plant_keeps : (command : Command) → HasForms command → TurnKeeps w (on_plant w command)
   plant_keeps command form =
       picked w (asks_tape command) _ _ (tape_keeps command form)
       (carried_keeps w finds same (verdict (after w.log) command) (verdict_form (after w.log) (forms_after w.log (log_form w finds)).listed command form) (verdict_mild (after w.log) command))
-
-  done_keeps : (command : Command) → HasForms command → TurnKeeps w (done w command)
-  done_keeps command form =
-      picked w (asks_cell command) _ _ (cell_keeps w finds (cell_answer w.cell w.time command))
-      (picked w (asks_archive command) _ _ (restore_keeps w finds (restore_answer (archive_of w) (after w.log).sets w.cell w.time command)) (plant_keeps command form))
-
--- a turn at another moment of the same world
-moved : (w : World) (now : ℕ) (t : Turn) → TurnKeeps (at_moment w now) t → TurnKeeps w t
-moved w now t keeps = record { keeps = keeps.keeps; settled = keeps.settled; contents = keeps.contents }
-
-pub finds_later : (w : World) (now : ℕ) → Finds w → Finds (at_moment w now)
-finds_later w now finds = record { holds = finds.holds; settled = finds.settled; within = finds.within }
-
-pub turn_keeps : (reads : Reads) (assembles : Assembles) (same : MakesSame) (w : World) (now : ℕ) (command : Command) → HasTapes w → Finds w → HasForms command → TurnKeeps w (turn w now command)
-unfolding turn
-turn_keeps reads assembles same w now command has finds form =
-    picked w (is_built command) _ _ (moved w now (done (at_moment w now) command) (done_keeps reads assembles same (at_moment w now) (record { slots = has.slots; records = has.records }) (finds_later w now finds) command form)) (said_keeps w finds _)

@@ -1,33 +1,48 @@
 //! Laws of commands, of scripts and of what a crash leaves, each the contract of a function without a body of its own.
 
-ghost use Rattle.std.specs.Prelude.{◌≡◌, ◌<◌, ℕ, List as AnyList, [], ◌∷◌, ◌++◌, take, Some, IsTrue};
-ghost use Rattle.plant_core.specs.Crashes.{seen_in, IsSettled};
-ghost use Rattle.plant_core.specs.Effects.{Effect, tells, Joint};
+ghost use Rattle.std.specs.Prelude.{◌≡◌, ◌<◌, ◌≤◌, ℕ, List as AnyList, [], ◌∷◌, ◌++◌, take, Some, Ok, IsTrue};
+ghost use Rattle.bk_text.specs.Alphabets.{IsHost};
+ghost use Rattle.byte_formats.specs.Forms.{IsFour, IsMaybe};
+ghost use Rattle.vnode_model.specs.declared.volumes.VolumeFields.{VolumeFields};
+ghost use Rattle.cell_core.specs.Fairness.{Fair, NoneIsMadeAfter, NoSourceHasBackupName};
+ghost use Rattle.cell_forms.specs.Forms.{IsCellForm};
+ghost use Rattle.dump_forms.specs.Forms.{IsVolumeForm};
+ghost use Rattle.tape_config.specs.declared.port.PortFields.{PortFields};
+ghost use Rattle.tape_config.specs.Configs.{port_in, name_or_nothing};
+ghost use Rattle.plant_core.specs.Crashes.{seen_in, IsSettled, LeftIn};
+ghost use Rattle.plant_core.specs.Effects.{Effect, tells, come, Joint};
 ghost use Rattle.plant_core.specs.Stock.{Stock, IsNothing};
 ghost use Rattle.budb_changes.specs.declared.records.DumpRecordFields.{DumpRecordFields};
 ghost use Rattle.archive_model.specs.Archives.{Holds};
 ghost use Rattle.backup_words.specs.declared.command.Command.{Command};
-ghost use Rattle.backup_session.specs.Worlds.{World, archive_of, after_turn};
+ghost use Rattle.backup_session.specs.Worlds.{World, Contents, archive_of, after_turn};
 ghost use Rattle.backup_session.specs.Bounded.{HasTapes};
 ghost use Rattle.backup_session.specs.Machine.{turn};
 ghost use Rattle.backup_script.specs.Scripts.{script};
 ghost use Rattle.backup_script.specs.Held.{IsHeldThroughout};
 ghost use Rattle.command_forms.specs.Forms.{HasForms};
-ghost use Rattle.session_archives.specs.Held.{HoldsWorld, HoldsOnTheWay, EachKeepsListed, HoldsImage};
+ghost use Rattle.command_forms.specs.NewNames.{NamesApart};
+ghost use Rattle.script_journals.specs.Worlds.{IsWorldForm};
+ghost use Rattle.script_journals.specs.Dumping.{IsFormedFor};
+ghost use Rattle.session_archives.specs.Held.{HoldsWorld, HoldsAfter, HoldsOnTheWay, contents_on, EachKeepsListed, HoldsImage};
+ghost use Rattle.session_archives.specs.Ready.{IsReady, RestoresApart, RestoresApartThroughout, IsReadyForCommand, IsReadyFor};
 
 use bk_text::form_tests;
 use budb_fold::checkpoint_makes_the_same_database;
+use dump_archives::{a_dump_keeps_the_archive, what_a_dump_asks_is_so_behind_it};
+use dump_commands::{what_a_dump_commits_has_bytes, what_a_dump_leaves_has_forms};
 use tape_answers::{
     a_block_is_read, a_tape_is_read, the_slots_are_scanned, the_tapes_are_assembled,
 };
 use tape_frames::one_frame;
 
 /// A command whose fields have their forms keeps the archive that the plant holds: behind it, with its reply told, and behind each of its
-/// effects on the way. None of them takes a tape from a dump that is listed behind it.
+/// effects on the way, already with what the dumps have behind it. None of them takes a tape from a dump that is listed behind it. A dump finds
+/// a world that is ready; of other commands nothing is asked.
 pub fn commands_keep_the_archive()
-    ensures behind { (w : World) (now : ℕ) (command : Command) → HasForms command → HoldsWorld w → HoldsWorld (after_turn w (turn w now command)) }
-    ensures on_the_way { (w : World) (now : ℕ) (command : Command) → HasForms command → HoldsWorld w → let t = turn w now command in HoldsOnTheWay w (t.effects ++ tells t.reply ∷ []) }
-    ensures listed { (w : World) (now : ℕ) (command : Command) → HasForms command → HoldsWorld w → let t = turn w now command in EachKeepsListed w (t.effects ++ tells t.reply ∷ []) }
+    ensures behind { (w : World) (now : ℕ) (command : Command) → HasForms command → HoldsWorld w → IsReadyForCommand w command → HoldsWorld (after_turn w (turn w now command)) }
+    ensures on_the_way { (w : World) (now : ℕ) (command : Command) → HasForms command → HoldsWorld w → IsReadyForCommand w command → let t = turn w now command in HoldsOnTheWay w (λ count. t.contents) (t.effects ++ tells t.reply ∷ []) }
+    ensures listed { (w : World) (now : ℕ) (command : Command) → HasForms command → HoldsWorld w → IsReadyForCommand w command → let t = turn w now command in EachKeepsListed w (t.effects ++ tells t.reply ∷ []) }
 {
     form_tests();
     one_frame();
@@ -36,15 +51,22 @@ pub fn commands_keep_the_archive()
     checkpoint_makes_the_same_database();
     the_slots_are_scanned();
     the_tapes_are_assembled();
+    what_a_dump_commits_has_bytes();
+    what_a_dump_leaves_has_forms();
+    a_dump_keeps_the_archive();
+    what_a_dump_asks_is_so_behind_it();
 }
 
-/// A script keeps the archive that the plant holds at its start: behind all of its lines, and behind each effect on the way, none of which
-/// takes a tape from a dump that is listed behind it. So each of its commands that asks the archive finds it.
+/// A script keeps the archive that the plant holds at its start: behind all of its lines, with what the dumps have then, and behind each effect
+/// on the way, with what they have behind its line. None of them takes a tape from a dump that is listed behind it. So each of its commands that
+/// asks the archive finds it. A script with a dump finds a world that is ready, and restores no volume under a name that ends in `.backup`; of
+/// other scripts nothing is asked.
 pub fn scripts_keep_the_archive()
-    ensures behind { (w : World) (moments : AnyList ℕ) (lines : AnyList (AnyList ℕ)) → HoldsWorld w → HoldsWorld (script w moments lines).world }
-    ensures on_the_way { (w : World) (moments : AnyList ℕ) (lines : AnyList (AnyList ℕ)) → HoldsWorld w → HoldsOnTheWay w (script w moments lines).effects }
-    ensures listed { (w : World) (moments : AnyList ℕ) (lines : AnyList (AnyList ℕ)) → HoldsWorld w → EachKeepsListed w (script w moments lines).effects }
-    ensures throughout { (w : World) (moments : AnyList ℕ) (lines : AnyList (AnyList ℕ)) → HoldsWorld w → IsHeldThroughout w moments lines }
+    ensures behind { (w : World) (moments : AnyList ℕ) (lines : AnyList (AnyList ℕ)) → HoldsWorld w → IsReadyFor w moments lines → HoldsWorld (script w moments lines).world }
+    ensures on_the_way { (w : World) (moments : AnyList ℕ) (lines : AnyList (AnyList ℕ)) → HoldsWorld w → IsReadyFor w moments lines → HoldsOnTheWay w (contents_on w moments lines) (script w moments lines).effects }
+    ensures whole { (w : World) (moments : AnyList ℕ) (lines : AnyList (AnyList ℕ)) → HoldsWorld w → IsReadyFor w moments lines → HoldsAfter w (script w moments lines).world.contents (script w moments lines).effects }
+    ensures listed { (w : World) (moments : AnyList ℕ) (lines : AnyList (AnyList ℕ)) → HoldsWorld w → IsReadyFor w moments lines → EachKeepsListed w (script w moments lines).effects }
+    ensures throughout { (w : World) (moments : AnyList ℕ) (lines : AnyList (AnyList ℕ)) → HoldsWorld w → IsReadyFor w moments lines → IsHeldThroughout w moments lines }
 {
     form_tests();
     one_frame();
@@ -53,12 +75,17 @@ pub fn scripts_keep_the_archive()
     checkpoint_makes_the_same_database();
     the_slots_are_scanned();
     the_tapes_are_assembled();
+    what_a_dump_commits_has_bytes();
+    what_a_dump_leaves_has_forms();
+    a_dump_keeps_the_archive();
+    what_a_dump_asks_is_so_behind_it();
 }
 
-/// What a crash leaves behind the first of effects that keep the archive holds the archive of their changes and of the tapes that are left,
-/// with what the dumps had; each listed dump is held where it was.
+/// What a crash leaves behind effects holds the archive of their changes and of the tapes that are left, with what the dumps have behind these
+/// effects; each listed dump is held where it was. So it is behind the first of effects that keep the archive.
 pub fn images_hold_the_archive()
-    ensures { (w : World) (effects : AnyList Effect) (old image : Stock) → HoldsOnTheWay w effects → (joint : Joint w.state effects old image) → HoldsImage w (take joint.count effects) image }
+    ensures behind { (w : World) (contents : Contents) (effects : AnyList Effect) (image : Stock) → HoldsAfter w contents effects → LeftIn (come effects w.state) image → HoldsImage w contents effects image }
+    ensures on_the_way { (w : World) (contents : ℕ → Contents) (effects : AnyList Effect) (old image : Stock) → HoldsOnTheWay w contents effects → (joint : Joint w.state effects old image) → HoldsImage w (contents joint.count) (take joint.count effects) image }
 {
     a_tape_is_read();
 }
@@ -66,7 +93,7 @@ pub fn images_hold_the_archive()
 /// An image that holds the archive is opened to a world that holds it: one of the same slots and contents, of the changes of the image's
 /// journal and of its tapes. So a session goes on from there as if it had never been stopped.
 pub fn images_open_to_their_archive()
-    ensures { (w : World) (effects : AnyList Effect) (image : Stock) → HoldsWorld w → (held : HoldsImage w effects image) → (v : World) → v.setting ≡ w.setting → v.contents ≡ w.contents → v.log ≡ held.changes
+    ensures { (w : World) (contents : Contents) (effects : AnyList Effect) (image : Stock) → HoldsWorld w → (held : HoldsImage w contents effects image) → (v : World) → v.setting ≡ w.setting → v.contents ≡ contents → v.log ≡ held.changes
         → image.log ≡ Some v.state.log → ((k : ℕ) → v.state.tape k ≡ image.tape k) → IsSettled v.state → HasTapes v → HoldsWorld v }
 {}
 
@@ -78,4 +105,53 @@ pub fn worlds_at_rest_hold()
 /// Blank tapes under an empty journal hold the archive without dumps, whatever its contents are.
 pub fn blank_worlds_hold_no_dump()
     ensures { (w : World) → w.log ≡ [] → IsNothing (seen_in w.state) → IsSettled w.state → ((k : ℕ) → IsTrue (w.setting.present k) → k < w.setting.slots) → HasTapes w → HoldsWorld w }
+{}
+
+/// Each command leaves a world ready that is ready for dumps, where its fields have their forms and it makes no read/write volume whose name
+/// ends in `.backup`.
+pub fn commands_leave_a_ready_world_ready()
+    ensures { (w : World) (now : ℕ) (command : Command) → HasForms command → NamesApart command → RestoresApart w command → HoldsWorld w → IsReady w → IsReady (after_turn w (turn w now command)) }
+{
+    form_tests();
+    one_frame();
+    a_block_is_read();
+    a_tape_is_read();
+    checkpoint_makes_the_same_database();
+    the_slots_are_scanned();
+    the_tapes_are_assembled();
+    what_a_dump_commits_has_bytes();
+    what_a_dump_leaves_has_forms();
+    a_dump_keeps_the_archive();
+    what_a_dump_asks_is_so_behind_it();
+}
+
+/// So does a script, none of whose lines restores a volume under such a name.
+pub fn scripts_leave_a_ready_world_ready()
+    ensures { (w : World) (moments : AnyList ℕ) (lines : AnyList (AnyList ℕ)) → RestoresApartThroughout w moments lines → HoldsWorld w → IsReady w → IsReady (script w moments lines).world }
+{
+    form_tests();
+    one_frame();
+    a_block_is_read();
+    a_tape_is_read();
+    checkpoint_makes_the_same_database();
+    the_slots_are_scanned();
+    the_tapes_are_assembled();
+    what_a_dump_commits_has_bytes();
+    what_a_dump_leaves_has_forms();
+    a_dump_keeps_the_archive();
+    what_a_dump_asks_is_so_behind_it();
+}
+
+/// A world that is held and ready for dumps has its forms. So the journal of each script that begins in it is one of changes.
+pub fn ready_worlds_have_forms()
+    ensures world { (w : World) → HoldsWorld w → IsReady w → IsWorldForm w }
+    ensures lines { (w : World) (moments : AnyList ℕ) (lines : AnyList (AnyList ℕ)) → HoldsWorld w → IsReadyFor w moments lines → IsFormedFor w lines }
+{}
+
+/// Beside blank tapes under an empty journal a world is ready whose cell has its form and is in order by itself, at a time of four bytes, in a
+/// setting whose ports take no more than they may.
+pub fn blank_worlds_are_ready()
+    ensures { (w : World) → w.log ≡ [] → IsNothing (seen_in w.state) → IsCellForm w.cell → Fair w.cell [] w.time → NoneIsMadeAfter w.time w.cell → NoSourceHasBackupName w.cell → IsFour w.time
+        → ((id : ℕ) (name : AnyList ℕ) (volume : VolumeFields) → w.contents id name ≡ Ok volume → IsVolumeForm volume) → IsMaybe IsHost (name_or_nothing w.setting.config.cell)
+        → ((offset : ℕ) (port : PortFields) → port_in offset w.setting.config.entries ≡ Some port → port.capacity ≤ 4000000000) → IsReady w }
 {}

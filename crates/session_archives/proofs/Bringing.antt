@@ -1,0 +1,215 @@
+-- ARCHIVES THAT BRING NO DUMP: what stands behind an effect has no dump and no dump's head that wasn't there in front of it.
+use Rattle.std.proofs.Common.{◌≡◌, ◌⊎◌, ℕ, zero, suc, ◌≤◌, max, Bool, true, false, Some, None, List, [], ◌∷◌, ◌++◌, length, take, refl, sym, ap, subst, ◌∙◌, arith, inl, inr}
+use Rattle.std.specs.Prelude.{Result, Ok, Err, Contains, slice_get, unwrap_or, if◌then◌else◌}
+use Rattle.std.proofs.lemmas.Bool.{cases_Bool, eqb-true, eq-eqb}
+use Rattle.std.proofs.lemmas.List.Elements.{All-weaker, Contains-push_cases, Contains-append_left}
+use Rattle.volume_sets.specs.declared.sets.VolumeSet.{VolumeSet}
+use Rattle.volume_sets.specs.declared.sets.SetsFault.{SetsFault}
+use Rattle.dump_levels.specs.declared.levels.Level.{Level}
+use Rattle.dump_levels.specs.declared.levels.LevelFault.{LevelFault}
+use Rattle.dump_levels.specs.Trees.{after_add as after_add_level, after_set as after_set_level, after_remove as after_remove_level}
+use Rattle.volume_sets.specs.Testing.{is_pattern}
+use Rattle.volume_sets.specs.Sets.{after_add as after_add_set, after_remove as after_remove_set, after_add_entry, after_remove_entry}
+use Rattle.tape_frames.specs.declared.frame.Frame.TheVariants as frames
+use Rattle.tape_frames.specs.declared.dump_head.DumpHeadFields.{DumpHeadFields}
+use Rattle.budb_changes.specs.declared.records.DumpRecordFields.{DumpRecordFields}
+use Rattle.budb_changes.specs.declared.change.Change.{Change}
+use Rattle.budb_changes.specs.declared.change.Change.TheVariants.{AddSet, DelSet, AddEntry, DelEntry, AddLevel, SetExpiry, DelLevel, AddHost, DelHost, Begin, Take, Done1, Forget, Found1, Done, Found}
+use Rattle.budb_fold.specs.declared.database.Database.{Database}
+use Rattle.budb_fold.specs.Database.{is_dump, has_dump, has_port, fits_record, with_sets, with_levels, entry_of, after_change, after_from, after, blank}
+use Rattle.budb_fold.proofs.Folds.{fold_more}
+use Rattle.tape_text.specs.Items.{Item, Says}
+use Rattle.tape_text.specs.Texts.{Part, Tape, tape_items}
+use Rattle.tape_text.specs.Parts.{FoundPart, parts_at, parts_of}
+use Rattle.tape_scan.specs.Slots.{Slot, Located, IsClosedAt, IsFound}
+use Rattle.archive_model.specs.Archives.{Archive, listed_of, IsDump, IsUnlisted, IsKept}
+use Rattle.archive_model.specs.Turns.{with_log}
+use Rattle.archive_model.proofs.CutLaws.{any_is, any_from}
+use Rattle.dump_laws.specs.Beginning.{EndOnLastTapes}
+
+-- A dump's head stands on some tape of these slots.
+abbrev pub StandsSomewhere : List Slot → DumpHeadFields → Type 0
+StandsSomewhere slots h = (k : ℕ) × (s : Slot) × (n : ℕ) × (slice_get slots k ≡ Some s) × (slice_get s.items n ≡ Some (Says (frames.DumpHead h)))
+
+-- Each dump of the second is one of the first, and so is each head; the greatest id that was begun or recorded is no less; and where listed
+-- dumps end on their last tapes they still do.
+pub record BringsNone (a b : Archive) : Type 0 where
+  pub dumps : (d : DumpRecordFields) → IsDump (listed_of b) b.slots d → IsDump (listed_of a) a.slots d
+  pub heads : (h : DumpHeadFields) → StandsSomewhere b.slots h → StandsSomewhere a.slots h
+  pub greatest : (after a.log).greatest ≤ (after b.log).greatest
+  pub ends : EndOnLastTapes (listed_of a) a.slots → EndOnLastTapes (listed_of b) b.slots
+
+pub brings_itself : (a : Archive) → BringsNone a a
+brings_itself a = record { dumps = λ d is. is; heads = λ h is. is; greatest = omega arith; ends = λ ends. ends }
+
+pub brings_then : (a b c : Archive) → BringsNone a b → BringsNone b c → BringsNone a c
+brings_then a b c first second = record {
+  dumps = λ d is. first.dumps d (second.dumps d is);
+  heads = λ h is. first.heads h (second.heads h is);
+  greatest = omega (arith, first.greatest, second.greatest);
+  ends = λ ends. second.ends (first.ends ends);
+}
+
+-- ---- ids that were begun or recorded
+
+sets_grow : (db : Database) (r : Result (List VolumeSet) SetsFault) → db.greatest ≤ (unwrap_or (with_sets db r) db).greatest
+sets_grow db (Ok sets) = omega arith
+sets_grow db (Err fault) = omega arith
+
+levels_grow : (db : Database) (r : Result (List Level) LevelFault) → db.greatest ≤ (unwrap_or (with_levels db r) db).greatest
+levels_grow db (Ok levels) = omega arith
+levels_grow db (Err fault) = omega arith
+
+if_so : (db other : Database) (b : Bool) → db.greatest ≤ other.greatest → db.greatest ≤ (unwrap_or (if b then Some other else None) db).greatest
+if_so db other true more = more
+if_so db other false more = omega arith
+
+unless_so : (db other : Database) (b : Bool) → db.greatest ≤ other.greatest → db.greatest ≤ (unwrap_or (if b then None else Some other) db).greatest
+unless_so db other true more = omega arith
+unless_so db other false more = more
+
+entry_grows : (db : Database) (b : Bool) (r : Result (List VolumeSet) SetsFault) → db.greatest ≤ (unwrap_or (if b then with_sets db r else None) db).greatest
+entry_grows db true r = sets_grow db r
+entry_grows db false r = omega arith
+
+record_grows : (d : DumpRecordFields) (db : Database) → db.greatest ≤ (after_change (Found d) db).greatest
+record_grows d db = if_so db (record db { greatest = max db.greatest d.id; listed = db.listed ++ d ∷ [] }) (fits_record d db.listed) (omega arith)
+
+change_grows : (c : Change) (db : Database) → db.greatest ≤ (after_change c db).greatest
+change_grows (AddSet set) db = sets_grow db (after_add_set set db.sets)
+change_grows (DelSet set) db = sets_grow db (after_remove_set set db.sets)
+change_grows (AddEntry set server partition pattern) db = entry_grows db (is_pattern pattern) (after_add_entry set (entry_of server partition pattern) db.sets)
+change_grows (DelEntry set number) db = sets_grow db (after_remove_entry set number db.sets)
+change_grows (AddLevel level expiry) db = levels_grow db (after_add_level db.levels level expiry)
+change_grows (SetExpiry level expiry) db = levels_grow db (after_set_level db.levels level expiry)
+change_grows (DelLevel level) db = levels_grow db (after_remove_level db.levels level)
+change_grows (AddHost host port) db = unless_so db (record db { hosts = db.hosts ++ record { host = host; port = port } ∷ [] }) (has_port db.hosts port) (omega arith)
+change_grows (DelHost port) db = omega arith
+change_grows (Begin id) db = omega arith
+change_grows (Take initial) db = omega arith
+change_grows (Done1 dump) db = record_grows dump db
+change_grows (Forget id) db = omega arith
+change_grows (Found1 dump) db = record_grows dump db
+change_grows (Done dump) db = record_grows dump db
+change_grows (Found dump) db = record_grows dump db
+
+from_grows : (cs : List Change) (db : Database) → db.greatest ≤ (after_from cs db).greatest
+from_grows [] db = omega arith
+from_grows (c ∷ cs) db = omega (arith, change_grows c db, from_grows cs (after_change c db))
+
+pub log_grows : (log cs : List Change) → (after log).greatest ≤ (after (log ++ cs)).greatest
+log_grows log cs = subst (λ (db : Database). (after log).greatest ≤ db.greatest) (sym (fold_more log cs blank)) (from_grows cs (after log))
+
+-- ---- a log that lists no more dumps
+
+has_it : (listed : List DumpRecordFields) (id : ℕ) (d : DumpRecordFields) → Contains listed d → d.id ≡ id → has_dump listed id ≡ true
+has_it listed id d there same = any_from (is_dump id) listed d there (eq-eqb d.id id same)
+
+of_id : (listed : List DumpRecordFields) (id : ℕ) → has_dump listed id ≡ true → (d : DumpRecordFields) × Contains listed d × (d.id ≡ id)
+of_id listed id has = (let d = any_is (is_dump id) listed has in (d.0, d.1, eqb-true d.0.id id d.2))
+
+-- one that is found whole and isn't listed was listed, or it was the same then
+found_before : (listed more : List DumpRecordFields) (slots : List Slot) (agree : (d e : DumpRecordFields) (parts : List Located) → Contains more d → IsFound slots parts e → e.id ≡ d.id → e ≡ d) (d : DumpRecordFields) → IsUnlisted listed slots d → IsDump more slots d
+found_before listed more slots agree d un = elim (cases_Bool (has_dump more d.id)) [
+  | inl has ↦ (let e = of_id more d.id has in inl (subst (Contains more) (sym (agree e.0 d un.parts e.1 un.found (sym e.2))) e.1))
+  | inr none ↦ inr (record { parts = un.parts; found = un.found; unlisted = none; above = un.above })
+]
+
+pub fewer_bring : (a : Archive) (records : List DumpRecordFields) (log : List Change) → IsKept (listed_of a) a.slots a.contents records → ((d : DumpRecordFields) → Contains (after log).listed d → Contains (listed_of a) d) → (after a.log).greatest ≤ (after log).greatest → BringsNone a (with_log a log)
+fewer_bring a records log kept fewer grown = record {
+  dumps = λ d is. elim is [
+    | inl listed ↦ inl (fewer d listed)
+    | inr un ↦ found_before (after log).listed (listed_of a) a.slots kept.agree d un
+  ];
+  heads = λ h is. is;
+  greatest = grown;
+  ends = λ ends d p k s there. ends d p k s (fewer d there);
+}
+
+-- ---- a dump that lay there, and is listed now
+
+pub listing_brings : (a : Archive) (log : List Change) (d : DumpRecordFields) → (after log).listed ≡ listed_of a ++ d ∷ [] → IsUnlisted (listed_of a) a.slots d → EndOnLastTapes (d ∷ []) a.slots → (after a.log).greatest ≤ (after log).greatest → BringsNone a (with_log a log)
+listing_brings a log d more un own grown = record {
+  dumps = λ e is. elim is [
+    | inl listed ↦ elim (Contains-push_cases (listed_of a) d e (subst (λ (l : List DumpRecordFields). Contains l e) more listed)) [
+      | inl old ↦ inl old
+      | inr same ↦ inr (subst (IsUnlisted (listed_of a) a.slots) same un)
+    ]
+    | inr lies ↦ inr (record { parts = lies.parts; found = lies.found; unlisted = still_unlisted e lies.unlisted; above = lies.above })
+  ];
+  heads = λ h is. is;
+  greatest = grown;
+  ends = λ ends e p k s there. elim (Contains-push_cases (listed_of a) d e (subst (λ (l : List DumpRecordFields). Contains l e) more there)) [
+    | inl old ↦ ends e p k s old
+    | inr same ↦ own e p k s (0, omega arith, same)
+  ];
+}
+  where
+    still_unlisted : (e : DumpRecordFields) → has_dump (after log).listed e.id ≡ false → has_dump (listed_of a) e.id ≡ false
+    still_unlisted e none = elim (cases_Bool (has_dump (listed_of a) e.id)) [
+      | inl has ↦
+          (let f = of_id (listed_of a) e.id has in
+          let there : Contains (after log).listed f.0 = subst (λ (l : List DumpRecordFields). Contains l f.0) (sym more) (Contains-append_left (listed_of a) (d ∷ []) f.0 f.1) in
+          let both : false ≡ true = sym none ∙ has_it (after log).listed e.id f.0 there f.2 in
+          absurd (cc))
+      | inr out ↦ out
+    ]
+
+-- ---- a tape with a label alone
+
+-- a label and a mark, or less: no dump's head stands there
+pub record IsBare (items : List Item) : Type 0 where
+  pub short : length items ≤ 2
+  pub no_head : (n : ℕ) (h : DumpHeadFields) → slice_get items n ≡ Some (Says (frames.DumpHead h)) → ⊥
+
+-- each slot says what it said, or it is bare
+abbrev pub SaysOrIsBare : List Slot → List Slot → Type 0
+SaysOrIsBare slots slots2 = (k : ℕ) (s : Slot) → slice_get slots2 k ≡ Some s → ((t : Slot) × (slice_get slots k ≡ Some t) × (t.items ≡ s.items)) ⊎ IsBare s.items
+
+no_part : (first marks : ℕ) (q : FoundPart) → Contains (parts_at first marks []) q → ⊥
+no_part first marks q there = absurd (omega (arith, there.1))
+
+tape_long : (t : Tape) (ps : List Part) → t.parts ≡ ps → (q : FoundPart) → Contains (parts_at 2 1 ps) q → 3 ≤ length (tape_items t)
+tape_long t [] is q there = absurd (no_part 2 1 q there)
+tape_long t (p ∷ ps) is q there = rw is (omega arith)
+
+bare_short : (items : List Item) (count : ℕ) (t : Tape) (q : FoundPart) → IsBare items → take count items ≡ tape_items t → Contains (parts_of t) q → ⊥
+bare_short items count t q bare front there =
+    let long : 3 ≤ length (tape_items t) = tape_long t t.parts refl q there in
+    let few : length (take count items) ≤ length items = takes count items in
+    omega (arith, bare.short, long, few, ap length front)
+  where
+    takes : (n : ℕ) (xs : List Item) → length (take n xs) ≤ length xs
+    takes zero xs = omega arith
+    takes (suc n) [] = omega arith
+    takes (suc n) (x ∷ xs) = omega (arith, takes n xs)
+
+pub bare_brings : (a : Archive) (slots : List Slot) → SaysOrIsBare a.slots slots → BringsNone a (record { log = a.log; slots = slots; contents = a.contents })
+bare_brings a slots says = record {
+  dumps = λ d is. elim is [
+    | inl listed ↦ inl listed
+    | inr un ↦ inr (record {
+      parts = un.parts;
+      found = record { closed = All-weaker (IsClosedAt slots) (IsClosedAt a.slots) closed un.parts un.found.closed; whole = un.found.whole; record_is = un.found.record_is };
+      unlisted = un.unlisted;
+      above = un.above;
+    })
+  ];
+  heads = λ h (k, s, n, at, is). elim (says k s at) [
+    | inl same ↦ (k, same.0, n, same.1, ap (λ (l : List Item). slice_get l n) same.2 ∙ is)
+    | inr bare ↦ absurd (bare.no_head n h is)
+  ];
+  greatest = omega arith;
+  ends = λ ends d p k s there place most at x. elim (says k s at) [
+    | inl same ↦
+        ends d p k same.0 there place most same.1
+        (record { tape = x.tape; is = x.is; front = ap (λ (l : List Item). take p.end l) same.2 ∙ x.front; found = x.found; there = x.there; place = x.place; heads = x.heads; frags = x.frags })
+    | inr bare ↦ absurd (bare_short s.items p.end x.tape x.found bare x.front x.there)
+  ];
+}
+  where
+    closed : (l : Located) → IsClosedAt slots l → IsClosedAt a.slots l
+    closed l c = elim (says l.slot c.here c.at) [
+      | inl same ↦ record { here = same.0; at = same.1; closed = record { tape = c.closed.tape; is = c.closed.is; there = c.closed.there; front = ap (λ (i : List Item). take l.found.end i) same.2 ∙ c.closed.front } }
+      | inr bare ↦ absurd (bare_short c.here.items l.found.end c.closed.tape l.found bare c.closed.front c.closed.there)
+    ]

@@ -1,0 +1,116 @@
+-- A dump's turn keeps the archive, with what the dump has from its first effect on, and leaves a ready world in order.
+use Rattle.std.proofs.Common.{List, [], refl}
+use Rattle.plant_core.specs.Effects.{come}
+use Rattle.budb_changes.specs.declared.records.DumpRecordFields.{DumpRecordFields}
+use Rattle.dump_forms.specs.Journals.{IsJournalAfter}
+use Rattle.dump_commands.specs.declared.command.DumpCommand.{DumpCommand}
+use Rattle.dump_commands.specs.Scenes.{Scene}
+use Rattle.dump_commands.specs.Forms.{IsSceneForm, IsCommandForm, AreShort, AreVolumes}
+use Rattle.dump_commands.specs.Answers.{Contents, dump_answer}
+use Rattle.dump_archives.specs.Asking.{AsksOfScene}
+use Rattle.dump_archives.specs.Keeping.{HoldsOnTheWay, EachKeepsListed, AsksBehind}
+use Rattle.backup_words.specs.declared.command.Command.{Command}
+use Rattle.backup_words.specs.declared.command.Command.TheVariants.{Dump}
+use Rattle.backup_session.specs.Bounded.{HasTapes}
+use Rattle.backup_session.specs.Worlds.{World, archive_of, last_cell, before_reply}
+use Rattle.backup_session.specs.Turns.{said}
+use Rattle.backup_session.specs.Dumps.{scene_of, asked_of, answered, dump_turn}
+use Rattle.command_forms.specs.Forms.{HasForms}
+use Rattle.script_journals.specs.Worlds.{IsWorldForm}
+use Rattle.script_journals.proofs.TurnForms.{scene_form}
+use Rattle.session_archives.specs.Ready.{IsInOrder, IsReady, IsReadyForCommand}
+use Rattle.session_archives.proofs.Kept.{Finds, said_keeps}
+use Rattle.session_archives.proofs.Leading.{LeadsTurn, leads_turn}
+use Rattle.session_archives.proofs.Orders.{fair_to_any}
+
+-- what is so of each dump: the laws of the crates below
+pub record DumpLaws : Type 0 where
+  pub bytes : (s : Scene) (a : DumpCommand) → IsSceneForm s → IsCommandForm a → IsJournalAfter s.log (dump_answer s a).effects (dump_answer s a).log
+  pub volumes : (s : Scene) (a : DumpCommand) (contents : Contents) → IsSceneForm s → AreVolumes contents → AreVolumes ((dump_answer s a).contents contents)
+  pub way : (s : Scene) (a : DumpCommand) (contents : Contents) (records : List DumpRecordFields) → IsCommandForm a → AsksOfScene s contents records → HoldsOnTheWay s (dump_answer s a) contents
+  pub listed : (s : Scene) (a : DumpCommand) (contents : Contents) (records : List DumpRecordFields) → IsCommandForm a → AsksOfScene s contents records → EachKeepsListed s (dump_answer s a).effects
+  pub behind : (s : Scene) (a : DumpCommand) (contents : Contents) (records : List DumpRecordFields) → IsCommandForm a → AsksOfScene s contents records → AsksBehind s (dump_answer s a) ((dump_answer s a).contents contents)
+
+-- ---- what a dump asks
+
+module _ (w : World) (has : HasTapes w) (finds : Finds w) (ready : IsReady w) where
+  -- a world that is held and ready has its forms
+  pub ready_form : IsWorldForm w
+  ready_form = record {
+    tapes = has;
+    log = finds.holds.1.seen.changes;
+    cell = ready.order.form;
+    contents = ready.order.volumes;
+    time = ready.order.four;
+    name = ready.name;
+    ports = ready.ports;
+  }
+
+  asks : AsksOfScene (scene_of w) w.contents finds.holds.0
+  asks = record {
+    form = scene_form w ready_form;
+    holds = finds.holds.1;
+    settled = finds.settled;
+    short = has.records;
+    cell = ready.order.form.list;
+    fair = ready.order.fair finds.holds.0 finds.holds.1.seen.kept.dumps;
+    made = ready.order.made;
+    named = ready.order.named;
+    heads = ready.order.heads;
+    ends = ready.order.ends;
+  }
+
+-- ---- what a dump makes
+
+module _ (laws : DumpLaws) (w : World) (has : HasTapes w) (finds : Finds w) (ready : IsReady w) (a : DumpCommand) (form : IsCommandForm a) where
+  behind : AsksBehind (scene_of w) (dump_answer (scene_of w) a) ((dump_answer (scene_of w) a).contents w.contents)
+  behind = laws.behind (scene_of w) a w.contents finds.holds.0 form (asks w has finds ready)
+
+  finds_dumped : Finds (before_reply w (answered w (dump_answer (scene_of w) a)))
+  finds_dumped = record { holds = (behind.records, behind.asks.holds); settled = behind.asks.settled; within = finds.within }
+
+  leads_dumped : LeadsTurn w (answered w (dump_answer (scene_of w) a))
+  leads_dumped = record {
+    way = λ count.
+        (let held = laws.way (scene_of w) a w.contents finds.holds.0 form (asks w has finds ready) count in
+        record { changes = held.changes; journal = held.journal; records = held.records; holds = held.holds });
+    listed = λ count e at.
+        (let keeps = laws.listed (scene_of w) a w.contents finds.holds.0 form (asks w has finds ready) count e at in
+        record { changes = keeps.changes; journal = keeps.journal; still = keeps.still });
+    journal = laws.bytes (scene_of w) a (scene_form w (ready_form w has finds ready)) form;
+    state = refl;
+    setting = refl;
+    finds = finds_dumped;
+  }
+
+  short_dumped : AreShort (come (dump_answer (scene_of w) a).effects w.state).tape
+  short_dumped = behind.asks.short
+
+  order_dumped : let t = answered w (dump_answer (scene_of w) a) in IsInOrder w.cell t.time (archive_of (before_reply w t))
+  order_dumped =
+      let then = archive_of (before_reply w (answered w (dump_answer (scene_of w) a))) in
+      record {
+        form = ready.order.form;
+        fair = λ records are. fair_to_any w.cell (dump_answer (scene_of w) a).time then behind.records records behind.asks.holds.seen.kept.dumps are.sound behind.asks.fair;
+        made = behind.asks.made;
+        named = behind.asks.named;
+        four = behind.asks.form.time;
+        heads = behind.asks.heads;
+        ends = behind.asks.ends;
+        volumes = laws.volumes (scene_of w) a w.contents (scene_form w (ready_form w has finds ready)) ready.order.volumes;
+      }
+
+-- ---- as a command says it
+
+module _ (laws : DumpLaws) (w : World) (has : HasTapes w) (finds : Finds w) where
+  pub dump_leads : (command : Command) → HasForms command → IsReadyForCommand w command → LeadsTurn w (dump_turn w command)
+  dump_leads (Dump volumeset dump portoffset append n) form ready = leads_dumped laws w has finds (ready refl) (asked_of volumeset dump portoffset append n) (record { set = form.0; level = form.1 })
+  dump_leads command form ready = leads_turn w (said w []) finds (said_keeps w finds [])
+
+  pub dump_short : (command : Command) → HasForms command → IsReadyForCommand w command → AreShort (come (dump_turn w command).effects w.state).tape
+  dump_short (Dump volumeset dump portoffset append n) form ready = short_dumped laws w has finds (ready refl) (asked_of volumeset dump portoffset append n) (record { set = form.0; level = form.1 })
+  dump_short command form ready = has.records
+
+  pub dump_order : (command : Command) → HasForms command → IsReady w → let t = dump_turn w command in IsInOrder (last_cell w.cell t.cells) t.time (archive_of (before_reply w t))
+  dump_order (Dump volumeset dump portoffset append n) form ready = order_dumped laws w has finds ready (asked_of volumeset dump portoffset append n) (record { set = form.0; level = form.1 })
+  dump_order command form ready = ready.order
