@@ -1,10 +1,10 @@
 -- What a run over a plant and a cell says of its course.
-use Rattle.std.proofs.Common.{◌≡◌, ◌≢◌, inl, inr, ℕ, ◌+◌, ◌<◌, ◌≤◌, Bool, true, false, List, [], ◌∷◌, ◌++◌, length, take, drop, append_assoc, Option, Some, None, refl, sym, ◌∙◌, ap, subst, arith, length-append, Result, Ok, Err, IfOk}
+use Rattle.std.proofs.Common.{◌≡◌, inl, inr, ℕ, ◌+◌, ◌<◌, ◌≤◌, Bool, true, false, List, [], ◌∷◌, ◌++◌, length, take, drop, append_assoc, Option, Some, None, refl, sym, ◌∙◌, ap, subst, arith, length-append, Result, Ok, Err, IfOk}
 use Rattle.std.specs.Str.Lines.{lines}
 use Rattle.std.proofs.lemmas.Bool.{cases_lt}
 use Rattle.std.proofs.lemmas.List.{take-append-le, take-append-drop, take_at}
 use Rattle.bk_text.specs.Places.{FailsAt}
-use Rattle.crash_moments.specs.Moments.{Moments, Stepped, LeavesSince, Rose, HasCauseAt}
+use Rattle.crash_moments.specs.Moments.{Moments, LeavesSince}
 use Rattle.media_core.specs.Media.{Image}
 use Rattle.plant_core.specs.declared.plant.Plant.{Ghosts as Plant}
 use Rattle.plant_core.specs.Crashes.{State, Alike, settled_part}
@@ -18,7 +18,6 @@ use Rattle.plant_media.specs.Opening.{HasCauseIn}
 use Rattle.plant_media.specs.declared.open.OpenFault.{OpenFault}
 use Rattle.plant_media.specs.declared.open.OpenFault.TheVariants as opening
 use Rattle.cell_core.specs.declared.cell.Cell.{Ghosts as Cell}
-use Rattle.cell_core.specs.declared.stored.Stored.{Stored}
 use Rattle.tape_config.specs.Configs.{Settings, config_of}
 use Rattle.budb_changes.specs.declared.change.Change.{Change}
 use Rattle.budb_changes.specs.Bytes.{encoded}
@@ -29,27 +28,29 @@ use Rattle.backup_script.specs.declared.running.RunStop.{RunStop}
 use Rattle.backup_script.specs.declared.running.RunStop.TheVariants as stop
 use Rattle.backup_script.specs.Lines.{ended, has_quit}
 use Rattle.backup_script.specs.Scripts.{Outcome, script, Stage, IsStage}
-use Rattle.backup_script.specs.Running.{Took, TookTooMany, Left}
-use Rattle.backup_script.specs.Ended.{Ends, EndsShort, TakesBytes, IsRefusedLog}
+use Rattle.backup_script.specs.Running.{TookTooMany, Left}
+use Rattle.backup_script.specs.Ended.{Ends, EndsShort, IsRefusedLog}
 use Rattle.backup_script.proofs.StageLaws.{stage_whole}
-use Rattle.script_journals.specs.Journals.{IsJournalAfter}
+use Rattle.dump_forms.specs.Journals.{IsJournalAfter}
 use Rattle.script_journals.proofs.Following.{journal_front, journal_form, journal_bytes}
-use Rattle.script_journals.proofs.Scripts.{script_follows}
 use Rattle.backup_top.specs.declared.status.Status.{Status}
 use Rattle.backup_top.specs.declared.status.Status.TheVariants.{Done, SomeRefused, Usage, ReadFault, MediaFault, CellFault, Memory, BadConfig, BadLog, OutputFault, ScriptTooLong}
 use Rattle.backup_top.specs.Answers.{run_status, opening_status}
-use Rattle.backup_top.specs.Courses.{Course, IsWithin, IsComplete, outcome, Leaves, LeavesShort, Runs, TakesBy, Journal, IsBadLog, RefusesJournal, IsRefusedAt, Reopens, LeftImage, LeavesImages, EndsAt, HasCauseAs}
-use Rattle.session_archives.specs.Held.{HoldsWorld, HoldsOnTheWay}
+use Rattle.backup_top.specs.Courses.{Course, FindsReady, FindsFormed, contents_in, IsWithin, IsComplete, outcome, Leaves, LeavesShort, Runs, TakesBy, Journal, IsBadLog, RefusesJournal, IsRefusedAt, Reopens, LeftImage, LeavesImages, EndsAt, HasCauseAs}
+use Rattle.script_journals.specs.Dumping.{IsFormedFor}
+use Rattle.session_archives.specs.Held.{HoldsWorld, HoldsAfter}
+use Rattle.session_archives.specs.Ready.{IsReady, RestoresApartThroughout, IsReadyFor}
 use Rattle.backup_top.proofs.Lowering.{alike_same, log_come, log_whole}
-use Rattle.backup_top.proofs.ArchiveLaws.{ScriptsKeep, ImagesHold, front_way, keeps_media}
+use Rattle.backup_top.proofs.ArchiveLaws.{ScriptsKeep, ImagesHold, keeps_media}
 
 -- ---- what was done
 
 -- the effects were done, and the media were handed back
-pub leaves_media : (c : Course) (s : Outcome) (first last : State) → c.world.state ≡ first → c.world.state.log_settled ≡ length c.world.state.log → c.world.state.told ≡ c.before.told → c.after ≡ settled_part last
+pub leaves_media : (c : Course) (these : List (List ℕ)) (s : Outcome) (first last : State) → c.world.state ≡ first → c.world.state.log_settled ≡ length c.world.state.log → c.world.state.told ≡ c.before.told → c.after ≡ settled_part last
     → Alike (come s.effects first) last → Alike s.world.state last → AreChanges s.world.log → s.world.state.log ≡ encoded s.world.log → c.cell ≡ s.world.cell → c.left ≡ s.moments
-    → ImagesHold → (HoldsWorld c.world → HoldsOnTheWay c.world s.effects) → (HoldsWorld c.world → HoldsWorld s.world) → Leaves c s
-leaves_media c s first last rests settled told_at back done state form log cell clock hold way kept =
+    → ImagesHold → (HoldsWorld c.world → IsReadyFor c.world c.moments these → HoldsAfter c.world s.world.contents s.effects) → (HoldsWorld c.world → IsReadyFor c.world c.moments these → HoldsWorld s.world)
+    → (HoldsWorld c.world → IsReady c.world → RestoresApartThroughout c.world c.moments these → IsReady s.world) → Leaves c these s
+leaves_media c these s first last rests settled told_at back done state form log cell clock hold whole kept ready =
     let end : come s.effects c.world.state ≡ last = ap (come s.effects) rests ∙ alike_same (come s.effects first) last done in
     let archive : c.after ≡ settled_part (come s.effects c.world.state) = back ∙ ap settled_part (sym end) in
     let same : (come s.effects c.world.state).log ≡ encoded s.world.log = ap (λ (x : State). x.log) end ∙ state.log ∙ log in
@@ -60,17 +61,18 @@ leaves_media c s first last rests settled told_at back done state form log cell 
       form = form;
       cell = cell;
       clock = clock;
-      kept = λ held. keeps_media hold c s archive (alike_same s.world.state last state ∙ sym end) (way held) (kept held);
+      kept = λ held asked. keeps_media hold c s archive (alike_same s.world.state last state ∙ sym end) (whole held asked) (kept held asked);
+      ready = ready;
     }
 
-module _ {D E : Type 0} (P : Plant D) (C : Cell E) (c : Course) (w : World) (old new : D) (site : E) (same : w ≡ c.world) (leaves : (these : List (List ℕ)) → Ends P C (script w c.moments these) old new site c.left → Leaves c (script w c.moments these)) where
-  in_course : (these : List (List ℕ)) → Leaves c (script w c.moments these) → Leaves c (script c.world c.moments these)
-  in_course these = subst (λ (v : World). Leaves c (script v c.moments these)) same
+module _ {D E : Type 0} (P : Plant D) (C : Cell E) (c : Course) (w : World) (old new : D) (site : E) (same : w ≡ c.world) (leaves : (these : List (List ℕ)) → Ends P C (script w c.moments these) old new site c.left → Leaves c these (script w c.moments these)) where
+  in_course : (these : List (List ℕ)) → Leaves c these (script w c.moments these) → Leaves c these (script c.world c.moments these)
+  in_course these = subst (λ (v : World). Leaves c these (script v c.moments these)) same
 
   short_in : EndsShort P C w c.moments c.input c.rest old new site c.left → LeavesShort c
   short_in short = record { took = short.took; leaves = in_course (lines (ended short.took.taken)) (leaves (lines (ended short.took.taken)) short.ends) }
 
-  whole_in : (refused : Bool) → Ends P C (script w c.moments (lines c.input)) old new site c.left × (refused ≡ (script w c.moments (lines c.input)).refused) → Leaves c (outcome c) × ((outcome c).refused ≡ refused)
+  whole_in : (refused : Bool) → Ends P C (script w c.moments (lines c.input)) old new site c.left × (refused ≡ (script w c.moments (lines c.input)).refused) → Leaves c (lines c.input) (outcome c) × ((outcome c).refused ≡ refused)
   whole_in refused (ends, is) = (in_course (lines c.input) (leaves (lines c.input) ends), sym (is ∙ ap (λ (v : World). (script v c.moments (lines c.input)).refused) same))
 
   -- by the answer
@@ -160,25 +162,24 @@ told_whole start effects old new joint before after reply is some whole = elim (
   | inr within ↦ absurd (omega (arith, some, whole, told_short start effects before (tells reply ∷ after) old new joint is within))
 ]
 
--- The effects of a world whose log is settled: what its journal is after the first of them, and that they keep the archive.
-pub record Journaled (w : World) (effects : List Effect) : Type 0 where
-  pub settled : w.state.log_settled ≡ length w.state.log
-  pub form : AreChanges w.log
-  pub is : w.state.log ≡ encoded w.log
-  pub last : List Change
-  pub after : IsJournalAfter w.log effects last
-  pub way : HoldsWorld w → HoldsOnTheWay w effects
+-- Effects of a course whose log is settled: what its journal is after them, and that they keep the archive.
+pub record Journaled (c : Course) (effects : List Effect) : Type 0 where
+  pub settled : c.world.state.log_settled ≡ length c.world.state.log
+  pub form : AreChanges c.world.log
+  pub is : c.world.state.log ≡ encoded c.world.log
+  pub after : FindsFormed c → (last : List Change) × IsJournalAfter c.world.log effects last
+  pub way : HoldsWorld c.world → FindsReady c → (count : ℕ) → count ≤ length effects → HoldsAfter c.world (contents_in c count) (take count effects)
   pub images : ImagesHold
 
-front_journal : (w : World) (effects : List Effect) (n : ℕ) → Journaled w effects → (mid : List Change) × IsJournalAfter w.log (take n effects) mid
-front_journal w effects n j = journal_front (take n effects) (drop n effects) w.log j.last (subst (λ (es : List Effect). IsJournalAfter w.log es j.last) (sym (take-append-drop n effects)) j.after)
+front_journal : (log : List Change) (effects : List Effect) (n : ℕ) → (last : List Change) × IsJournalAfter log effects last → (mid : List Change) × IsJournalAfter log (take n effects) mid
+front_journal log effects n (last, after) = journal_front (take n effects) (drop n effects) log last (subst (λ (es : List Effect). IsJournalAfter log es last) (sym (take-append-drop n effects)) after)
 
 -- the journal that is found opens
-opens_again : (w : World) (effects : List Effect) (n : ℕ) (found : Option (List ℕ)) → Journaled w effects → found ≡ Some (come (take n effects) w.state).log → Reopens w.log (take n effects) found
-opens_again w effects n found j is =
-    let mid = front_journal w effects n j in
-    let form = journal_form (take n effects) w.log mid.0 j.form mid.1 in
-    let bytes : found ≡ Some (encoded mid.0) = is ∙ ap (λ (l : List ℕ). Some l) (journal_bytes (take n effects) w.state w.log mid.0 j.is mid.1) in
+opens_again : (c : Course) (effects : List Effect) (n : ℕ) (found : Option (List ℕ)) → Journaled c effects → found ≡ Some (come (take n effects) c.world.state).log → FindsFormed c → Reopens c.world.log (take n effects) found
+opens_again c effects n found j is formed =
+    let mid = front_journal c.world.log effects n (j.after formed) in
+    let form = journal_form (take n effects) c.world.log mid.0 j.form mid.1 in
+    let bytes : found ≡ Some (encoded mid.0) = is ∙ ap (λ (l : List ℕ). Some l) (journal_bytes (take n effects) c.world.state c.world.log mid.0 j.is mid.1) in
     record {
       changes = mid.0;
       after = mid.1;
@@ -187,56 +188,60 @@ opens_again w effects n found j is =
       never_bad = λ at bad. (subst (λ (l : Option (List ℕ)). IsBadLog l at) bytes bad).not_whole (mid.0, form, refl);
     }
 
-image_of : (w : World) (effects : List Effect) (old new : Stock) → Journaled w effects → Joint w.state effects old new → LeftImage w effects old new
-image_of w effects old new j joint =
-    let events : new.log ≡ Some (come (take joint.count effects) w.state).log
-    = joint.left.log ∙ ap (λ (l : List ℕ). Some l) (log_whole (come (take joint.count effects) w.state) (log_come (take joint.count effects) w.state j.settled)) in
+image_of : (c : Course) (effects : List Effect) (old new : Stock) → Journaled c effects → Joint c.world.state effects old new → LeftImage c effects old new
+image_of c effects old new j joint =
+    let events : new.log ≡ Some (come (take joint.count effects) c.world.state).log
+    = joint.left.log ∙ ap (λ (l : List ℕ). Some l) (log_whole (come (take joint.count effects) c.world.state) (log_come (take joint.count effects) c.world.state j.settled)) in
     record {
       joint = joint;
       events = events;
-      reopens = opens_again w effects joint.count new.log j events;
-      acknowledged = told_whole w.state effects old new joint;
-      archive = λ held. j.images w effects old new (j.way held) joint;
+      reopens = opens_again c effects joint.count new.log j events;
+      acknowledged = told_whole c.world.state effects old new joint;
+      archive = λ held asked. j.images c.world (contents_in c joint.count) (take joint.count effects) new (j.way held asked joint.count joint.within) joint.left;
     }
 
-pub images_of : {D : Type 0} (time : Moments D Image) (old new : D) (w : World) (effects : List Effect) → Journaled w effects → LeavesSince time old new (λ a b. Joint w.state effects (stock_of a) (stock_of b)) → LeavesImages time old new w effects
-images_of time old new w effects j images = λ c left. let at = images c left in record { from = at.from; was = at.was; step = image_of w effects (stock_of at.from) (stock_of c) j at.step }
+pub images_of : {D : Type 0} (time : Moments D Image) (old new : D) (c : Course) (effects : List Effect) → Journaled c effects → LeavesSince time old new (λ a b. Joint c.world.state effects (stock_of a) (stock_of b)) → LeavesImages time old new c effects
+images_of time old new c effects j images = λ i left. let at = images i left in record { from = at.from; was = at.was; step = image_of c effects (stock_of at.from) (stock_of i) j at.step }
+
+-- the journal of each script
+abbrev pub ScriptsJournaled : Type 0
+ScriptsJournaled = (w : World) (moments : List ℕ) (lines : List (List ℕ)) → HasTapes w → AreChanges w.log → IsFormedFor w lines → IsJournalAfter w.log (script w moments lines).effects (script w moments lines).world.log
 
 -- the script of a course
-pub journaled : ScriptsKeep → ImagesHold → (c : Course) → HasTapes c.world → c.world.state.log_settled ≡ length c.world.state.log → AreChanges c.world.log → c.world.state.log ≡ encoded c.world.log → Journaled c.world (outcome c).effects
-journaled keep hold c has settled form is = record {
+pub journaled : ScriptsJournaled → ScriptsKeep → ImagesHold → (c : Course) → HasTapes c.world → c.world.state.log_settled ≡ length c.world.state.log → AreChanges c.world.log → c.world.state.log ≡ encoded c.world.log → Journaled c (outcome c).effects
+journaled journals keep hold c has settled form is = record {
   settled = settled;
   form = form;
   is = is;
-  last = (outcome c).world.log;
-  after = script_follows c.world c.moments (lines c.input) has form;
-  way = keep c.world c.moments (lines c.input);
+  after = λ formed. ((outcome c).world.log, journals c.world c.moments (lines c.input) has form formed);
+  way = λ held asked count within. keep c.world c.moments (lines c.input) held asked count;
   images = hold;
 }
 
 -- a stage of it
-stage_journaled : (c : Course) (stage : Stage) → IsStage [] c.world c.moments (lines c.input) stage → Journaled c.world (outcome c).effects → Journaled c.world stage.effects
+stage_journaled : (c : Course) (stage : Stage) → IsStage [] c.world c.moments (lines c.input) stage → Journaled c (outcome c).effects → Journaled c stage.effects
 stage_journaled c stage on j =
     let more = stage_whole [] c.world c.moments (lines c.input) stage on in
-    let front = journal_front stage.effects more.0 c.world.log j.last (subst (λ (es : List Effect). IsJournalAfter c.world.log es j.last) more.1 j.after) in
     record {
       settled = j.settled;
       form = j.form;
       is = j.is;
-      last = front.0;
-      after = front.1;
-      way = λ held. front_way c.world stage.effects more.0 (subst (λ (es : List Effect). HoldsOnTheWay c.world es) more.1 (j.way held));
+      after = λ formed. (let whole = j.after formed in journal_front stage.effects more.0 c.world.log whole.0 (subst (λ (es : List Effect). IsJournalAfter c.world.log es whole.0) more.1 whole.1));
+      way = λ held asked count within.
+          (let all : stage.effects ++ more.0 ≡ (outcome c).effects = sym more.1 in
+          let long : length stage.effects ≤ length (outcome c).effects = subst (λ (es : List Effect). length stage.effects ≤ length es) all (omega (arith, length-append stage.effects more.0)) in
+          subst (λ (es : List Effect). HoldsAfter c.world (contents_in c count) es) (ap (take count) more.1 ∙ take-append-le count stage.effects more.0 within) (j.way held asked count (omega (arith, within, long))));
       images = j.images;
     }
 
 -- however it ended
-pub ends_at : {D : Type 0} (time : Moments D Image) (seen : D → Image) (old new : D) (c : Course) (stage : Stage) → IsStage [] c.world c.moments (lines c.input) stage → c.cell ≡ stage.cell → Journaled c.world (outcome c).effects
+pub ends_at : {D : Type 0} (time : Moments D Image) (seen : D → Image) (old new : D) (c : Course) (stage : Stage) → IsStage [] c.world c.moments (lines c.input) stage → c.cell ≡ stage.cell → Journaled c (outcome c).effects
     → time.moment old ≤ time.moment new → time.may_leave new (seen new) → LeavesSince time old new (λ a b. Joint c.world.state stage.effects (stock_of a) (stock_of b)) → EndsAt time seen old new c
 ends_at time seen old new c stage on cell j later reads images = record {
   stage = stage;
   on_the_way = on;
   cell = cell;
-  image = images_of time old new c.world stage.effects (stage_journaled c stage on j) images (seen new) (time.counts_now new (time.moment old) (seen new) later reads);
+  image = images_of time old new c stage.effects (stage_journaled c stage on j) images (seen new) (time.counts_now new (time.moment old) (seen new) later reads);
 }
 
 -- what was left of a stage was left of the script

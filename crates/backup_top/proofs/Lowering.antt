@@ -1,17 +1,16 @@
 -- From a plant over media to the media.
-use Rattle.std.proofs.Common.{◌≡◌, inl, inr, ℕ, ◌+◌, ◌≤◌, Bool, true, List, [], ◌∷◌, ◌++◌, length, take, Option, Some, None, refl, sym, ◌∙◌, ap, subst, arith}
+use Rattle.std.proofs.Common.{◌≡◌, inl, ℕ, ◌+◌, ◌≤◌, Bool, true, List, [], ◌∷◌, length, take, Some, None, refl, sym, ◌∙◌, ap, subst, arith}
 use Rattle.std.proofs.lemmas.List.{take_all}
-use Rattle.crash_moments.specs.Moments.{Moments, Stepped, Leads, LeavesSince}
+use Rattle.crash_moments.specs.Moments.{Moments, Leads, LeavesSince}
 use Rattle.crash_moments.specs.Telling.{IsFront, Extends}
 use Rattle.crash_moments.proofs.Joining.{joined, weakened, whole, mapped_leads, part_leaves}
 use Rattle.media_core.specs.Media.{Image, Same}
 use Rattle.media_core.specs.Still.{AreStill}
 use Rattle.crash_log.specs.Log.{log_of, is_damaged}
 use Rattle.plant_core.specs.Crashes.{State, LeftIn, IsSettled, Alike, seen_in, settled_part}
-use Rattle.plant_core.specs.Effects.{Effect, commits, replaces, tells, puts, settles, cuts, comes, come, told_by, Joint}
-use Rattle.plant_core.specs.Records.{Record}
+use Rattle.plant_core.specs.Effects.{Effect, commits, replaces, tells, puts, settles, cuts, comes, come, Joint}
 use Rattle.plant_core.specs.Stock.{Stock}
-use Rattle.plant_effects.proofs.States.{told_is, grows_none, joint_none}
+use Rattle.plant_effects.proofs.States.{grows_none, joint_none}
 use Rattle.plant_media.specs.Stock.{stock_of, journal_of, log_shown, tape_of}
 use Rattle.plant_media.specs.State.{media_of, moments_of}
 use Rattle.plant_media.specs.declared.plant.MediaPlant.{MediaPlant}

@@ -4,7 +4,7 @@ use Rattle.std.specs.Str.Lines.{lines}
 use Rattle.bk_text.specs.Places.{FailsAt}
 use Rattle.crash_moments.specs.Moments.{Moments, Stepped, LeavesSince, Rose}
 use Rattle.media_core.specs.Media.{Image}
-use Rattle.plant_core.specs.Crashes.{State, LeftIn, settled_part}
+use Rattle.plant_core.specs.Crashes.{State, settled_part}
 use Rattle.plant_core.specs.Effects.{Effect, tells, come, told_by, Joint}
 use Rattle.plant_core.specs.Stock.{Stock}
 use Rattle.plant_media.specs.Stock.{stock_of}
@@ -21,8 +21,10 @@ use Rattle.backup_script.specs.Lines.{ended, has_quit, most_script}
 use Rattle.backup_script.specs.Scripts.{Outcome, script, Stage, IsStage}
 use Rattle.backup_script.specs.Held.{IsHeldThroughout}
 use Rattle.backup_script.specs.Running.{Took, TookAll, TookToQuit, TookTooMany}
-use Rattle.script_journals.specs.Journals.{IsJournalAfter}
-use Rattle.session_archives.specs.Held.{HoldsWorld, HoldsImage}
+use Rattle.dump_forms.specs.Journals.{IsJournalAfter}
+use Rattle.script_journals.specs.Dumping.{IsFormedFor}
+use Rattle.session_archives.specs.Held.{HoldsWorld, HoldsImage, contents_on}
+use Rattle.session_archives.specs.Ready.{IsReady, RestoresApartThroughout, IsReadyFor}
 use Rattle.backup_top.specs.Answers.{config_status}
 use Rattle.backup_top.specs.declared.status.Status.{Status}
 use Rattle.backup_top.specs.declared.status.Status.TheVariants.{Done, SomeRefused, Usage, ReadFault, MediaFault, CellFault, Memory, BadConfig, BadLog, OutputFault, ScriptTooLong}
@@ -96,36 +98,50 @@ course_of seen count present contents old entry new cell_old cell_new moments le
 abbrev pub FindsHeld : Course → Type 0
 FindsHeld c = IsHeldThroughout c.world c.moments (lines c.input)
 
+-- a script that dumps finds a world that is ready for dumps; so it is of every script without a dump
+abbrev pub FindsReady : Course → Type 0
+FindsReady c = IsReadyFor c.world c.moments (lines c.input)
+
+-- and one that has its forms
+abbrev pub FindsFormed : Course → Type 0
+FindsFormed c = IsFormedFor c.world (lines c.input)
+
+-- what the dumps have behind so many of its effects
+abbrev pub contents_in : Course → ℕ → Contents
+contents_in c count = contents_on c.world c.moments (lines c.input) count
+
 -- what comes of its script
 abbrev pub outcome : Course → Outcome
 outcome c = script c.world c.moments (lines c.input)
 
 -- The archive behind a script: the world that it leaves is held, and the media at the exit hold the archive of its changes and of their tapes,
--- with what the dumps had at the entry.
+-- with what the dumps have then.
 pub record KeepsArchive (c : Course) (s : Outcome) : Type 0 where
   pub world : HoldsWorld s.world
-  pub media : HoldsImage c.world s.effects c.after
+  pub media : HoldsImage c.world s.world.contents s.effects c.after
 
--- What is left where all of this was done. The journal and the tapes are those of the entry with these effects, so far as they are settled.
--- Where the media held the archive at the entry they hold it at the exit.
-pub record Leaves (c : Course) (s : Outcome) : Type 0 where
+-- What is left where these lines were run, and this came of them. The journal and the tapes are those of the entry with these effects, so far
+-- as they are settled. Where the media held the archive at the entry, and a script that dumps found a world that is ready, they hold it at the
+-- exit. And a world that was ready is ready again, where no volume was restored under a name that ends in `.backup`.
+pub record Leaves (c : Course) (these : List (List ℕ)) (s : Outcome) : Type 0 where
   pub told : c.after.told ≡ c.before.told ++ told_by s.effects
   pub archive : c.after ≡ settled_part (come s.effects c.world.state)
   pub journal : c.after.log ≡ Some (encoded s.world.log)
   pub form : AreChanges s.world.log
   pub cell : c.cell ≡ s.world.cell
   pub clock : c.left ≡ s.moments
-  pub kept : HoldsWorld c.world → KeepsArchive c s
+  pub kept : HoldsWorld c.world → IsReadyFor c.world c.moments these → KeepsArchive c s
+  pub ready : HoldsWorld c.world → IsReady c.world → RestoresApartThroughout c.world c.moments these → IsReady s.world
 
 -- cut short by a read or the limit: the lines that were ended were run
 pub record LeavesShort (c : Course) : Type 0 where
   pub took : Took c.input c.rest
-  pub leaves : Leaves c (script c.world c.moments (lines (ended took.taken)))
+  pub leaves : Leaves c (lines (ended took.taken)) (script c.world c.moments (lines (ended took.taken)))
 
 -- WHAT A RUN HAS DONE, BY ITS STATUS. Of a run that a fault or want of memory has ended, `EndsAt` says what is left.
 abbrev pub Runs : Course → Status → Type 0
-Runs c Done = Leaves c (outcome c) × ((outcome c).refused ≡ false)
-Runs c SomeRefused = Leaves c (outcome c) × ((outcome c).refused ≡ true)
+Runs c Done = Leaves c (lines c.input) (outcome c) × ((outcome c).refused ≡ false)
+Runs c SomeRefused = Leaves c (lines c.input) (outcome c) × ((outcome c).refused ≡ true)
 Runs c ReadFault = LeavesShort c
 Runs c ScriptTooLong = LeavesShort c
 Runs c MediaFault = Unit {0}
@@ -194,21 +210,22 @@ pub record Reopens (log : List Change) (effects : List Effect) (found : Option (
   pub is : found ≡ Some (encoded changes)
   pub never_bad : (at : ℕ) → IsBadLog found at → ⊥
 
--- What a crash leaves of a run, from the world at the entry: what the crash model leaves after the first effects of the script, for
--- ONE count of them. The journal isn't damaged, and is that after these effects, so that it opens again. A reply that was told whole is
--- among them. Where the media held the archive at the entry the image holds that of its changes and of its tapes: each listed dump lies
--- where it lay behind these effects, with the contents that it had.
-pub record LeftImage (w : World) (effects : List Effect) (old new : Stock) : Type 0 where
-  pub joint : Joint w.state effects old new
-  pub events : new.log ≡ Some (come (take joint.count effects) w.state).log
-  pub reopens : Reopens w.log (take joint.count effects) new.log
+-- What a crash leaves of a course, from its entry: what the crash model leaves after the first of these effects of its script, for ONE count
+-- of them. The journal isn't damaged, and is that after these effects, so that it opens again (of a script that dumps, where the world has its
+-- forms). A reply that was told whole is among them. Where the media held the archive at the entry, and a script that dumps finds a world that is
+-- ready, the image holds that of its changes and of its tapes: each listed dump lies where it lay behind these effects, with the contents that it
+-- had then.
+pub record LeftImage (c : Course) (effects : List Effect) (old new : Stock) : Type 0 where
+  pub joint : Joint c.world.state effects old new
+  pub events : new.log ≡ Some (come (take joint.count effects) c.world.state).log
+  pub reopens : FindsFormed c → Reopens c.world.log (take joint.count effects) new.log
   pub acknowledged : (before after : List Effect) (reply : List ℕ) → effects ≡ before ++ tells reply ∷ after → 0 < length reply
-      → length w.state.told + length (told_by before) + length reply ≤ length new.told → length before < joint.count
-  pub archive : HoldsWorld w → HoldsImage w (take joint.count effects) new
+      → length c.world.state.told + length (told_by before) + length reply ≤ length new.told → length before < joint.count
+  pub archive : HoldsWorld c.world → FindsReady c → HoldsImage c.world (contents_in c joint.count) (take joint.count effects) new
 
 -- each image since the entry
-abbrev pub LeavesImages : {D : Type 0} → Moments D Image → D → D → World → List Effect → Type 0
-LeavesImages time old new w effects = LeavesSince time old new (λ a b. LeftImage w effects (stock_of a) (stock_of b))
+abbrev pub LeavesImages : {D : Type 0} → Moments D Image → D → D → Course → List Effect → Type 0
+LeavesImages time old new c effects = LeavesSince time old new (λ a b. LeftImage c effects (stock_of a) (stock_of b))
 
 -- However a run ends, what reads give is such an image of a stage of the script, and the cell has the list of this stage. So the cell has
 -- the changes of each command whose reply was told.
@@ -216,7 +233,7 @@ pub record EndsAt {D : Type 0} (time : Moments D Image) (seen : D → Image) (ol
   pub stage : Stage
   pub on_the_way : IsStage [] c.world c.moments (lines c.input) stage
   pub cell : c.cell ≡ stage.cell
-  pub image : Stepped time old (λ a b. LeftImage c.world stage.effects (stock_of a) (stock_of b)) (seen new)
+  pub image : Stepped time old (λ a b. LeftImage c stage.effects (stock_of a) (stock_of b)) (seen new)
 
 -- ---- causes
 

@@ -12,8 +12,8 @@ ghost use Rattle.session_archives.specs.Held.{HoldsImage};
 ghost use Rattle.backup_top.specs.Courses.{world_at};
 
 /// What a crash, or the end of a run, leaves of media that held the archive is what a next run of as many files finds: media that hold the
-/// archive of the journal's changes, with the contents that the dumps had. So a run over it is said as one over media that never stopped.
+/// archive of the journal's changes, with what the dumps had behind the effects that are left. So a run over it is said as one over media that never stopped.
 pub fn an_image_is_an_entry()
-    ensures { (config later : Settings) (files : ℕ) (present : ℕ → AnyBool) (log : AnyList Change) (cell next : AnyList Stored) (contents : Contents) (old image : Stock) (effects : AnyList Effect)
-        → (held : HoldsImage (world_at config files present log cell contents old) effects image) → HoldsArchive (world_at later files present held.changes next contents image) }
+    ensures { (config later : Settings) (files : ℕ) (present : ℕ → AnyBool) (log : AnyList Change) (cell next : AnyList Stored) (before contents : Contents) (old image : Stock) (effects : AnyList Effect)
+        → (held : HoldsImage (world_at config files present log cell before old) contents effects image) → HoldsArchive (world_at later files present held.changes next contents image) }
 {}

@@ -15,7 +15,10 @@ use crate::status::Status;
 use crate::statuses::of_config;
 use cell_core::Cell;
 use media_core::{Clock, Media, Source};
-use session_archives::{images_hold_the_archive, scripts_keep_the_archive};
+use script_journals::journals_of_scripts;
+use session_archives::{
+    images_hold_the_archive, scripts_keep_the_archive, scripts_leave_a_ready_world_ready,
+};
 use std::alloc::Global;
 use tape_config::Config;
 
@@ -33,7 +36,7 @@ pub fn run_mode<M: Media, C: Cell, K: Clock, S: Source>(
         FindsHeld c → Runs c result.0 }
     ensures images { M.tells → C.tells → K.tells → S.tells → AreStill M.time M.seen media → (entry : Entry config.now (stock_of (M.seen media))) → (contents : Contents)
         → let c = course_of M.seen M.count M.present contents media entry result.1 (C.list cell.old) (C.list cell.new) (K.moments clock.old) (K.moments clock.new) (S.left source.old) (S.left source.new) in
-        FindsHeld c → LeavesImages M.time media result.1 c.world (outcome c).effects }
+        FindsHeld c → LeavesImages M.time media result.1 c (outcome c).effects }
     ensures ends { M.tells → C.tells → K.tells → S.tells → AreStill M.time M.seen media → (entry : Entry config.now (stock_of (M.seen media))) → (contents : Contents)
         → let c = course_of M.seen M.count M.present contents media entry result.1 (C.list cell.old) (C.list cell.new) (K.moments clock.old) (K.moments clock.new) (S.left source.old) (S.left source.new) in
         FindsHeld c → EndsAt M.time M.seen media result.1 c }
@@ -56,7 +59,9 @@ pub fn run_mode<M: Media, C: Cell, K: Clock, S: Source>(
     ensures read_later { S.faults source.old ≤ S.faults source.new }
     ensures usage { result.0 ≡ Usage → ⊥ }
 {
+    journals_of_scripts();
     scripts_keep_the_archive();
+    scripts_leave_a_ready_world_ready();
     images_hold_the_archive();
     match Config::parse(alloc, config) {
         Ok(config) => run_media(alloc, config, media, cell, clock, source),

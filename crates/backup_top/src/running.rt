@@ -13,7 +13,10 @@ use backup_script::run_on;
 use cell_core::Cell;
 use media_core::{Clock, Media, Source};
 use plant_media::MediaPlant;
-use session_archives::{images_hold_the_archive, scripts_keep_the_archive};
+use script_journals::journals_of_scripts;
+use session_archives::{
+    images_hold_the_archive, scripts_keep_the_archive, scripts_leave_a_ready_world_ready,
+};
 use std::alloc::Global;
 use tape_config::Config;
 
@@ -31,7 +34,7 @@ pub fn run_media<M: Media, C: Cell, K: Clock, S: Source>(
         FindsHeld c → Runs c result.0 }
     ensures images { M.tells → C.tells → K.tells → S.tells → AreStill M.time M.seen media → (journal : Journal (stock_of (M.seen media))) → (contents : Contents)
         → let c = course M.seen M.count M.present config journal.log contents media result.1 (C.list cell.old) (C.list cell.new) (K.moments clock.old) (K.moments clock.new) (S.left source.old) (S.left source.new) in
-        FindsHeld c → LeavesImages M.time media result.1 c.world (outcome c).effects }
+        FindsHeld c → LeavesImages M.time media result.1 c (outcome c).effects }
     ensures ends { M.tells → C.tells → K.tells → S.tells → AreStill M.time M.seen media → (journal : Journal (stock_of (M.seen media))) → (contents : Contents)
         → let c = course M.seen M.count M.present config journal.log contents media result.1 (C.list cell.old) (C.list cell.new) (K.moments clock.old) (K.moments clock.new) (S.left source.old) (S.left source.new) in
         FindsHeld c → EndsAt M.time M.seen media result.1 c }
@@ -50,7 +53,9 @@ pub fn run_media<M: Media, C: Cell, K: Clock, S: Source>(
     ensures read_later { S.faults source.old ≤ S.faults source.new }
     ensures statuses { IsRunStatus result.0 }
 {
+    journals_of_scripts();
     scripts_keep_the_archive();
+    scripts_leave_a_ready_world_ready();
     images_hold_the_archive();
     match MediaPlant::open(media) {
         Ok(mut plant) => {

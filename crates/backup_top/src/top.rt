@@ -14,7 +14,7 @@ ghost use Rattle.backup_top.specs.Answers.{config_status};
 ghost use Rattle.backup_session.specs.Held.{HoldsArchive};
 ghost use Rattle.backup_session.specs.Worlds.{Contents};
 ghost use Rattle.session_archives.specs.Held.{HoldsWorld};
-ghost use Rattle.backup_top.specs.Courses.{course_of, Entry, Journal, IsBadLog, IsRefusedAt, RefusesJournal, IsExamineStatus, Runs, TakesBy, EndsAt, LeavesImages, FindsHeld, outcome, HasCauseAs, IsWithin, IsComplete};
+ghost use Rattle.backup_top.specs.Courses.{course_of, Entry, Journal, IsBadLog, IsRefusedAt, RefusesJournal, IsExamineStatus, Runs, TakesBy, EndsAt, LeavesImages, FindsHeld, FindsReady, FindsFormed, outcome, HasCauseAs, IsWithin, IsComplete};
 ghost use Rattle.backup_top.specs.declared.words.Asked.TheVariants.{Run, Examine, Nothing};
 ghost use Rattle.backup_top.specs.declared.status.Status.TheVariants.{Usage, ReadFault, MediaFault, CellFault, Memory, BadConfig, BadLog, OutputFault};
 
@@ -26,7 +26,11 @@ use crate::words::{Asked, asked_by};
 use cell_core::Cell;
 use dump_stream::Input;
 use media_core::{Clock, Media, Source};
-use session_archives::{images_hold_the_archive, scripts_keep_the_archive};
+use script_journals::journals_of_scripts;
+use session_archives::{
+    images_hold_the_archive, ready_worlds_have_forms, scripts_keep_the_archive,
+    scripts_leave_a_ready_world_ready,
+};
 use std::alloc::Global;
 
 /// What is told where the words are not those of a mode.
@@ -136,20 +140,22 @@ pub fn run<M: Media, C: Cell, K: Clock, S: Source>(
     ensures only { (asked words.now.items ≡ Run → ⊥) → OnlyTells M.tells M.seen M.time M.count M.present M.faults M.tell_faults media result.1 }
     ensures same { (asked words.now.items ≡ Run → ⊥) → (cell.new ≡ cell.old) × (clock.new ≡ clock.old) }
 
-    // Media that hold the archive of these contents at the entry hold it as each restore of the script finds it.
+    // Media that hold the archive of these contents at the entry hold it as each restore of the script finds it. A script that dumps finds a
+    // world that is ready for dumps, and so one that has its forms, and restores no volume under a name that ends in `.backup`; of other
+    // scripts nothing is asked.
     ensures finds { asked words.now.items ≡ Run → (entry : Entry config.now (stock_of (M.seen media))) → (contents : Contents)
         → let c = course_of M.seen M.count M.present contents media entry result.1 (C.list cell.old) (C.list cell.new) (K.moments clock.old) (K.moments clock.new) (S.left source.old) (S.left source.new) in
-        HoldsArchive c.world → HoldsWorld c.world × FindsHeld c }
+        HoldsArchive c.world → FindsReady c → HoldsWorld c.world × FindsHeld c × FindsFormed c }
     // A script, over media whose journal is a list of changes, and by a configuration of the form: what was done, by the status. It
     // is said of scripts whose restores find media that hold the archive of these contents, and so of every script without a restore.
     ensures runs { asked words.now.items ≡ Run → M.tells → C.tells → K.tells → S.tells → (entry : Entry config.now (stock_of (M.seen media))) → (contents : Contents)
         → let c = course_of M.seen M.count M.present contents media entry result.1 (C.list cell.old) (C.list cell.new) (K.moments clock.old) (K.moments clock.new) (S.left source.old) (S.left source.new) in
         FindsHeld c → Runs c result.0 }
     // Each image since the entry, where no write of before waits for a sync. Its journal opens again: it is the list of changes that the
-    // first of the script's effects make, and each reply that was told whole is among them.
+    // first of the script's effects make, and each reply that was told whole is among them. It holds the archive with what the dumps have then.
     ensures images { asked words.now.items ≡ Run → M.tells → C.tells → K.tells → S.tells → AreStill M.time M.seen media → (entry : Entry config.now (stock_of (M.seen media))) → (contents : Contents)
         → let c = course_of M.seen M.count M.present contents media entry result.1 (C.list cell.old) (C.list cell.new) (K.moments clock.old) (K.moments clock.new) (S.left source.old) (S.left source.new) in
-        FindsHeld c → LeavesImages M.time media result.1 c.world (outcome c).effects }
+        FindsHeld c → LeavesImages M.time media result.1 c (outcome c).effects }
     // However it ended, what reads give is such an image.
     ensures ends { asked words.now.items ≡ Run → M.tells → C.tells → K.tells → S.tells → AreStill M.time M.seen media → (entry : Entry config.now (stock_of (M.seen media))) → (contents : Contents)
         → let c = course_of M.seen M.count M.present contents media entry result.1 (C.list cell.old) (C.list cell.new) (K.moments clock.old) (K.moments clock.new) (S.left source.old) (S.left source.new) in
@@ -183,7 +189,10 @@ pub fn run<M: Media, C: Cell, K: Clock, S: Source>(
     ensures output_later { M.tell_faults media ≤ M.tell_faults result.1 }
     ensures read_later { S.faults source.old ≤ S.faults source.new }
 {
+    journals_of_scripts();
     scripts_keep_the_archive();
+    scripts_leave_a_ready_world_ready();
+    ready_worlds_have_forms();
     images_hold_the_archive();
     match asked_by(alloc, words) {
         Err(_) => (Status::Memory, media),

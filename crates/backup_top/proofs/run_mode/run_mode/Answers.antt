@@ -24,7 +24,7 @@ returns-in-Ok-clause-images g c = λ told tells_cell tells_clock source still en
     let M = g.M.Media in
     let n = c.run_media.new in
     subst (λ (s : Settings). let k : Course = course M.seen M.count M.present s entry.journal.log contents c.args.media c.run_media.result.1 (g.C.Cell.list c.args.cell.now) (g.C.Cell.list n.cell) (g.K.Clock.moments c.args.clock.now) (g.K.Clock.moments n.clock) (g.S.Source.left c.args.source.now) (g.S.Source.left n.source) in
-    FindsHeld k → LeavesImages M.time c.args.media c.run_media.result.1 k.world (outcome k).effects)
+    FindsHeld k → LeavesImages M.time c.args.media c.run_media.result.1 k (outcome k).effects)
     (settings_same c.args.config.now c.in-Ok.config entry.settings c.in-Ok.ensures entry.says)
     (c.run_media.ensures.images told tells_cell tells_clock source still entry.journal contents)
 
@@ -34,7 +34,7 @@ returns-in-Err-clause-images g c = λ told tells_cell tells_clock source still e
     let media = c.args.media in
     let bytes = encoded entry.journal.log in
     let k : Course = course_of M.seen M.count M.present contents media entry media (g.C.Cell.list c.args.cell.now) (g.C.Cell.list c.args.cell.now) (g.K.Clock.moments c.args.clock.now) (g.K.Clock.moments c.args.clock.now) (g.S.Source.left c.args.source.now) (g.S.Source.left c.args.source.now) in
-    images_of M.time media media k.world (outcome k).effects (journaled c.scripts_keep_the_archive.ensures.on_the_way c.images_hold_the_archive.ensures k (has_tapes k.world (M.present media) (M.seen media) (M.count media) refl refl (g.met.M.Media.here_below media) (g.met.M.Media.few_files media)) refl entry.journal.form refl)
+    images_of M.time media media k (outcome k).effects (journaled c.journals_of_scripts.ensures c.scripts_keep_the_archive.ensures.on_the_way c.images_hold_the_archive.ensures.behind k (has_tapes k.world (M.present media) (M.seen media) (M.count media) refl refl (g.met.M.Media.here_below media) (g.met.M.Media.few_files media)) refl entry.journal.form refl)
     (nothing_since M.time M.seen media bytes media (outcome k).effects (still_left M.time M.seen media bytes still (λ image was. g.met.M.Media.told_left media image told was) entry.journal.is) (stays M.time media))
 
 pub returns-in-Err-clause-ends : goal.returns-in-Err-clause-ends
@@ -43,5 +43,5 @@ returns-in-Err-clause-ends g c = λ told tells_cell tells_clock source still ent
     let media = c.args.media in
     let bytes = encoded entry.journal.log in
     let k : Course = course_of M.seen M.count M.present contents media entry media (g.C.Cell.list c.args.cell.now) (g.C.Cell.list c.args.cell.now) (g.K.Clock.moments c.args.clock.now) (g.K.Clock.moments c.args.clock.now) (g.S.Source.left c.args.source.now) (g.S.Source.left c.args.source.now) in
-    ends_at M.time M.seen media media k (between [] k.world) (stage_front [] k.world k.moments (lines k.input)) refl (journaled c.scripts_keep_the_archive.ensures.on_the_way c.images_hold_the_archive.ensures k (has_tapes k.world (M.present media) (M.seen media) (M.count media) refl refl (g.met.M.Media.here_below media) (g.met.M.Media.few_files media)) refl entry.journal.form refl) (stays M.time media).later (g.met.M.Media.seen_may_be_left media told)
+    ends_at M.time M.seen media media k (between [] k.world) (stage_front [] k.world k.moments (lines k.input)) refl (journaled c.journals_of_scripts.ensures c.scripts_keep_the_archive.ensures.on_the_way c.images_hold_the_archive.ensures.behind k (has_tapes k.world (M.present media) (M.seen media) (M.count media) refl refl (g.met.M.Media.here_below media) (g.met.M.Media.few_files media)) refl entry.journal.form refl) (stays M.time media).later (g.met.M.Media.seen_may_be_left media told)
     (nothing_since M.time M.seen media bytes media [] (still_left M.time M.seen media bytes still (λ image was. g.met.M.Media.told_left media image told was) entry.journal.is) (stays M.time media))

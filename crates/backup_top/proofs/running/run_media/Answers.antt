@@ -1,6 +1,6 @@
-use Rattle.std.proofs.Common.{◌≡◌, ℕ, ◌-◌, List, [], length, Some, None, refl, sym, ◌∙◌, ap, subst}
+use Rattle.std.proofs.Common.{◌≡◌, ℕ, ◌-◌, List, [], Some, refl, sym, ◌∙◌, ap, subst}
 use Rattle.std.specs.Str.Lines.{lines}
-use Rattle.plant_core.specs.Crashes.{State, settled_part, seen_in}
+use Rattle.plant_core.specs.Crashes.{settled_part}
 use Rattle.plant_core.specs.Stock.{Stock}
 use Rattle.plant_media.specs.Slots.{slots_here}
 use Rattle.crash_log.specs.Log.{is_damaged}
@@ -12,10 +12,11 @@ use Rattle.backup_session.specs.Opening.{opened}
 use Rattle.backup_script.specs.Scripts.{between, script, IsStage}
 use Rattle.backup_script.specs.Held.{IsHeldThroughout}
 use Rattle.backup_script.proofs.StageLaws.{stage_front}
-use Rattle.session_archives.specs.Held.{HoldsWorld, HoldsOnTheWay}
+use Rattle.session_archives.specs.Held.{HoldsWorld, HoldsAfter}
+use Rattle.session_archives.specs.Ready.{IsReady, RestoresApartThroughout, IsReadyFor}
 use Rattle.backup_top.specs.declared.status.Status.{Status}
-use Rattle.backup_top.specs.declared.status.Status.TheVariants.{MediaFault, BadLog}
-use Rattle.backup_top.specs.Courses.{Course, course, outcome, at_rest, Runs, RefusesJournal, IsBadLog, HasCauseAs}
+use Rattle.backup_top.specs.declared.status.Status.TheVariants.{MediaFault}
+use Rattle.backup_top.specs.Courses.{Course, course, outcome, at_rest, Runs, RefusesJournal, HasCauseAs}
 use Rattle.backup_top.proofs.Lowering.{opened_rests, shown_log, settled_whole, journal_damaged, still_left, nothing_since, images_left, images_later, alike_same, none_some}
 use Rattle.backup_top.proofs.TapeCounts.{has_tapes}
 use Rattle.backup_top.proofs.CourseLaws.{leaves_media, runs_of, runs_not_opened, bad_log_answer, refuses_journal, opening_bad, opening_cause, bad_journal, damaged_journal, journaled, images_of, ends_at, left_whole}
@@ -40,10 +41,12 @@ returns-in-Ok-clause-runs g c = λ told tells_cell tells_clock source journal co
     let first = opened (record { config = c.args.config; slots = M.count plant.media - 1; present = slots_here (M.present plant.media) }) journal.log (g.C.Cell.list c.args.cell.now) contents shown in
     subst (λ (s : Status). Runs k s) (sym c.of_run.ensures)
     (runs_of _ g.C.Cell k _ plant n.plant n.cell same
-    (λ these ends. leaves_media k (script first k.moments these) shown (shown_of M.seen n.plant) rests refl refl (c.into_media.ensures.stock told ends.done.sound) (ends.done.state told) ends.state ends.form ends.log ends.cell ends.moments
-    c.images_hold_the_archive.ensures
-    (λ at_entry. subst (λ (w : World). HoldsOnTheWay w (script first k.moments these).effects) same (c.scripts_keep_the_archive.ensures.on_the_way first k.moments these (subst HoldsWorld (sym same) at_entry)))
-    (λ at_entry. c.scripts_keep_the_archive.ensures.behind first k.moments these (subst HoldsWorld (sym same) at_entry)))
+    (λ these ends. leaves_media k these (script first k.moments these) shown (shown_of M.seen n.plant) rests refl refl (c.into_media.ensures.stock told ends.done.sound) (ends.done.state told) ends.state ends.form ends.log ends.cell ends.moments
+    c.images_hold_the_archive.ensures.behind
+    (λ at_entry asked. subst (λ (w : World). HoldsAfter w (script first k.moments these).world.contents (script first k.moments these).effects) same
+    (c.scripts_keep_the_archive.ensures.whole first k.moments these (subst HoldsWorld (sym same) at_entry) (subst (λ (w : World). IsReadyFor w k.moments these) (sym same) asked)))
+    (λ at_entry asked. c.scripts_keep_the_archive.ensures.behind first k.moments these (subst HoldsWorld (sym same) at_entry) (subst (λ (w : World). IsReadyFor w k.moments these) (sym same) asked))
+    (λ at_entry ready apart. c.scripts_leave_a_ready_world_ready.ensures first k.moments these (subst (λ (w : World). RestoresApartThroughout w k.moments these) (sym same) apart) (subst HoldsWorld (sym same) at_entry) (subst IsReady (sym same) ready)))
     c.run_on-answer.result (r.ran told tells_cell tells_clock source (e.settled told) journal.log journal.form log_is contents found) (r.read_short told tells_cell tells_clock source (e.settled told) journal.log journal.form log_is contents found) (r.long_short told tells_cell tells_clock source (e.settled told) journal.log journal.form log_is contents found)
     (λ at bad. (r.bad_log told at bad).not_whole (journal.log, journal.form, log_is)))
 
@@ -66,7 +69,7 @@ returns-in-Ok-clause-images g c = λ told tells_cell tells_clock source still jo
     let found = subst (λ (w : World). IsHeldThroughout w k.moments (lines k.input)) (sym same) held in
     let left = r.left told tells_cell tells_clock source (e.settled told) journal.log journal.form log_is contents found in
     let leaves = left_whole _ g.C.Cell _ k.world k.moments (lines k.input) plant n.plant n.cell same left in
-    images_of M.time media c.into_media.result k.world (outcome k).effects (journaled c.scripts_keep_the_archive.ensures.on_the_way c.images_hold_the_archive.ensures k (has_tapes k.world (M.present media) (M.seen media) (M.count media) refl refl (g.met.M.Media.here_below media) (g.met.M.Media.few_files media)) refl journal.form refl)
+    images_of M.time media c.into_media.result k (outcome k).effects (journaled c.journals_of_scripts.ensures c.scripts_keep_the_archive.ensures.on_the_way c.images_hold_the_archive.ensures.behind k (has_tapes k.world (M.present media) (M.seen media) (M.count media) refl refl (g.met.M.Media.here_below media) (g.met.M.Media.few_files media)) refl journal.form refl)
     (images_left M.time M.seen media bytes c.into_media.result (outcome k).effects (still_left M.time M.seen media bytes still (λ image was. g.met.M.Media.told_left media image told was) journal.is)
     shown plant n.plant c.into_media.ensures.media rests (e.crash told) (leaves.crash told (e.survives told still)))
 
@@ -91,7 +94,7 @@ returns-in-Ok-clause-ends g c = λ told tells_cell tells_clock source still jour
     let left = r.left told tells_cell tells_clock source (e.settled told) journal.log journal.form log_is contents found in
     let fits = still_left M.time M.seen media bytes still (λ image was. g.met.M.Media.told_left media image told was) journal.is in
     let crash = left.leaves.crash told (e.survives told still) in
-    ends_at M.time M.seen media back k left.stage (subst (λ (w : World). IsStage [] w k.moments (lines k.input) left.stage) same left.on_the_way) left.cell (journaled c.scripts_keep_the_archive.ensures.on_the_way c.images_hold_the_archive.ensures k (has_tapes k.world (M.present media) (M.seen media) (M.count media) refl refl (g.met.M.Media.here_below media) (g.met.M.Media.few_files media)) refl journal.form refl)
+    ends_at M.time M.seen media back k left.stage (subst (λ (w : World). IsStage [] w k.moments (lines k.input) left.stage) same left.on_the_way) left.cell (journaled c.journals_of_scripts.ensures c.scripts_keep_the_archive.ensures.on_the_way c.images_hold_the_archive.ensures.behind k (has_tapes k.world (M.present media) (M.seen media) (M.count media) refl refl (g.met.M.Media.here_below media) (g.met.M.Media.few_files media)) refl journal.form refl)
     (images_later M.time M.seen media bytes back left.stage.effects fits shown plant n.plant c.into_media.ensures.media rests (e.crash told) crash)
     (g.met.M.Media.seen_may_be_left back told)
     (images_left M.time M.seen media bytes back left.stage.effects fits shown plant n.plant c.into_media.ensures.media rests (e.crash told) crash)
@@ -133,7 +136,7 @@ returns-in-Err-clause-images g c = λ told tells_cell tells_clock source still j
     let media = c.args.media in
     let bytes = encoded journal.log in
     let k : Course = course M.seen M.count M.present c.args.config journal.log contents media c.in-Err.unopened.media (g.C.Cell.list c.args.cell.now) (g.C.Cell.list c.args.cell.now) (g.K.Clock.moments c.args.clock.now) (g.K.Clock.moments c.args.clock.now) (g.S.Source.left c.args.source.now) (g.S.Source.left c.args.source.now) in
-    images_of M.time media c.in-Err.unopened.media k.world (outcome k).effects (journaled c.scripts_keep_the_archive.ensures.on_the_way c.images_hold_the_archive.ensures k (has_tapes k.world (M.present media) (M.seen media) (M.count media) refl refl (g.met.M.Media.here_below media) (g.met.M.Media.few_files media)) refl journal.form refl)
+    images_of M.time media c.in-Err.unopened.media k (outcome k).effects (journaled c.journals_of_scripts.ensures c.scripts_keep_the_archive.ensures.on_the_way c.images_hold_the_archive.ensures.behind k (has_tapes k.world (M.present media) (M.seen media) (M.count media) refl refl (g.met.M.Media.here_below media) (g.met.M.Media.few_files media)) refl journal.form refl)
     (nothing_since M.time M.seen media bytes c.in-Err.unopened.media (outcome k).effects (still_left M.time M.seen media bytes still (λ image was. g.met.M.Media.told_left media image told was) journal.is) (c.in-Err.ensures.crash told))
 
 pub returns-in-Err-clause-ends : goal.returns-in-Err-clause-ends
@@ -143,7 +146,7 @@ returns-in-Err-clause-ends g c = λ told tells_cell tells_clock source still jou
     let back = c.in-Err.unopened.media in
     let bytes = encoded journal.log in
     let k : Course = course M.seen M.count M.present c.args.config journal.log contents media back (g.C.Cell.list c.args.cell.now) (g.C.Cell.list c.args.cell.now) (g.K.Clock.moments c.args.clock.now) (g.K.Clock.moments c.args.clock.now) (g.S.Source.left c.args.source.now) (g.S.Source.left c.args.source.now) in
-    ends_at M.time M.seen media back k (between [] k.world) (stage_front [] k.world k.moments (lines k.input)) refl (journaled c.scripts_keep_the_archive.ensures.on_the_way c.images_hold_the_archive.ensures k (has_tapes k.world (M.present media) (M.seen media) (M.count media) refl refl (g.met.M.Media.here_below media) (g.met.M.Media.few_files media)) refl journal.form refl) (c.in-Err.ensures.crash told).later (g.met.M.Media.seen_may_be_left back told)
+    ends_at M.time M.seen media back k (between [] k.world) (stage_front [] k.world k.moments (lines k.input)) refl (journaled c.journals_of_scripts.ensures c.scripts_keep_the_archive.ensures.on_the_way c.images_hold_the_archive.ensures.behind k (has_tapes k.world (M.present media) (M.seen media) (M.count media) refl refl (g.met.M.Media.here_below media) (g.met.M.Media.few_files media)) refl journal.form refl) (c.in-Err.ensures.crash told).later (g.met.M.Media.seen_may_be_left back told)
     (nothing_since M.time M.seen media bytes back [] (still_left M.time M.seen media bytes still (λ image was. g.met.M.Media.told_left media image told was) journal.is) (c.in-Err.ensures.crash told))
 
 pub returns-in-Err-clause-bad_log : goal.returns-in-Err-clause-bad_log

@@ -19,7 +19,7 @@ returns-in-Err-clause-images g c = λ runs told tells_cell tells_clock source st
     let media = c.args.media in
     let bytes = encoded entry.journal.log in
     let k : Course = course_of M.seen M.count M.present contents media entry media (g.C.Cell.list c.args.cell.now) (g.C.Cell.list c.args.cell.now) (g.K.Clock.moments c.args.clock.now) (g.K.Clock.moments c.args.clock.now) (g.S.Source.left c.args.source.now) (g.S.Source.left c.args.source.now) in
-    images_of M.time media media k.world (outcome k).effects (journaled c.scripts_keep_the_archive.ensures.on_the_way c.images_hold_the_archive.ensures k (has_tapes k.world (M.present media) (M.seen media) (M.count media) refl refl (g.met.M.Media.here_below media) (g.met.M.Media.few_files media)) refl entry.journal.form refl)
+    images_of M.time media media k (outcome k).effects (journaled c.journals_of_scripts.ensures c.scripts_keep_the_archive.ensures.on_the_way c.images_hold_the_archive.ensures.behind k (has_tapes k.world (M.present media) (M.seen media) (M.count media) refl refl (g.met.M.Media.here_below media) (g.met.M.Media.few_files media)) refl entry.journal.form refl)
     (nothing_since M.time M.seen media bytes media (outcome k).effects (still_left M.time M.seen media bytes still (λ image was. g.met.M.Media.told_left media image told was) entry.journal.is) (stays M.time media))
 
 pub returns-in-Err-clause-ends : goal.returns-in-Err-clause-ends
@@ -28,27 +28,27 @@ returns-in-Err-clause-ends g c = λ runs told tells_cell tells_clock source stil
     let media = c.args.media in
     let bytes = encoded entry.journal.log in
     let k : Course = course_of M.seen M.count M.present contents media entry media (g.C.Cell.list c.args.cell.now) (g.C.Cell.list c.args.cell.now) (g.K.Clock.moments c.args.clock.now) (g.K.Clock.moments c.args.clock.now) (g.S.Source.left c.args.source.now) (g.S.Source.left c.args.source.now) in
-    ends_at M.time M.seen media media k (between [] k.world) (stage_front [] k.world k.moments (lines k.input)) refl (journaled c.scripts_keep_the_archive.ensures.on_the_way c.images_hold_the_archive.ensures k (has_tapes k.world (M.present media) (M.seen media) (M.count media) refl refl (g.met.M.Media.here_below media) (g.met.M.Media.few_files media)) refl entry.journal.form refl) (stays M.time media).later (g.met.M.Media.seen_may_be_left media told)
+    ends_at M.time M.seen media media k (between [] k.world) (stage_front [] k.world k.moments (lines k.input)) refl (journaled c.journals_of_scripts.ensures c.scripts_keep_the_archive.ensures.on_the_way c.images_hold_the_archive.ensures.behind k (has_tapes k.world (M.present media) (M.seen media) (M.count media) refl refl (g.met.M.Media.here_below media) (g.met.M.Media.few_files media)) refl entry.journal.form refl) (stays M.time media).later (g.met.M.Media.seen_may_be_left media told)
     (nothing_since M.time M.seen media bytes media [] (still_left M.time M.seen media bytes still (λ image was. g.met.M.Media.told_left media image told was) entry.journal.is) (stays M.time media))
 
 pub returns-in-Err-clause-finds : goal.returns-in-Err-clause-finds
-returns-in-Err-clause-finds g c = λ runs entry contents held.
+returns-in-Err-clause-finds g c = λ runs entry contents held asked.
     let M = g.M.Media in
     let media = c.args.media in
     let k : Course = course_of M.seen M.count M.present contents media entry media (g.C.Cell.list c.args.cell.now) (g.C.Cell.list c.args.cell.now) (g.K.Clock.moments c.args.clock.now) (g.K.Clock.moments c.args.clock.now) (g.S.Source.left c.args.source.now) (g.S.Source.left c.args.source.now) in
     let has = has_tapes k.world (M.present media) (M.seen media) (M.count media) refl refl (g.met.M.Media.here_below media) (g.met.M.Media.few_files media) in
     let holds = holds_world k.world has (λ s is. below (M.present media) (M.count media) s (g.met.M.Media.here_below media) is) (record { log = refl; tapes = λ s. refl }) held in
-    (holds, c.scripts_keep_the_archive.ensures.throughout k.world k.moments (lines k.input) holds)
+    (holds, c.scripts_keep_the_archive.ensures.throughout k.world k.moments (lines k.input) holds asked, c.ready_worlds_have_forms.ensures.lines k.world k.moments (lines k.input) holds asked)
 
 pub returns-in-Ok-Run-clause-finds : goal.returns-in-Ok-Run-clause-finds
-returns-in-Ok-Run-clause-finds g c = λ runs entry contents held.
+returns-in-Ok-Run-clause-finds g c = λ runs entry contents held asked.
     let M = g.M.Media in
     let media = c.args.media in
     let n = c.run_mode.new in
     let k : Course = course_of M.seen M.count M.present contents media entry c.run_mode.result.1 (g.C.Cell.list c.args.cell.now) (g.C.Cell.list n.cell) (g.K.Clock.moments c.args.clock.now) (g.K.Clock.moments n.clock) (g.S.Source.left c.args.source.now) (g.S.Source.left n.source) in
     let has = has_tapes k.world (M.present media) (M.seen media) (M.count media) refl refl (g.met.M.Media.here_below media) (g.met.M.Media.few_files media) in
     let holds = holds_world k.world has (λ s is. below (M.present media) (M.count media) s (g.met.M.Media.here_below media) is) (record { log = refl; tapes = λ s. refl }) held in
-    (holds, c.scripts_keep_the_archive.ensures.throughout k.world k.moments (lines k.input) holds)
+    (holds, c.scripts_keep_the_archive.ensures.throughout k.world k.moments (lines k.input) holds asked, c.ready_worlds_have_forms.ensures.lines k.world k.moments (lines k.input) holds asked)
 
 pub returns-in-Ok-Run-clause-complete : goal.returns-in-Ok-Run-clause-complete
 returns-in-Ok-Run-clause-complete g c = λ runs told tells_cell tells_clock source entry within media_rose cell_rose output_rose read_rose.
