@@ -3,13 +3,16 @@
 #![tactic(auto)]
 
 mod files;
+mod lines;
 mod mishaps;
 mod numbers;
 mod order;
 mod report;
 mod script;
 mod table;
+mod tapes;
 mod trials;
+mod volumes;
 mod world;
 
 use crate::table::run_table;

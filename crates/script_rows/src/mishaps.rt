@@ -3,7 +3,7 @@
 use crate::trials::{Mishap, Trial, Wanted, try_call};
 use crate::world::World;
 use media_core::Pick;
-use std::alloc::{AllocError, Global};
+use std::alloc::Global;
 
 /// More calls than a row's script makes.
 const MOST_CALLS: u64 = 100_000;
@@ -41,7 +41,7 @@ fn try_picks(
     mishap: Mishap,
     call: u64,
     counts: &mut Counts,
-) -> Result<bool, AllocError> {
+) -> anyhow::Result<bool> {
     let mut is_whole = true;
     for pick in PICKS {
         let trial = try_call(alloc, world, wanted, mishap, call, pick)?;
@@ -52,7 +52,7 @@ fn try_picks(
 }
 
 /// Tries each call of the media, and the whole script last.
-pub fn try_calls(alloc: Global, world: &World, mishap: Mishap) -> Result<Counts, AllocError> {
+pub fn try_calls(alloc: Global, world: &World, mishap: Mishap) -> anyhow::Result<Counts> {
     let wanted = Wanted::new(alloc, world)?;
     let mut counts = Counts { runs: 0, kept: 0 };
     for call in 0..MOST_CALLS {

@@ -14,11 +14,21 @@ const PREAMBLE: [&str; 5] = [
 /// The moment at which they run.
 const FIRST: u64 = 1000;
 
+/// What a stop inside a line may leave: what another line in its place would.
+#[derive(Drop)]
+pub struct Inside {
+    /// The number of the line inside which the stop is.
+    pub number: usize,
+    pub moment: u64,
+    pub line: Vec<u8>,
+}
+
 /// The lines of a script, and the clock's moments while it runs: one for each line that has a reply.
 #[derive(Drop)]
 pub struct Script {
     pub lines: Vec<u8>,
     pub moments: Vec<u64>,
+    pub insides: Vec<Inside>,
 }
 
 impl Script {
@@ -26,6 +36,7 @@ impl Script {
         Script {
             lines: Vec::new(alloc),
             moments: Vec::new(alloc),
+            insides: Vec::new(alloc),
         }
     }
 
@@ -40,6 +51,33 @@ impl Script {
     pub fn add(&mut self, moment: u64, line: &str) -> Result<(), AllocError> {
         self.moments.push(moment)?;
         self.add_silent(line)
+    }
+
+    /// Adds what a stop inside the line before may leave.
+    pub fn add_inside(&mut self, alloc: Global, moment: u64, line: &str) -> Result<(), AllocError> {
+        let number = self.count().saturating_sub(1);
+        let line = Vec::from_slice(alloc, line.as_bytes())?;
+        let inside = Inside {
+            number,
+            moment,
+            line,
+        };
+        self.insides.push(inside)?;
+        Ok(())
+    }
+
+    /// The first so many lines, and behind them what a stop inside the next one may leave.
+    pub fn inside(&self, alloc: Global, count: usize) -> Result<Option<Script>, AllocError> {
+        for inside in self.insides.iter() {
+            if inside.number == count {
+                let mut front = self.front(alloc, count)?;
+                front.moments.push(inside.moment)?;
+                front.lines.extend_from_slice(inside.line.as_slice())?;
+                front.lines.push(b'\n')?;
+                return Ok(Some(front));
+            }
+        }
+        Ok(None)
     }
 
     /// Adds the first so many lines of the preamble.

@@ -1,6 +1,7 @@
 //! The table of rows. Each line of it is one step, and what it prints stands behind it:
 //!
 //! - `== NAME` begins a row with blank media of five files, an empty cell and the configuration `slots:0-3 0`; it is printed.
+//!   `slots N` gives the media so many slots in place of four.
 //! - `config LINE` adds a line to the configuration, the first one in place of the line above. `words WORD..` stand behind the
 //!   program's name in place of `run`.
 //! - `fill FILE COUNT BYTE` makes that many equal bytes the front of a file, `log BYTES` gives the journal a log (in hexadecimal).
@@ -9,27 +10,27 @@
 //!   out, `back SLOT` puts it back.
 //! - `media N`, `cell N` and `read N` make the call of that number fail.
 //! - `preamble N` adds the first N of five common lines to the script, `@MOMENT LINE` a line that is answered at that moment,
-//!   `- LINE` one that isn't answered, `long N` a line of N bytes. `unended` takes the last line feed away.
-//! - `run` runs the script and begins a new one: what it told is printed, and its status. `journal` prints the journal's log.
-//! - `look LINE` and `label LINE` are what a later service is asked of the journal and of the tape. `fails` and `stops` run the
-//!   script with a failure of, or a stop in, each call of the media, and print how many runs there were, and how many of them
-//!   kept what is promised.
+//!   `- LINE` one that isn't answered, `long N` a line of N bytes. `unended` takes the last line feed away. `each FIRST LAST MOMENT
+//!   LINE` adds a line for each number, which stands in place of `%`.
+//! - `run` runs the script and begins a new one: what it told is printed, and its status; `count` prints how many lines it told, how
+//!   many of them are refusals, and the last one. `journal` prints the journal's log,
+//!   `shape SLOT` the records of a tape, `show NAME` the vnodes of a volume.
+//! - `look LINE` and `label LINE` are what a later service is asked of the journal and of the tape, and `sees NAME` is a volume that is
+//!   shown behind that. `inside MOMENT LINE` says that a stop inside the line before may leave what this line would. `fails` and
+//!   `stops` run the script with a failure of, or a stop in, each call of the media, and print how many runs there were, and how
+//!   many of them kept what is promised.
 //!
 //! Empty lines and lines that begin with `#` are passed over.
 
 use crate::files::{file_of_log, fill, journal, move_tape};
+use crate::lines::print_line;
 use crate::mishaps::try_calls;
 use crate::numbers::{bytes, number, small_number, two_words};
+use crate::tapes::tape_line;
 use crate::trials::Mishap;
+use crate::volumes::print_volume;
 use crate::world::World;
 use std::alloc::Global;
-
-/// Prints a line.
-fn print_line(printed: &mut Vec<u8>, line: &str) -> anyhow::Result<()> {
-    printed.extend_from_slice(line.as_bytes())?;
-    printed.push(b'\n')?;
-    Ok(())
-}
 
 /// Fills a file by the words of a step.
 fn fill_by(alloc: Global, world: &mut World, rest: &str) -> anyhow::Result<()> {
@@ -78,6 +79,28 @@ fn run_script(alloc: Global, world: &mut World, printed: &mut Vec<u8>) -> anyhow
     print_line(printed, line.as_str())
 }
 
+/// Runs the script, and prints how many lines were told, how many of them are refusals, the last one, and the status.
+fn count_lines(alloc: Global, world: &mut World, printed: &mut Vec<u8>) -> anyhow::Result<()> {
+    let (status, told) = world.run(alloc)?;
+    let (mut lines, mut refused) = (0u64, 0u64);
+    let mut last: &[u8] = b"";
+    for line in told.split(|byte| *byte == b'\n') {
+        if !line.is_empty() {
+            lines = lines.saturating_add(1);
+            last = line;
+        }
+        if line.starts_with(b"refused ") {
+            refused = refused.saturating_add(1);
+        }
+    }
+    let front = format!(in alloc; "lines {lines} refused {refused} last ")?;
+    printed.extend_from_slice(front.as_bytes())?;
+    printed.extend_from_slice(last)?;
+    let number = status.number();
+    let line = format!(in alloc; "\nstatus {number} {status:?}")?;
+    print_line(printed, line.as_str())
+}
+
 /// Prints the log of the journal.
 fn print_journal(alloc: Global, world: &mut World, printed: &mut Vec<u8>) -> anyhow::Result<()> {
     let log = journal(alloc, &mut world.media)?;
@@ -88,6 +111,17 @@ fn print_journal(alloc: Global, world: &mut World, printed: &mut Vec<u8>) -> any
         let word = format!(in alloc; " {byte:02x}")?;
         line.push_str(word.as_str())?;
     }
+    print_line(printed, line.as_str())
+}
+
+/// Prints the records of a tape.
+fn print_shape(
+    alloc: Global,
+    world: &mut World,
+    rest: &str,
+    printed: &mut Vec<u8>,
+) -> anyhow::Result<()> {
+    let line = tape_line(alloc, &mut world.media, small_number(rest)?)?;
     print_line(printed, line.as_str())
 }
 
@@ -115,6 +149,29 @@ fn add_line(world: &mut World, step: &str) -> anyhow::Result<bool> {
     Ok(true)
 }
 
+/// Adds a line for each number.
+fn add_each(alloc: Global, world: &mut World, rest: &str) -> anyhow::Result<()> {
+    let (first, more) = two_words(rest)?;
+    let (last, more) = two_words(more)?;
+    let (moment, line) = two_words(more)?;
+    let Some((front, back)) = line.split_once('%') else {
+        anyhow::bail!("{line} has no place for a number");
+    };
+    let moment = number(moment)?;
+    for count in small_number(first)?..small_number(last)?.saturating_add(1) {
+        let line = format!(in alloc; "{front}{count}{back}")?;
+        world.script.add(moment, line.as_str())?;
+    }
+    Ok(())
+}
+
+/// Adds what a stop inside the line before may leave.
+fn add_inside(alloc: Global, world: &mut World, rest: &str) -> anyhow::Result<()> {
+    let (moment, line) = two_words(rest)?;
+    world.script.add_inside(alloc, number(moment)?, line)?;
+    Ok(())
+}
+
 /// Takes a step that makes a row's world another one. The answer is whether there is such a step.
 fn prepare(alloc: Global, world: &mut World, verb: &str, rest: &str) -> anyhow::Result<bool> {
     match verb {
@@ -125,6 +182,7 @@ fn prepare(alloc: Global, world: &mut World, verb: &str, rest: &str) -> anyhow::
         "block" => world.add_record(0, bytes(alloc, rest)?.as_slice())?,
         "mark" => world.add_record(1, b"")?,
         "tape" => tape_by(alloc, world, rest)?,
+        "slots" => world.resize(alloc, small_number(rest)?)?,
         "volume" => world.create(alloc, rest)?,
         "spoil" => spoil_by(alloc, world, rest)?,
         "out" => move_tape(&mut world.media, small_number(rest)?, true)?,
@@ -138,12 +196,15 @@ fn prepare(alloc: Global, world: &mut World, verb: &str, rest: &str) -> anyhow::
 }
 
 /// Takes a step that adds to a script. The answer is whether there is such a step.
-fn write(world: &mut World, verb: &str, rest: &str) -> anyhow::Result<bool> {
+fn write(alloc: Global, world: &mut World, verb: &str, rest: &str) -> anyhow::Result<bool> {
     match verb {
         "preamble" => world.script.add_preamble(small_number(rest)? as usize)?,
         "-" => world.script.add_silent(rest)?,
         "long" => world.script.add_long(small_number(rest)?)?,
         "unended" => world.script.leave_unended(),
+        "each" => add_each(alloc, world, rest)?,
+        "inside" => add_inside(alloc, world, rest)?,
+        "sees" => world.seen.push(String::from_str(alloc, rest)?)?,
         "look" => world.journal_looks.add(0, rest)?,
         "label" => world.tape_looks.add(0, rest)?,
         _ => return Ok(false),
@@ -156,6 +217,7 @@ fn print(
     alloc: Global,
     world: &mut World,
     verb: &str,
+    rest: &str,
     step: &str,
     printed: &mut Vec<u8>,
 ) -> anyhow::Result<()> {
@@ -165,7 +227,10 @@ fn print(
             print_line(printed, step)
         }
         "run" => run_script(alloc, world, printed),
+        "count" => count_lines(alloc, world, printed),
         "journal" => print_journal(alloc, world, printed),
+        "shape" => print_shape(alloc, world, rest, printed),
+        "show" => print_volume(alloc, &mut world.cell, rest, printed),
         "fails" => try_mishaps(alloc, world, Mishap::Fails, printed),
         "stops" => try_mishaps(alloc, world, Mishap::Stops, printed),
         _ => anyhow::bail!("there is no step {step}"),
@@ -186,10 +251,10 @@ fn take_step(
         Some(parts) => parts,
         None => (step, ""),
     };
-    if prepare(alloc, world, verb, rest)? || write(world, verb, rest)? {
+    if prepare(alloc, world, verb, rest)? || write(alloc, world, verb, rest)? {
         return Ok(());
     }
-    print(alloc, world, verb, step, printed)
+    print(alloc, world, verb, rest, step, printed)
 }
 
 /// Takes all steps of a table, and prints what they print.

@@ -2,6 +2,7 @@
 
 use crate::files::blank;
 use crate::report::{Report, look};
+use crate::script::Script;
 use crate::world::World;
 use backup_top::Status;
 use cell_core::CellMem;
@@ -22,28 +23,42 @@ pub enum Mishap {
 pub struct Wanted {
     told: Vec<u8>,
     reports: Vec<Report>,
+    insides: Vec<Option<Report>>,
 }
 
-/// Runs the first so many lines of a row's script, and looks at what they leave.
-fn front_of(alloc: Global, world: &World, count: usize) -> Result<(Vec<u8>, Report), AllocError> {
+/// Runs a script, and looks at what it leaves.
+fn left_by(alloc: Global, world: &World, script: &Script) -> anyhow::Result<(Vec<u8>, Report)> {
     let mut cell = CellMem::new(alloc);
-    let script = world.script.front(alloc, count)?;
-    let (_, media) = world.order.run(alloc, blank(alloc)?, &mut cell, &script)?;
+    let (_, media) = world.order.run(alloc, blank(alloc)?, &mut cell, script)?;
     let told = Vec::from_slice(alloc, media.told())?;
-    Ok((told, look(alloc, world, media, &mut cell)?))
+    let report = look(alloc, world, media, &mut cell)?;
+    Ok((told, report))
+}
+
+/// What a stop inside the line after so many may leave beside what is found before and behind it.
+fn inside(alloc: Global, world: &World, count: usize) -> anyhow::Result<Option<Report>> {
+    match world.script.inside(alloc, count)? {
+        None => Ok(None),
+        Some(script) => {
+            let (_, report) = left_by(alloc, world, &script)?;
+            Ok(Some(report))
+        }
+    }
 }
 
 impl Wanted {
     /// Runs each front of a row's script.
-    pub fn new(alloc: Global, world: &World) -> Result<Wanted, AllocError> {
+    pub fn new(alloc: Global, world: &World) -> anyhow::Result<Wanted> {
         let mut wanted = Wanted {
             told: Vec::new(alloc),
             reports: Vec::new(alloc),
+            insides: Vec::new(alloc),
         };
         for count in 0..world.script.count().saturating_add(1) {
-            let (told, report) = front_of(alloc, world, count)?;
+            let (told, report) = left_by(alloc, world, &world.script.front(alloc, count)?)?;
             wanted.told = told;
             wanted.reports.push(report)?;
+            wanted.insides.push(inside(alloc, world, count)?)?;
         }
         Ok(wanted)
     }
@@ -51,6 +66,14 @@ impl Wanted {
     /// Whether this report is that of just so many lines.
     fn is_after(&self, count: usize, report: &Report) -> bool {
         self.reports.get(count) == Some(report)
+    }
+
+    /// Whether a stop inside the line after so many may leave this report, since the row says so.
+    fn is_said_inside(&self, count: usize, report: &Report) -> bool {
+        match self.insides.get(count) {
+            Some(Some(inside)) => inside == report,
+            _ => false,
+        }
     }
 
     /// Whether a stop inside the line after so many may leave this report, since the line makes a label.
@@ -70,7 +93,8 @@ impl Wanted {
         self.told.as_slice().starts_with(told)
             && (self.is_after(acknowledged, report)
                 || self.is_after(next, report)
-                || self.is_inside(world, acknowledged, report))
+                || self.is_inside(world, acknowledged, report)
+                || self.is_said_inside(acknowledged, report))
     }
 }
 
@@ -118,7 +142,7 @@ pub fn try_call(
     mishap: Mishap,
     call: u64,
     pick: Pick,
-) -> Result<Trial, AllocError> {
+) -> anyhow::Result<Trial> {
     let mut cell = CellMem::new(alloc);
     let media = media_with(alloc, mishap, call)?;
     let (status, media) = world.order.run(alloc, media, &mut cell, &world.script)?;

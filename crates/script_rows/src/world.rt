@@ -27,6 +27,8 @@ pub struct World {
     pub script: Script,
     pub journal_looks: Script,
     pub tape_looks: Script,
+    /// The volumes that are shown behind the looks.
+    pub seen: Vec<String>,
 }
 
 impl World {
@@ -47,6 +49,7 @@ impl World {
             script: Script::new(alloc),
             journal_looks: Script::new(alloc),
             tape_looks: Script::new(alloc),
+            seen: Vec::new(alloc),
         })
     }
 
@@ -92,6 +95,15 @@ impl World {
         self.script = Script::new(alloc);
         let told = told_since(alloc, &self.media, before)?;
         Ok((status, told))
+    }
+
+    /// Gives the media so many slots, all blank.
+    pub fn resize(&mut self, alloc: Global, slots: u32) -> anyhow::Result<()> {
+        if slots > 255 {
+            anyhow::bail!("{slots} slots are too many");
+        }
+        self.media = MemMedia::new(alloc, slots + 1)?;
+        Ok(())
     }
 
     /// Makes a volume, by one call of the cell.
