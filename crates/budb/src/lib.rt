@@ -15,6 +15,3 @@ pub use database::Budb;
 pub use fault::{BudbFault, CommitFault, PreparedFault};
 pub use histories::descending;
 pub use laws::{checkpoint_has_bytes, listed_dumps_are_records};
-
-#[cfg(test)]
-mod tests;

@@ -28,6 +28,3 @@ pub use laws::{
 };
 pub use planning::plan;
 pub use play_chain::play;
-
-#[cfg(test)]
-mod tests;

@@ -9,6 +9,3 @@ mod targets;
 pub use names::target_name;
 pub use putting::put_restored;
 pub use targets::target_id;
-
-#[cfg(test)]
-mod tests;

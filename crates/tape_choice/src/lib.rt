@@ -21,6 +21,3 @@ pub use laws::parents_are_those_reached;
 pub use parents::initials_above;
 pub use places::{Appending, Place};
 pub use wanting::Wanting;
-
-#[cfg(test)]
-mod tests;
