@@ -6,9 +6,9 @@ use Rattle.budb_changes.specs.declared.records.DumpRecordFields.{DumpRecordField
 use Rattle.budb_links.specs.declared.arena.TheConstants.{FAMILIES}
 use Rattle.budb_links.specs.Stands.{Stand, Apart}
 use Rattle.budb_links.specs.Chained.{Woven, stand_at, chain_of}
-use Rattle.budb_links.specs.Entries.{Entry, entry_at, record_of}
+use Rattle.budb_links.specs.Entries.{Entry, entry_at, dumps_of, record_of}
 use Rattle.budb_links.specs.Stored.{head_of, entries_of, Stores}
-use Rattle.budb_links.proofs.Storing.{dumps_of, apart_filter, free_apart, few_in, stored_is, stores_as}
+use Rattle.budb_links.proofs.Storing.{apart_filter, free_apart, few_in, stored_is, stores_as}
 use Rattle.budb_links.proofs.Keeping.{free_last, inserted}
 
 module _ (arena : Woven) (slots : List (Option DumpRecordFields)) (free ps : List ℕ) (place : ℕ) (es : List Entry) (s : Stores arena slots free es) (last : free ≡ ps ++ place ∷ []) where

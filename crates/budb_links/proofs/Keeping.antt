@@ -8,9 +8,9 @@ use Rattle.budb_changes.specs.declared.records.DumpRecordFields.{DumpRecordField
 use Rattle.budb_links.specs.declared.arena.TheConstants.{FAMILIES}
 use Rattle.budb_links.specs.Stands.{Stand}
 use Rattle.budb_links.specs.Chained.{Woven, stand_at, chain_of}
-use Rattle.budb_links.specs.Entries.{Entry, entry_at, record_of}
+use Rattle.budb_links.specs.Entries.{Entry, entry_at, dumps_of, record_of}
 use Rattle.budb_links.specs.Stored.{slot_at, head_of, stand_of, stands_in, DistinctIds, HasPlace, AreFree, Stores}
-use Rattle.budb_links.proofs.Storing.{Holds, dumps_of, free_apart}
+use Rattle.budb_links.proofs.Storing.{Holds, free_apart}
 
 -- ---- an entry more
 
@@ -65,7 +65,7 @@ place_last (x ∷ es) e = inr (place_last es e)
 -- ---- free places
 
 -- the places keep being free where the slots of all of them stay empty
-pub free_set : (slots : List (Option DumpRecordFields)) (place : ℕ) (o : Option DumpRecordFields) (ps : List ℕ) → AllByRecursion (λ p. p ≢ place) ps → AreFree slots ps → AreFree (set slots place o) ps
+pub free_set : {X : Type 0} (slots : List (Option X)) (place : ℕ) (o : Option X) (ps : List ℕ) → AllByRecursion (λ p. p ≢ place) ps → AreFree slots ps → AreFree (set slots place o) ps
 free_set slots place o [] a f = tt
 free_set slots place o (p ∷ ps) a f = (
   subst (λ (n : ℕ). p < n) (sym (length-set slots place o)) f.0,
@@ -82,12 +82,12 @@ pub back : (P : ℕ → Type 0) (ps : List ℕ) (p : ℕ) → AllByRecursion P (
 back P [] p a = a.0
 back P (x ∷ ps) p a = back P ps p a.1
 
-pub free_front : (slots : List (Option DumpRecordFields)) (ps : List ℕ) (p : ℕ) → AreFree slots (ps ++ p ∷ []) → AreFree slots ps
+pub free_front : {X : Type 0} (slots : List (Option X)) (ps : List ℕ) (p : ℕ) → AreFree slots (ps ++ p ∷ []) → AreFree slots ps
 free_front slots [] p f = tt
 free_front slots (x ∷ ps) p f = (f.0, f.1, front (λ o. o ≢ x) ps p f.2, free_front slots ps p f.3)
 
 -- the last free place
-pub free_last : (slots : List (Option DumpRecordFields)) (ps : List ℕ) (p : ℕ) → AreFree slots (ps ++ p ∷ []) → (p < length slots) × (slot_at slots p ≡ None) × AllByRecursion (λ o. o ≢ p) ps
+pub free_last : {X : Type 0} (slots : List (Option X)) (ps : List ℕ) (p : ℕ) → AreFree slots (ps ++ p ∷ []) → (p < length slots) × (slot_at slots p ≡ None) × AllByRecursion (λ o. o ≢ p) ps
 free_last slots [] p f = (f.0, f.1, tt)
 free_last slots (x ∷ ps) p f =
     let rest = free_last slots ps p f.3 in
@@ -98,17 +98,17 @@ pub numbers_push : (P : ℕ → Type 0) (ps : List ℕ) (p : ℕ) → AllByRecur
 numbers_push P [] p a h = (h, tt)
 numbers_push P (x ∷ ps) p a h = (a.0, numbers_push P ps p a.1 h)
 
-pub free_push : (slots : List (Option DumpRecordFields)) (ps : List ℕ) (p : ℕ) → AreFree slots ps → p < length slots → slot_at slots p ≡ None → AllByRecursion (λ o. o ≢ p) ps → AreFree slots (ps ++ p ∷ [])
+pub free_push : {X : Type 0} (slots : List (Option X)) (ps : List ℕ) (p : ℕ) → AreFree slots ps → p < length slots → slot_at slots p ≡ None → AllByRecursion (λ o. o ≢ p) ps → AreFree slots (ps ++ p ∷ [])
 free_push slots [] p f within none a = (within, none, tt, tt)
 free_push slots (x ∷ ps) p f within none a =
     (f.0, f.1, numbers_push (λ o. o ≢ x) ps p f.2 (λ e. a.0 (sym e)), free_push slots ps p f.3 within none a.1)
 
 -- a place with a record is none of them
-pub full_apart : (slots : List (Option DumpRecordFields)) (ps : List ℕ) (place : ℕ) (dump : DumpRecordFields) → AreFree slots ps → slot_at slots place ≡ Some dump → AllByRecursion (λ p. p ≢ place) ps
-full_apart slots [] place dump f full = tt
-full_apart slots (p ∷ ps) place dump f full = (
+pub full_apart : {X : Type 0} (slots : List (Option X)) (ps : List ℕ) (place : ℕ) (x : X) → AreFree slots ps → slot_at slots place ≡ Some x → AllByRecursion (λ p. p ≢ place) ps
+full_apart slots [] place x f full = tt
+full_apart slots (p ∷ ps) place x f full = (
   (λ same. let none = sym (ap (slot_at slots) same) ∙ f.1 in let no : ⊥ = cc in no),
-  full_apart slots ps place dump f.3 full,
+  full_apart slots ps place x f.3 full,
 )
 
 -- ---- an insert

@@ -2,9 +2,9 @@
 use Rattle.std.proofs.Common.{◌≡◌, ◌≢◌, ◌⊎◌, inl, inr, ℕ, zero, suc, ◌+◌, ◌<◌, ◌≤◌, Bool, true, false, cond, not, eqb, List, [], ◌∷◌, ◌++◌, length, Option, Some, None, refl, sym, ◌∙◌, ap, subst, arith, ⊎_elim}
 use Rattle.std.proofs.lemmas.Bool.{cases_eq, cases_Bool, ne_eqb, cond-true, cond-false, not_from_false}
 use Rattle.std.proofs.lemmas.List.{length-append, append-nil, append_assoc}
-use Rattle.std.specs.List.{filter, AllByRecursion}
+use Rattle.std.specs.List.{AllByRecursion}
 use Rattle.bk_text.specs.Blanks.{is_same_text}
-use Rattle.budb_links.specs.Stands.{Stand, first_place, Apart, Among, without_place}
+use Rattle.budb_links.specs.Stands.{Stand, first_place, Among, without_place}
 use Rattle.budb_links.specs.Chained.{Woven, stand_at, chain_of}
 use Rattle.budb_links.specs.Keys.{Numbered, Numbering, numbers_in, number_of, given_back, Ascending}
 use Rattle.budb_links.specs.Stored.{numbers_from}

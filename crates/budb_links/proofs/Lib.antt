@@ -15,3 +15,8 @@ pub mod Inserting
 pub mod Unlinking
 pub mod KeyedLaws
 pub mod KeyedStoring
+pub mod Lists
+pub mod FragStoring
+pub mod FragLists
+pub mod FragUnlinking
+pub mod FragRecords

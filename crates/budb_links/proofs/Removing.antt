@@ -32,8 +32,8 @@ found_full slots id place (e ∷ es) h found =
     (λ (ne : e.dump.id ≡ id → ⊥). found_full slots id place es h.1 (sym (cond-false _ (Some e.place) (place_of id (map stand_of es)) (ne_eqb e.dump.id id ne)) ∙ found))
     (cases_eq e.dump.id id)
 
-pub full_within : (slots : List (Option DumpRecordFields)) (place : ℕ) (dump : DumpRecordFields) → slot_at slots place ≡ Some dump → place < length slots
-full_within slots place dump full =
+pub full_within : {X : Type 0} (slots : List (Option X)) (place : ℕ) (x : X) → slot_at slots place ≡ Some x → place < length slots
+full_within slots place x full =
     ⊎_elim
     (λ (h : place < length slots). h)
     (λ (h : length slots ≤ place). let none = sym (get_or_past slots place None h) ∙ full in absurd (let no : ⊥ = cc in no))

@@ -31,12 +31,12 @@ blanks_more xs x count = append_assoc xs (replicate count x) (x ∷ []) ∙ ap (
 
 -- ---- empty slots
 
-blank_slot : (count place : ℕ) → slot_at (replicate count None) place ≡ None
+blank_slot : {X : Type 0} (count place : ℕ) → slot_at {X = X} (replicate count None) place ≡ None
 blank_slot zero place = refl
 blank_slot (suc count) zero = refl
 blank_slot (suc count) (suc place) = blank_slot count place
 
-pub same_slot : (slots : List (Option DumpRecordFields)) (count place : ℕ) → slot_at (slots ++ replicate count None) place ≡ slot_at slots place
+pub same_slot : {X : Type 0} (slots : List (Option X)) (count place : ℕ) → slot_at (slots ++ replicate count None) place ≡ slot_at slots place
 same_slot [] count place = blank_slot count place
 same_slot (o ∷ slots) count zero = refl
 same_slot (o ∷ slots) count (suc place) = same_slot slots count place
@@ -45,7 +45,7 @@ same_holds : (slots : List (Option DumpRecordFields)) (count : ℕ) (es : List E
 same_holds slots count [] h = tt
 same_holds slots count (e ∷ es) h = (same_slot slots count e.place ∙ h.0, same_holds slots count es h.1)
 
-free_wider : (slots : List (Option DumpRecordFields)) (ps : List ℕ) → AreFree slots ps → AreFree (slots ++ None ∷ []) ps
+free_wider : {X : Type 0} (slots : List (Option X)) (ps : List ℕ) → AreFree slots ps → AreFree (slots ++ None ∷ []) ps
 free_wider slots [] f = tt
 free_wider slots (p ∷ ps) f = (
   omega (arith, f.0, length-append slots (None ∷ [])),
@@ -54,20 +54,20 @@ free_wider slots (p ∷ ps) f = (
   free_wider slots ps f.3,
 )
 
-free_below : (slots : List (Option DumpRecordFields)) (ps : List ℕ) → AreFree slots ps → AllByRecursion (λ p. p ≢ length slots) ps
+free_below : {X : Type 0} (slots : List (Option X)) (ps : List ℕ) → AreFree slots ps → AllByRecursion (λ p. p ≢ length slots) ps
 free_below slots [] f = tt
 free_below slots (p ∷ ps) f = ((λ e. absurd (omega (arith, f.0, e))), free_below slots ps f.3)
 
-free_grown : (count : ℕ) (slots : List (Option DumpRecordFields)) (ps : List ℕ) → AreFree slots ps → AreFree (slots ++ replicate count None) (ps ++ numbers_from (length slots) count)
+pub free_grown : {X : Type 0} (count : ℕ) (slots : List (Option X)) (ps : List ℕ) → AreFree slots ps → AreFree (slots ++ replicate count None) (ps ++ numbers_from (length slots) count)
 free_grown zero slots ps f =
-    subst (λ (s : List (Option DumpRecordFields)). AreFree s (ps ++ [])) (sym (append-nil slots)) (subst (AreFree slots) (sym (append-nil ps)) f)
+    subst (λ (s : List _). AreFree s (ps ++ [])) (sym (append-nil slots)) (subst (AreFree slots) (sym (append-nil ps)) f)
 free_grown (suc count) slots ps f =
     let long : length (slots ++ None ∷ []) ≡ length slots + 1 = length-append slots (None ∷ []) in
     let one = free_push (slots ++ None ∷ []) ps (length slots) (free_wider slots ps f) (omega (arith, long)) (get_or_push slots None None (length slots) refl) (free_below slots ps f) in
     let rest = free_grown count (slots ++ None ∷ []) (ps ++ length slots ∷ []) one in
     let numbered = subst (λ (n : ℕ). AreFree ((slots ++ None ∷ []) ++ replicate count None) ((ps ++ length slots ∷ []) ++ numbers_from n count)) long rest in
     subst
-    (λ (s : List (Option DumpRecordFields)). AreFree s (ps ++ length slots ∷ numbers_from (length slots + 1) count))
+    (λ (s : List _). AreFree s (ps ++ length slots ∷ numbers_from (length slots + 1) count))
     (append_assoc slots (None ∷ []) (replicate count None))
     (subst (AreFree ((slots ++ None ∷ []) ++ replicate count None)) (append_assoc ps (length slots ∷ []) (numbers_from (length slots + 1) count)) numbered)
 

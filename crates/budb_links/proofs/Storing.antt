@@ -5,14 +5,11 @@ use Rattle.std.specs.List.{filter, AllByRecursion}
 use Rattle.budb_changes.specs.declared.records.DumpRecordFields.{DumpRecordFields}
 use Rattle.budb_links.specs.Stands.{Stand, Apart, place_of}
 use Rattle.budb_links.specs.Chained.{Woven, chain_of}
-use Rattle.budb_links.specs.Entries.{Entry, record_of, record_at, of_bucket}
+use Rattle.budb_links.specs.Entries.{Entry, dumps_of, record_of, record_at, of_bucket}
 use Rattle.budb_links.specs.Stored.{slot_at, stand_of, stands_in, with_slot, entries_of, HasPlace, Stores}
 
 abbrev pub Holds : List (Option DumpRecordFields) → List Entry → Type 0
 Holds slots = AllByRecursion (λ entry. slot_at slots entry.place ≡ Some entry.dump)
-
-abbrev pub dumps_of : List Entry → List DumpRecordFields
-dumps_of = map (λ entry. entry.dump)
 
 -- ---- the records of a chain
 

@@ -5,9 +5,9 @@ use Rattle.budb_changes.specs.declared.records.DumpRecordFields.{DumpRecordField
 use Rattle.budb_links.specs.declared.arena.TheConstants.{FAMILIES}
 use Rattle.budb_links.specs.Stands.{Stand, Among, place_of, without_place}
 use Rattle.budb_links.specs.Chained.{Woven, chain_of}
-use Rattle.budb_links.specs.Entries.{Entry, record_of, without_id}
+use Rattle.budb_links.specs.Entries.{Entry, dumps_of, record_of, without_id}
 use Rattle.budb_links.specs.Stored.{slot_at, stand_of, entries_of, Stores}
-use Rattle.budb_links.proofs.Storing.{dumps_of, all_in, slot_of, found_place, found_record, found_slot, stored_is, stores_as}
+use Rattle.budb_links.proofs.Storing.{all_in, slot_of, found_place, found_record, found_slot, stored_is, stores_as}
 use Rattle.budb_links.proofs.Keeping.{fresh_id}
 use Rattle.budb_links.proofs.Removing.{Agree, agree, found_full, full_within, without_fresh, one_less, removed}
 

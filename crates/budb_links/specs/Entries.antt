@@ -11,7 +11,7 @@ pub record Entry : Type 0 where
   pub dump : DumpRecordFields
 
 -- the records in the order of recording, and how many more have room
-pub record Linked : Type 0 where
+pub record Recorded : Type 0 where
   pub entries : List Entry
   pub spare_records : ℕ
 
@@ -19,14 +19,11 @@ abbrev pub entry_at : ℕ → DumpRecordFields → Entry
 entry_at place dump = record { place = place; dump = dump }
 
 -- the records alone, and their places
-abbrev pub listed : Linked → List DumpRecordFields
-listed links = map (λ entry. entry.dump) links.entries
+abbrev pub dumps_of : List Entry → List DumpRecordFields
+dumps_of = map (λ entry. entry.dump)
 
 abbrev pub places_of : List Entry → List ℕ
 places_of = map (λ entry. entry.place)
-
-abbrev pub places : Linked → List ℕ
-places links = places_of links.entries
 
 -- the records of a volume set, and those of an initial id in its four bytes
 abbrev pub of_set : List ℕ → List Entry → List Entry

@@ -1,15 +1,13 @@
 -- Chains by keys: a key with a number has the chain of that number.
-use Rattle.std.specs.Prelude.{◌≡◌, ◌≢◌, ◌⊎◌, ℕ, zero, suc, ◌<◌, ◌≤◌, List, [], ◌∷◌, ◌++◌, length, map, Option, Some, None, if◌then◌else◌}
+use Rattle.std.specs.Prelude.{◌≡◌, ◌≢◌, ◌⊎◌, ℕ, zero, suc, ◌<◌, ◌≤◌, List, [], ◌∷◌, ◌++◌, length, map, Option, Some, None, if◌then◌else◌, Bool}
 use Rattle.std.specs.List.{filter, AllByRecursion}
 use Rattle.std.specs.Int.{w32, to_be_bytes}
 use Rattle.bk_text.specs.Blanks.{is_same_text}
-use Rattle.budb_changes.specs.declared.records.DumpRecordFields.{DumpRecordFields}
 use Rattle.budb_links.specs.declared.keys.Keys.{Keys}
 use Rattle.budb_links.specs.Stands.{Stand}
-use Rattle.budb_links.specs.Chained.{Woven, chain_of}
+use Rattle.budb_links.specs.Chained.{Woven, stand_at, chain_of}
 use Rattle.budb_links.specs.Entries.{Entry}
 use Rattle.budb_links.specs.Keys.{Numbering, numbers_in, number_of, Ascending}
-use Rattle.budb_links.specs.Stored.{stand_of}
 
 -- the chain of a number that may be wanting
 abbrev pub chain_at : Woven → ℕ → Option ℕ → List Stand
@@ -66,18 +64,38 @@ chain_in keys family key = chain_by keys.arena (numbering keys family) family ke
 abbrev pub KeepsBoth : Keys → Type 0
 KeepsBoth keys = KeepsKeys 0 keys.arena keys.names × KeepsKeys 1 keys.arena keys.ids
 
--- ---- the records by keys
+-- ---- what stands by keys
 
--- the key of a record: the name of its set, or its initial id in four bytes
-abbrev pub key_of : ℕ → DumpRecordFields → List ℕ
-key_of family dump = key_in family dump.set dump.initial
+-- what stands at a place, by a name and by an id
+pub record Filed : Type 0 where
+  pub place : ℕ
+  pub id : ℕ
+  pub name : List ℕ
+  pub key_id : ℕ
 
-abbrev pub stands_by : ℕ → List ℕ → List Entry → List Stand
-stands_by family key entries = map stand_of (filter (λ entry. is_same_text (key_of family entry.dump) key) entries)
+-- its key in a family
+abbrev pub key_of : ℕ → Filed → List ℕ
+key_of family filed = key_in family filed.name filed.key_id
 
--- these records stand in the chains of their keys, and there is room for as many as there are places
-pub record StoresKeys (keys : Keys) (places : ℕ) (entries : List Entry) : Type 0 where
+abbrev pub has_key : ℕ → List ℕ → Filed → Bool
+has_key family key filed = is_same_text (key_of family filed) key
+
+abbrev pub stand_for : Filed → Stand
+stand_for filed = stand_at filed.place filed.id
+
+abbrev pub stands_by : ℕ → List ℕ → List Filed → List Stand
+stands_by family key fs = map stand_for (filter (has_key family key) fs)
+
+-- all of these stand in the chains of their keys, and there is room for as many as there are places
+pub record StoresKeys (keys : Keys) (places : ℕ) (fs : List Filed) : Type 0 where
   pub keeps : KeepsBoth keys
-  pub chains : (family : ℕ) (key : List ℕ) → family < 2 → chain_in keys family key ≡ stands_by family key entries
+  pub chains : (family : ℕ) (key : List ℕ) → family < 2 → chain_in keys family key ≡ stands_by family key fs
   pub rows : places ≤ length keys.arena.rows
   pub room : (family : ℕ) → family < 2 → places ≤ numbers_in (numbering keys family)
+
+-- records stand by the name of their set and by their initial id
+abbrev pub filed_record : Entry → Filed
+filed_record entry = record { place = entry.place; id = entry.dump.id; name = entry.dump.set; key_id = entry.dump.initial }
+
+abbrev pub filed_records : List Entry → List Filed
+filed_records = map filed_record

@@ -1,6 +1,9 @@
 pub mod Stands
 pub mod Chained
 pub mod Entries
+pub mod Frags
+pub mod Linked
 pub mod Keys
 pub mod Stored
 pub mod Keyed
+pub mod Filing

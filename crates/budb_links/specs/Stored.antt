@@ -7,7 +7,8 @@ use Rattle.budb_links.specs.Stands.{Stand}
 use Rattle.budb_links.specs.Chained.{Woven, stand_at, chain_of}
 use Rattle.budb_links.specs.Entries.{Entry, entry_at}
 
-abbrev pub slot_at : List (Option DumpRecordFields) → ℕ → Option DumpRecordFields
+-- what stands at a place, such as a record
+abbrev pub slot_at : {X : Type 0} → List (Option X) → ℕ → Option X
 slot_at slots place = slice_index_or slots place None
 
 -- the number of a record's chain in a family: one chain has all records, and each of 1,024 those of a remainder of ids
@@ -42,8 +43,8 @@ abbrev pub HasPlace : ℕ → List Entry → Type 0
 HasPlace place [] = ⊥
 HasPlace place (entry ∷ entries) = (entry.place ≡ place) ⊎ HasPlace place entries
 
--- the places have no record, and none stands twice
-abbrev pub AreFree : List (Option DumpRecordFields) → List ℕ → Type 0
+-- nothing stands at the places, and none of them is there twice
+abbrev pub AreFree : {X : Type 0} → List (Option X) → List ℕ → Type 0
 AreFree slots [] = Unit {0}
 AreFree slots (place ∷ places) =
     (place < length slots) × (slot_at slots place ≡ None) × AllByRecursion (λ other. other ≢ place) places × AreFree slots places

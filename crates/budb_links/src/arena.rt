@@ -124,6 +124,7 @@ fn set_after<L: Ledger>(
     ensures others { (other : ℕ) → other ≢ family → links_of other rows.new.items ≡ links_of other rows.old.items }
     ensures ends { result ≡ with_first ends place after }
     ensures cost { steps.new ≤ steps.old + 1 }
+    ensures begins { place ≡ None → steps.new ≡ steps.old }
 {
     match place {
         None => Ends {
@@ -230,6 +231,7 @@ impl Arena {
         requires { place < length self.now.rows }
         ensures links { (family : ℕ) → slice_index_or result family no_link ≡ link_at (links_of family self.now.rows) place }
         ensures heads { (family head : ℕ) → Among place (chain_of self.now family head) → (slice_index_or result family no_link).head ≡ head }
+        ensures begins { (family head : ℕ) → first_place (chain_of self.now family head) None ≡ Some place → (slice_index_or result family no_link).before ≡ None }
         ensures cost { steps.new ≡ steps.old + 1 }
     {
         steps.tick();
@@ -283,6 +285,7 @@ impl Arena {
         ensures places { length self.new.rows ≡ length self.old.rows }
         ensures heads { length self.new.ends ≡ length self.old.ends }
         ensures cost { steps.new ≤ steps.old + 2 }
+        ensures begins { link.before ≡ None → steps.new ≤ steps.old + 1 }
     {
         let ends = self.ends[link.head][family];
         let begun = set_after(&mut self.rows, family, ends, link.before, link.after, steps);

@@ -29,7 +29,7 @@ ghost use Rattle.budb_links.specs.declared.arena.TheConstants.{FAMILIES};
 ghost use Rattle.budb_links.specs.Stands.{first_place, Apart, Among, Distinct, place_behind, without_place};
 ghost use Rattle.budb_links.specs.Chained.{chain_of, stand_at, links_of, link_at};
 ghost use Rattle.budb_links.specs.Keys.{numbers_in, number_of};
-ghost use Rattle.budb_links.specs.Keyed.{chain_by, KeepsKeys, KeepsBoth, Gives, chain_in, key_in, key_of, numbering};
+ghost use Rattle.budb_links.specs.Keyed.{chain_by, KeepsKeys, KeepsBoth, Gives, chain_in, key_in, numbering};
 ghost use Rattle.budb_changes.specs.declared.records.DumpRecordFields.{DumpRecordFields};
 
 /// The number of a key; a spare one where it had none.
@@ -97,6 +97,7 @@ fn unlink_from<L: Ledger>(
     ensures places { length arena.new.rows ≡ length arena.old.rows }
     ensures heads { length arena.new.ends ≡ length arena.old.ends }
     ensures cost { steps.new ≤ steps.old + 2 }
+    ensures begins { link.before ≡ None → steps.new ≤ steps.old + 1 }
 {
     arena.cut(family, place, link, steps);
     if arena.first(family, link.head).is_none() {
@@ -125,7 +126,7 @@ pub(crate) fn unlink_keys<L: Ledger>(
     requires there { IsSome taken.now }
     requires keeps { KeepsBoth keys.old }
     requires place_in { place < length keys.old.arena.rows }
-    requires stands { (family : ℕ) (dump : DumpRecordFields) → family < 2 → taken.now ≡ Some dump → Among place (chain_in keys.old family (key_of family dump)) }
+    requires stands { (family : ℕ) (dump : DumpRecordFields) → family < 2 → taken.now ≡ Some dump → Among place (chain_in keys.old family (key_in family dump.set dump.initial)) }
     ensures keeps { KeepsBoth keys.new }
     ensures chains { (family : ℕ) (key : List ℕ) → family < 2 → chain_in keys.new family key ≡ without_place place (chain_in keys.old family key) }
     ensures rows { length keys.new.arena.rows ≡ length keys.old.arena.rows }
@@ -224,6 +225,7 @@ impl Keys {
         ensures rows { length self.new.arena.rows ≡ length self.old.arena.rows }
         ensures room { (family : ℕ) → numbers_in (numbering self.new family) ≡ numbers_in (numbering self.old family) }
         ensures cost { steps.new ≤ steps.old + 5 }
+        ensures begins { first_place (chain_in self.old 1 (to_be_bytes w32 key_id)) None ≡ Some place → steps.new ≤ steps.old + 4 }
     {
         let row = self.arena.look(place, steps);
         unlink_from(

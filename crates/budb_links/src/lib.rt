@@ -2,15 +2,20 @@
 #![tactic(auto)]
 
 mod arena;
+mod frags;
 mod keys;
 mod links;
 mod numbers;
+mod records;
 mod shelf;
 mod spare;
 mod steps;
+mod volumes;
 
+pub use frags::FragPlace;
 pub use links::Links;
 pub use steps::Steps;
+pub use volumes::frag_count;
 
 #[cfg(test)]
 mod tests;

@@ -26,7 +26,7 @@ impl Model for Shelf {
 }
 
 /// Puts so many empty slots at the end.
-fn add_blanks(slots: &mut Vec<Option<DumpRecord>>, count: usize)
+pub(crate) fn add_blanks<T: Drop>(slots: &mut Vec<Option<T>>, count: usize)
     requires { vec_len slots.old + count ≤ vec_capacity slots.old }
     ensures { slots.new.items ≡ slots.old.items ++ replicate count None }
 {

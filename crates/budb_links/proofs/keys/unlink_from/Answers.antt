@@ -1,4 +1,4 @@
-use Rattle.std.proofs.Common.{◌≡◌, ◌≢◌, [], None, sym, ◌∙◌, ap, rules}
+use Rattle.std.proofs.Common.{◌≡◌, ◌≢◌, None, sym, ◌∙◌, ap, rules}
 use Rattle.budb_links.specs.Stands.{first_place}
 use Rattle.budb_links.specs.Chained.{chain_of}
 use Rattle.budb_links.proofs.Unlinking.{Cut}

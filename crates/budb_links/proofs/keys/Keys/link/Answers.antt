@@ -1,7 +1,7 @@
-use Rattle.std.proofs.Common.{zero, suc, ◌++◌, ◌∷◌, [], ℕ, List, cond, ◌∙◌, ap, arith, rules}
+use Rattle.std.proofs.Common.{zero, suc, ◌++◌, ◌∷◌, [], ℕ, List, cond, ◌∙◌, ap, arith}
 use Rattle.bk_text.specs.Blanks.{is_same_text}
 use Rattle.budb_links.specs.Stands.{Stand}
-use Rattle.budb_links.specs.Chained.{chain_of, stand_at}
+use Rattle.budb_links.specs.Chained.{stand_at}
 use Rattle.budb_links.specs.Keys.{number_of}
 use Rattle.budb_links.specs.Keyed.{chain_by, key_in}
 use Rattle.budb_links.proofs.KeyedLaws.{same_at}

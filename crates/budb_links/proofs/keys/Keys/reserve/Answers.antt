@@ -1,4 +1,4 @@
-use Rattle.std.proofs.Common.{length, arith}
+use Rattle.std.proofs.Common.{length}
 use Rattle.budb_links.specs.Keys.{numbers_in}
 use Rattle.budb_links.proofs.KeyedLaws.{same_keeps, grown_numbers, room_from}
 use Rattle.budb_links.proofs.keys.Keys.reserve.Goals as goal

@@ -1,49 +1,79 @@
-use Rattle.std.proofs.Common.{◌≡◌, ◌<◌, ◌≤◌, ◌+◌, ◌-◌, ◌++◌, ℕ, List, Option, None, length, replicate, ◌∙◌, ap, subst, arith}
-use Rattle.std.proofs.lemmas.List.{length-append, length-replicate}
-use Rattle.std.specs.Prelude.{SomeIff}
-use Rattle.budb_changes.specs.declared.records.DumpRecordFields.{DumpRecordFields}
-use Rattle.budb_links.specs.Chained.{chain_of}
-use Rattle.budb_links.specs.Entries.{Linked}
-use Rattle.budb_links.specs.Stored.{entries_of, numbers_from}
-use Rattle.budb_links.proofs.Room.{roomy, numbers_long}
-use Rattle.budb_links.proofs.KeyedStoring.{wider_keys}
+use Rattle.std.proofs.Common.{◌≡◌, ℕ, List, length, refl, ◌∙◌, ap}
+use Rattle.std.specs.Prelude.{Result, Ok, Err, OnErr}
+use Rattle.budb_links.specs.Entries.{Recorded}
+use Rattle.budb_links.specs.Frags.{Placed}
+use Rattle.budb_links.specs.Linked.{Linked}
+use Rattle.budb_links.specs.Filing.{frags_in}
+use Rattle.budb_links.proofs.FragRecords.{roomier_frags}
 use Rattle.budb_links.proofs.links.Links.reserve.Goals as goal
 
-abbrev blanks : ℕ → List (Option DumpRecordFields)
-blanks count = replicate count None
+on_err : {T E P : Type 0} (r : Result T E) → P → OnErr r P
+on_err (Ok x) p = tt
+on_err (Err e) p = p
 
-blanks_long : (count : ℕ) → length (blanks count) ≡ count
-blanks_long count = let none : Option DumpRecordFields = None in length-replicate count none
+abbrev seen : Recorded → List Placed → ℕ → Linked
+seen records frags spare = record { entries = records.entries; frags = frags; spare_records = records.spare_records; spare_frags = spare }
+
+same_seen : (a b : Recorded) (ps qs : List Placed) (m n : ℕ) → a ≡ b → ps ≡ qs → m ≡ n → seen a ps m ≡ seen b qs n
+same_seen a b ps qs m n h k l =
+    ap (λ (r : Recorded). seen r ps m) h ∙ ap (λ (t : List Placed). seen b t m) k ∙ ap (seen b qs) l
+
+pub invariant_of-self : goal.invariant_of-self
+invariant_of-self c =
+    let frags = c.self.inside.frags in
+    let es = c.self.inside.records.entries in
+    let k = roomier_frags frags c.prepare.new.self es es c.self.invariant (c.prepare.ensures.files (frags_in frags.keys es) c.self.invariant.files) refl in
+    k.keeps
+
+pub returns-in_err-prepare-clause-frags : goal.returns-in_err-prepare-clause-frags
+returns-in_err-prepare-clause-frags c =
+    let frags = c.self.inside.frags in
+    let es = c.self.inside.records.entries in
+    let k = roomier_frags frags c.prepare.new.self es es c.self.invariant (c.prepare.ensures.files (frags_in frags.keys es) c.self.invariant.files) refl in
+    k.same ∙ ap (λ (l : Linked). l.frags) c.self.view_is
+
+pub returns-in_err-prepare-clause-err : goal.returns-in_err-prepare-clause-err
+returns-in_err-prepare-clause-err c =
+    let frags = c.self.inside.frags in
+    let records = c.self.inside.records in
+    let es = records.entries in
+    let k = roomier_frags frags c.prepare.new.self es es c.self.invariant (c.prepare.ensures.files (frags_in frags.keys es) c.self.invariant.files) refl in
+    on_err c.from_residual.result (same_seen records records (frags_in c.prepare.new.self.keys es) (frags_in frags.keys es) (length c.prepare.new.self.free.items) (length frags.free.items) refl k.same (ap length c.prepare.ensures.free) ∙ c.self.view_is)
+
+pub invariant_of-self-in_err-reserve : goal.invariant_of-self-in_err-reserve
+invariant_of-self-in_err-reserve c =
+    let frags = c.self.inside.frags in
+    let es = c.self.inside.records.entries in
+    let k = roomier_frags frags c.prepare.new.self es c.reserve.new.self.entries c.self.invariant (c.prepare.ensures.files (frags_in frags.keys es) c.self.invariant.files) c.reserve.ensures.entries in
+    k.keeps
+
+pub returns-in_err-reserve-clause-frags : goal.returns-in_err-reserve-clause-frags
+returns-in_err-reserve-clause-frags c =
+    let frags = c.self.inside.frags in
+    let es = c.self.inside.records.entries in
+    let k = roomier_frags frags c.prepare.new.self es c.reserve.new.self.entries c.self.invariant (c.prepare.ensures.files (frags_in frags.keys es) c.self.invariant.files) c.reserve.ensures.entries in
+    k.same ∙ ap (λ (l : Linked). l.frags) c.self.view_is
+
+pub returns-in_err-reserve-clause-err : goal.returns-in_err-reserve-clause-err
+returns-in_err-reserve-clause-err c =
+    let frags = c.self.inside.frags in
+    let records = c.self.inside.records in
+    let es = records.entries in
+    let k = roomier_frags frags c.prepare.new.self es c.reserve.new.self.entries c.self.invariant (c.prepare.ensures.files (frags_in frags.keys es) c.self.invariant.files) c.reserve.ensures.entries in
+    on_err c.from_residual-in_err-reserve.result (same_seen c.reserve.new.self records (frags_in c.prepare.new.self.keys c.reserve.new.self.entries) (frags_in frags.keys es) (length c.prepare.new.self.free.items) (length frags.free.items) c.in_err-reserve.ensures.err k.same (ap length c.prepare.ensures.free) ∙ c.self.view_is)
 
 pub invariant_of-self-2 : goal.invariant_of-self-2
 invariant_of-self-2 c =
-    let count = c.args.records - c.len-spare.result in
-    let parts = subst (λ (o : Option ℕ). SomeIff o (c.places-first.result + count < 18446744073709551616) (c.places-first.result + count)) c.in_ok-total.ensures.ok_part c.checked_add.ensures in
-    let enough : length c.self.inside.shelf + count ≤ length c.reserve.new.self.rows = omega (arith, parts, c.in_ok-reserve.ensures.places, c.places-first.ensures) in
-    let heads : 1024 ≤ length c.reserve.new.self.ends = omega (arith, c.in_ok-reserve.ensures.heads) in
-    let free = c.add_free.ensures.items ∙ ap (λ (t : List ℕ). t ++ numbers_from c.places-first.result count) c.reserve-2.ensures.items in
-    let made = roomy c.self.inside.arena c.reserve.new.self c.self.inside.shelf c.grow.new.self c.self.inside.free.items c.add_free.new.free.items (entries_of c.self.inside.shelf (chain_of c.self.inside.arena 0 0)) c.places-first.result count c.self.invariant.0 c.reserve.ensures.chains c.reserve.ensures.kept_places c.reserve.ensures.kept_heads enough heads c.places-first.ensures c.in_ok-grow.ensures.ok free in
-    let long = ap length c.in_ok-grow.ensures.ok ∙ length-append c.self.inside.shelf (blanks count) in
-    let more = blanks_long count in
-    let es = entries_of c.self.inside.shelf (chain_of c.self.inside.arena 0 0) in
-    let places : length c.grow.new.self ≡ c.places-first.result + count = omega (arith, long, more, c.places-first.ensures) in
-    let keys = wider_keys c.self.inside.keys c.reserve-3.new.self (length c.self.inside.shelf) (length c.grow.new.self) es (entries_of c.grow.new.self (chain_of c.reserve.new.self 0 0)) c.self.invariant.2 c.reserve-3.ensures.keeps c.reserve-3.ensures.chains (omega (arith, places, parts, c.in_ok-reserve-3.ensures.rows)) (λ family h. omega (arith, places, parts, c.in_ok-reserve-3.ensures.room family)) made.same in
-    (made.stores, omega (arith, long, more, parts, c.places-first.ensures, c.add_free.ensures.capacity, c.in_ok-reserve-2.ensures.ok), keys)
+    let frags = c.self.inside.frags in
+    let es = c.self.inside.records.entries in
+    let ps = frags_in frags.keys es in
+    let k = roomier_frags frags c.widen.new.self es c.reserve.new.self.entries c.self.invariant (c.widen.ensures.files ps (c.prepare.ensures.files ps c.self.invariant.files)) c.reserve.ensures.entries in
+    k.keeps
 
-pub returns-clause-entries : goal.returns-clause-entries
-returns-clause-entries c =
-    let count = c.args.records - c.len-spare.result in
-    let parts = subst (λ (o : Option ℕ). SomeIff o (c.places-first.result + count < 18446744073709551616) (c.places-first.result + count)) c.in_ok-total.ensures.ok_part c.checked_add.ensures in
-    let enough : length c.self.inside.shelf + count ≤ length c.reserve.new.self.rows = omega (arith, parts, c.in_ok-reserve.ensures.places, c.places-first.ensures) in
-    let heads : 1024 ≤ length c.reserve.new.self.ends = omega (arith, c.in_ok-reserve.ensures.heads) in
-    let free = c.add_free.ensures.items ∙ ap (λ (t : List ℕ). t ++ numbers_from c.places-first.result count) c.reserve-2.ensures.items in
-    let made = roomy c.self.inside.arena c.reserve.new.self c.self.inside.shelf c.grow.new.self c.self.inside.free.items c.add_free.new.free.items (entries_of c.self.inside.shelf (chain_of c.self.inside.arena 0 0)) c.places-first.result count c.self.invariant.0 c.reserve.ensures.chains c.reserve.ensures.kept_places c.reserve.ensures.kept_heads enough heads c.places-first.ensures c.in_ok-grow.ensures.ok free in
-    made.same ∙ ap (λ (l : Linked). l.entries) c.self.view_is
-
-pub returns-clause-ok : goal.returns-clause-ok
-returns-clause-ok c =
-    let count = c.args.records - c.len-spare.result in
-    let long = ap length c.add_free.ensures.items ∙ length-append c.reserve-2.new.self.items (numbers_from c.places-first.result count) in
-    let more = numbers_long c.places-first.result count in
-    let same = ap length c.reserve-2.ensures.items in
-    omega (arith, long, more, same, c.len-spare.ensures, c.self.inside.free.ok.0)
+pub returns-clause-frags : goal.returns-clause-frags
+returns-clause-frags c =
+    let frags = c.self.inside.frags in
+    let es = c.self.inside.records.entries in
+    let ps = frags_in frags.keys es in
+    let k = roomier_frags frags c.widen.new.self es c.reserve.new.self.entries c.self.invariant (c.widen.ensures.files ps (c.prepare.ensures.files ps c.self.invariant.files)) c.reserve.ensures.entries in
+    k.same ∙ ap (λ (l : Linked). l.frags) c.self.view_is

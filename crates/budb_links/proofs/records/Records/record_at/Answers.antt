@@ -1,13 +1,13 @@
 use Rattle.std.proofs.Common.{◌∙◌, ap}
 use Rattle.budb_links.specs.Chained.{chain_of}
-use Rattle.budb_links.specs.Entries.{Linked, record_at}
+use Rattle.budb_links.specs.Entries.{Recorded, record_at}
 use Rattle.budb_links.specs.Stored.{entries_of}
 use Rattle.budb_links.proofs.Storing.{record_at_slot}
-use Rattle.budb_links.proofs.links.Links.record_at.Goals as goal
+use Rattle.budb_links.proofs.records.Records.record_at.Goals as goal
 
 pub returns-clause-record : goal.returns-clause-record
 returns-clause-record g c =
     let arena = c.self.inside.arena in
     let slots = c.self.inside.shelf in
     let here = record_at_slot arena slots c.self.inside.free.items (entries_of slots (chain_of arena 0 0)) c.args.at c.self.invariant.0 in
-    c.get.ensures.value ∙ here ∙ ap (λ (l : Linked). record_at c.args.at l.entries) c.self.view_is
+    c.get.ensures.value ∙ here ∙ ap (λ (l : Recorded). record_at c.args.at l.entries) c.self.view_is

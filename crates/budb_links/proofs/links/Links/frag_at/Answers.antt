@@ -1,0 +1,12 @@
+use Rattle.std.proofs.Common.{◌∙◌, ap}
+use Rattle.budb_links.specs.Frags.{frag_at}
+use Rattle.budb_links.specs.Linked.{Linked}
+use Rattle.budb_links.specs.Filing.{frags_in}
+use Rattle.budb_links.proofs.FragStoring.{mark_is}
+use Rattle.budb_links.proofs.links.Links.frag_at.Goals as goal
+
+pub returns-clause-frag : goal.returns-clause-frag
+returns-clause-frag g c =
+    c.mark.ensures
+    ∙ mark_is c.self.inside.frags (frags_in c.self.inside.frags.keys c.self.inside.records.entries) c.args.at c.self.invariant.files
+    ∙ ap (λ (l : Linked). frag_at c.args.at l.frags) c.self.view_is
