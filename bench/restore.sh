@@ -1,0 +1,79 @@
+#!/usr/bin/env bash
+# Times the restore of 1 GiB in four volumes from one tape by `afsbackup run` in a folder, beside `cp` of the same bytes with as many
+# syncs, in one run, in MB/s, and tells the peak memory; and a restore along a chain of ten increments beside one of the full dump
+# alone. The first argument is the program. The folders are made in the one that TMPDIR names.
+set -eu
+program=$(realpath "${1:-./afsbackup}")
+here=$(cd "$(dirname "$0")" && pwd)
+folder=$(mktemp -d)
+trap 'rm -rf "$folder"' EXIT
+PYTHONPATH="$here" PYTHONDONTWRITEBYTECODE=1 python3 - "$program" "$folder" <<'P'
+import os, shutil, subprocess, sys, time
+from folder import DUMP, FILES, PREPARED, VOLUMES, gigabyte, image, new_folder, run, sync, write_volume
+
+program, place = sys.argv[1:]
+first, names, bytes_of = gigabyte(program, place)
+run(program, first, [DUMP])
+
+def by_program():
+    taken, told, peak = run(program, first, ["volsetrestore -name bench -extension .r"])
+    assert told.count("restored ") == VOLUMES, told
+    for name in names:
+        os.remove(image(first, name + ".r"))
+    return taken, peak
+
+# Each image is synced, and its folder.
+def by_cp():
+    copies = [os.path.join(place, "copy%d" % count) for count in range(VOLUMES)]
+    start = time.monotonic()
+    for name, copy in zip(names, copies):
+        subprocess.run(["cp", image(first, name), copy], check=True)
+        sync(copy)
+        handle = os.open(place, os.O_RDONLY)
+        os.fsync(handle)
+        os.close(handle)
+    taken = time.monotonic() - start
+    for copy in copies:
+        os.remove(copy)
+    return taken
+
+copies, runs, peaks = [], [], []
+for number in range(3):
+    copies.append(by_cp())
+    taken, peak = by_program()
+    runs.append(taken)
+    peaks.append(peak)
+print("cp       %8.0f MB/s" % (bytes_of / min(copies) / 1e6))
+print("restore  %8.0f MB/s" % (bytes_of / min(runs) / 1e6))
+print("ratio    %8.2f" % (min(copies) / min(runs)))
+print("peak     %8.2f times a volume" % (max(peaks) / (bytes_of / VOLUMES)))
+shutil.rmtree(first)
+
+# ten increments, each of which changes one file of 64
+LEVELS = ["/full"] + ["/full" + "".join("/d%d" % k for k in range(1, depth + 1)) for depth in range(1, 11)]
+chain = os.path.join(place, "chain")
+new_folder(chain, 11)
+write_volume(image(chain, "b0"), b"b0", 536870912, FILES)
+run(program, chain, PREPARED[:3] + ["adddump -dump " + " ".join(LEVELS)])
+run(program, chain, [DUMP])
+for depth in range(1, 11):
+    time.sleep(1.1)
+    run(program, chain, ["vos write -volume b0 -vnode %d -size 4194304" % (2 * depth), "dump -volumeset bench -dump " + LEVELS[depth]])
+_, told, _ = run(program, chain, ["volinfo -volume b0"])
+full = int(told.strip().split("\n")[-2].split()[1])
+
+def restored(database):
+    taken = []
+    for number in range(3):
+        seconds, told, _ = run(program, chain, ["volrestore -server fs1 -partition vicepa -volume b0 -extension .r"])
+        assert database in told, told
+        os.remove(image(chain, "b0.r"))
+        taken.append(seconds)
+    return min(taken)
+
+along = restored("chain 11")
+for line in told.strip().split("\n")[:-2]:
+    run(program, chain, ["deletedump -dumpid " + line.split()[1]])
+alone = restored("chain 1")
+print("a chain of ten increments takes %.2f times as long as its full dump alone" % (along / alone))
+P
