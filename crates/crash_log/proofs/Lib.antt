@@ -5,6 +5,7 @@ pub mod Fitting
 mod Formatting
 mod Front
 mod Naming
+mod Numbers
 mod OpenedLemmas
 mod Opening
 pub mod Reading

@@ -9,6 +9,7 @@ ghost use Rattle.crash_log.specs.Fit.{as_read};
 ghost use Rattle.crash_log.specs.Opened.{IsSlot, IsOpened, opened_state, stale_where};
 
 use crate::state::{LogState, MOST_SIZE, MOST_START, Needs, OPEN, SLOT, SLOTS, following};
+use byteorder::{BigEndian, ByteOrder};
 use media_core::{Failed, Media};
 
 /// What a slot says: whether its gate is 1, and its fields.
@@ -21,13 +22,12 @@ pub struct Slot {
 }
 
 /// A number of eight bytes, the highest first.
+#[tactic(auto, using(crate::proofs::Numbers::big_eight))]
 fn number(bytes: &[u8]) -> u64
     requires { length bytes.now ≡ 8 }
     ensures { result ≡ from_be_bytes w64 bytes.now }
 {
-    u64::from_be_bytes([
-        bytes[0], bytes[1], bytes[2], bytes[3], bytes[4], bytes[5], bytes[6], bytes[7],
-    ])
+    BigEndian::read_u64(bytes)
 }
 
 /// A slot of its bytes.

@@ -1,5 +1,6 @@
 // The other slot becomes the current one: it is closed, gets its fields, and is opened, each with a sync.
 ghost use Rattle.std.specs.Prelude.{◌≡◌, ◌+◌, ◌^◌, ◌<◌, ◌≤◌, List, ℕ, length, OnOk, IsTrue};
+ghost use Rattle.std.specs.Int.{w64, to_be_bytes};
 ghost use Rattle.crash_moments.specs.Moments.{Leads, HasCause};
 ghost use Rattle.media_core.specs.Media.{Image, AtFile, Holds, Torn};
 ghost use Rattle.crash_log.specs.Log.{place_of, span, IsFine, HasLog, HasOneOf, Any, successor};
@@ -9,15 +10,25 @@ ghost use Rattle.crash_log.specs.Turn.{IsClosed, IsNext, IsNamed};
 
 use crate::settle::settle;
 use crate::state::{CLOSED, LogState, OPEN, SLOT, following};
+use byteorder::{BigEndian, ByteOrder};
 use media_core::{Failed, Media};
+
+/// The eight bytes of a number, the highest first.
+fn bytes_of(number: u64) -> [u8; 8]
+    ensures { result ≡ to_be_bytes w64 number }
+{
+    let mut bytes = [0; 8];
+    BigEndian::write_u64(&mut bytes, number);
+    bytes
+}
 
 /// The bytes of a slot behind its gate.
 pub fn fields(turn: u8, start: u64, size: u64) -> [u8; 23]
     ensures place { place_of result ≡ record { turn = turn; start = start; size = size } }
     ensures length { length result ≡ 23 }
 {
-    let s = start.to_be_bytes();
-    let n = size.to_be_bytes();
+    let s = bytes_of(start);
+    let n = bytes_of(size);
     [
         turn, 0, 0, 0, 0, 0, 0, s[0], s[1], s[2], s[3], s[4], s[5], s[6], s[7], n[0], n[1], n[2],
         n[3], n[4], n[5], n[6], n[7],

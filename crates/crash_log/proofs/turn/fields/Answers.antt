@@ -7,8 +7,8 @@ use Rattle.crash_log.proofs.turn.fields.Goals as goal
 pub returns-clause-place : goal.returns-clause-place
 unfolding place_of
 returns-clause-place c =
-    let a = c.to_be_bytes-s.ensures in
-    let b = c.to_be_bytes-n.ensures in
-    let s : from_be_bytes w64 c.to_be_bytes-s.result ≡ c.args.start = ap (from_be_bytes w64) a ∙ from_be_bytes-to_be_bytes_8 c.args.start (omega arith) in
-    let n : from_be_bytes w64 c.to_be_bytes-n.result ≡ c.args.size = ap (from_be_bytes w64) b ∙ from_be_bytes-to_be_bytes_8 c.args.size (omega arith) in
+    let a = c.bytes_of-s.ensures in
+    let b = c.bytes_of-n.ensures in
+    let s : from_be_bytes w64 c.bytes_of-s.result ≡ c.args.start = ap (from_be_bytes w64) a ∙ from_be_bytes-to_be_bytes_8 c.args.start (omega arith) in
+    let n : from_be_bytes w64 c.bytes_of-n.result ≡ c.args.size = ap (from_be_bytes w64) b ∙ from_be_bytes-to_be_bytes_8 c.args.size (omega arith) in
     λ i. record { turn = c.args.turn; start = s i; size = n i }
