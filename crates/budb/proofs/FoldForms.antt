@@ -1,5 +1,5 @@
 -- The database of a log that has bytes: what it holds has the forms of changes, so that the list of a checkpoint has bytes too.
-use Rattle.std.proofs.Common.{◌≡◌, zero, suc, ℕ, ◌+◌, ◌-◌, ◌≤◌, List, [], ◌∷◌, ◌++◌, length, take, drop, Bool, true, false, not, refl, arith}
+use Rattle.std.proofs.Common.{◌≡◌, suc, ℕ, ◌+◌, ◌-◌, ◌≤◌, List, [], ◌∷◌, ◌++◌, length, take, drop, Bool, true, false, not, refl, arith}
 use Rattle.std.specs.Prelude.{All, map, max, nat_lt, nat_le, ◌==◌, ◌&&◌, if◌then◌else◌, Option, Some, None, Result, Ok, Err, IfOk}
 use Rattle.std.specs.Option.{unwrap_or}
 use Rattle.std.specs.List.{filter, flat_map, remove}
@@ -13,7 +13,8 @@ use Rattle.volume_sets.specs.declared.sets.SetEntry.{SetEntry}
 use Rattle.volume_sets.specs.declared.sets.VolumeSet.{VolumeSet}
 use Rattle.volume_sets.specs.declared.sets.SetsFault.{SetsFault}
 use Rattle.volume_sets.specs.declared.sets.SetsFault.TheVariants.{SetExists, NoSuchSet, NoSuchEntry}
-use Rattle.volume_sets.specs.Sets.{has_set, place_of, entries_at, with_entries_at, after_add as after_add_set, after_remove as after_remove_set, after_add_entry, after_remove_entry}
+use Rattle.volume_sets.specs.Sets.{has_set, entries_under, with_entries, without_set, after_add as after_add_set, after_remove as after_remove_set, after_add_entry, after_remove_entry}
+use Rattle.volume_sets.proofs.EachSet.{all_with, all_without, all_under}
 use Rattle.dump_levels.specs.declared.levels.Level.{Level}
 use Rattle.dump_levels.specs.declared.levels.LevelFault.{LevelFault}
 use Rattle.dump_levels.specs.declared.levels.LevelFault.TheVariants.{LevelExists, NoParentLevel, NoSuchLevel}
@@ -53,15 +54,11 @@ pub record HasForms (db : Database) : Type 0 where
 all_removed : {X : Type 0} (P : X → Type 0) (xs : List X) (k : ℕ) → All P xs → All P (remove xs k)
 all_removed P xs k all = All-append P (take k xs) (drop (suc k) xs) (All-take P k xs all) (All-drop P (suc k) xs all)
 
-entries_form : (sets : List VolumeSet) (k : ℕ) → All IsSetForm sets → All IsEntryForm (entries_at k sets)
-entries_form [] k all = All-nil IsEntryForm
-entries_form (s ∷ sets) zero all = (All-head IsSetForm s sets all).1
-entries_form (s ∷ sets) (suc k) all = entries_form sets k (All-tail IsSetForm s sets all)
+entries_form : (name : List ℕ) (sets : List VolumeSet) → All IsSetForm sets → All IsEntryForm (entries_under name sets)
+entries_form name sets all = all_under IsSetForm IsEntryForm (λ set form. form.1) name sets all
 
-with_form : (sets : List VolumeSet) (k : ℕ) (entries : List SetEntry) → All IsSetForm sets → All IsEntryForm entries → All IsSetForm (with_entries_at k entries sets)
-with_form [] k entries all each = All-nil IsSetForm
-with_form (s ∷ sets) zero entries all each = All-cons IsSetForm (record { name = s.name; entries = entries }) sets ((All-head IsSetForm s sets all).0, each) (All-tail IsSetForm s sets all)
-with_form (s ∷ sets) (suc k) entries all each = All-cons IsSetForm s (with_entries_at k entries sets) (All-head IsSetForm s sets all) (with_form sets k entries (All-tail IsSetForm s sets all) each)
+with_form : (name : List ℕ) (entries : List SetEntry) (sets : List VolumeSet) → All IsSetForm sets → All IsEntryForm entries → All IsSetForm (with_entries name entries sets)
+with_form name entries sets all each = all_with IsSetForm name entries sets (λ set form. (form.0, each)) all
 
 module _ (sets : List VolumeSet) (all : All IsSetForm sets) where
   set_added : (name : List ℕ) → IsSetName name → IfOk (after_add_set name sets) (All IsSetForm)
@@ -74,22 +71,22 @@ module _ (sets : List VolumeSet) (all : All IsSetForm sets) where
   set_removed : (name : List ℕ) → IfOk (after_remove_set name sets) (All IsSetForm)
   set_removed name = go (has_set name sets)
     where
-      go : (b : Bool) → IfOk (if b then Ok (remove sets (place_of name sets)) else Err NoSuchSet) (All IsSetForm)
-      go true = all_removed IsSetForm sets (place_of name sets) all
+      go : (b : Bool) → IfOk (if b then Ok (without_set name sets) else Err NoSuchSet) (All IsSetForm)
+      go true = all_without IsSetForm name sets all
       go false = tt
 
   entry_added : (name : List ℕ) (entry : SetEntry) → IsEntryForm entry → IfOk (after_add_entry name entry sets) (All IsSetForm)
   entry_added name entry form = go (has_set name sets)
     where
-      go : (b : Bool) → IfOk (if b then Ok (with_entries_at (place_of name sets) (entries_at (place_of name sets) sets ++ entry ∷ []) sets) else Err NoSuchSet) (All IsSetForm)
-      go true = with_form sets (place_of name sets) (entries_at (place_of name sets) sets ++ entry ∷ []) all (All-push IsEntryForm (entries_at (place_of name sets) sets) entry (entries_form sets (place_of name sets) all) form)
+      go : (b : Bool) → IfOk (if b then Ok (with_entries name (entries_under name sets ++ entry ∷ []) sets) else Err NoSuchSet) (All IsSetForm)
+      go true = with_form name (entries_under name sets ++ entry ∷ []) sets all (All-push IsEntryForm (entries_under name sets) entry (entries_form name sets all) form)
       go false = tt
 
   entry_removed : (name : List ℕ) (number : ℕ) → IfOk (after_remove_entry name number sets) (All IsSetForm)
-  entry_removed name number = go (has_set name sets) (nat_lt 0 number && nat_le number (length (entries_at (place_of name sets) sets)))
+  entry_removed name number = go (has_set name sets) (nat_lt 0 number && nat_le number (length (entries_under name sets)))
     where
-      go : (b t : Bool) → IfOk (if b then (if t then Ok (with_entries_at (place_of name sets) (remove (entries_at (place_of name sets) sets) (number - 1)) sets) else Err NoSuchEntry) else Err NoSuchSet) (All IsSetForm)
-      go true true = with_form sets (place_of name sets) (remove (entries_at (place_of name sets) sets) (number - 1)) all (all_removed IsEntryForm (entries_at (place_of name sets) sets) (number - 1) (entries_form sets (place_of name sets) all))
+      go : (b t : Bool) → IfOk (if b then (if t then Ok (with_entries name (remove (entries_under name sets) (number - 1)) sets) else Err NoSuchEntry) else Err NoSuchSet) (All IsSetForm)
+      go true true = with_form name (remove (entries_under name sets) (number - 1)) sets all (all_removed IsEntryForm (entries_under name sets) (number - 1) (entries_form name sets all))
       go true false = tt
       go false t = tt
 

@@ -1,7 +1,7 @@
 -- Each element of a list, with those that stand before it.
 use Rattle.std.proofs.Common.{zero, suc, ◌≡◌, ℕ, List, [], ◌∷◌, ◌++◌, take, Bool, true, false, cond, refl, sym, ◌∙◌, ap, subst, append_assoc}
 use Rattle.std.specs.Prelude.{◌||◌, All, map, filter, slice_get, Some}
-use Rattle.std.specs.List.{list_any, remove, IsDistinct}
+use Rattle.std.specs.List.{list_any, IsDistinct}
 use Rattle.std.specs.Cmp.{IsEquivalence}
 use Rattle.std.proofs.lemmas.Bool.{or_parts, or_from}
 use Rattle.std.proofs.lemmas.List.{append-nil, map-append}
@@ -27,12 +27,6 @@ module _ {X : Type 0} (Is : List X → X → Type 0) where
     subst (λ (l : List X). Is l y) (append-nil less) (weak [] y (subst (λ (l : List X). Is l y) (sym (append-nil before)) all.0)),
     behind_less (before ++ y ∷ []) (less ++ y ∷ []) ys (λ c x is. subst (λ (l : List X). Is l x) (sym (append_assoc less (y ∷ []) c)) (weak (y ∷ c) x (subst (λ (l : List X). Is l x) (append_assoc before (y ∷ []) c) is))) all.1,
   )
-
-  pub behind_remove : ((b c : List X) (y x : X) → Is ((b ++ y ∷ []) ++ c) x → Is (b ++ c) x) → (before xs : List X) (k : ℕ) → Behind Is before xs → Behind Is before (remove xs k)
-  behind_remove weak before [] zero all = tt
-  behind_remove weak before [] (suc k) all = tt
-  behind_remove weak before (y ∷ ys) zero all = behind_less (before ++ y ∷ []) before ys (λ c x is. weak before c y x is) all.1
-  behind_remove weak before (y ∷ ys) (suc k) all = (all.0, behind_remove weak (before ++ y ∷ []) ys k all.1)
 
   pub behind_filter : (p : X → Bool) → ((b : List X) (x : X) → Is b x → p x ≡ true → Is (filter p b) x) → (before xs : List X) → Behind Is before xs → Behind Is (filter p before) (filter p xs)
   behind_filter p keep before [] all = tt

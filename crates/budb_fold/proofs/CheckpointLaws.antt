@@ -1,5 +1,5 @@
 -- The changes of a checkpoint make the same database.
-use Rattle.std.proofs.Common.{suc, ◌≡◌, ℕ, ◌+◌, ◌≤◌, List, [], ◌∷◌, ◌++◌, length, Bool, true, false, not, refl, sym, ◌∙◌, ap, arith, append_assoc}
+use Rattle.std.proofs.Common.{suc, ◌≡◌, ℕ, ◌+◌, ◌≤◌, List, [], ◌∷◌, ◌++◌, length, Bool, true, false, not, refl, sym, ◌∙◌, ap, arith, append_assoc, Option, is_some}
 use Rattle.std.specs.Prelude.{All, map, max, ◌==◌, ◌||◌, if◌then◌else◌, Some, None, Result, Ok, Err}
 use Rattle.std.specs.List.{list_any, flat_map}
 use Rattle.std.specs.Option.{unwrap_or}
@@ -7,12 +7,14 @@ use Rattle.std.proofs.lemmas.Bool.{or_parts, eqb-true}
 use Rattle.std.proofs.lemmas.List.{append-nil}
 use Rattle.std.proofs.lemmas.List.Elements.{All-head, All-tail}
 use Rattle.std.proofs.lemmas.Cmp.{nat_list_eq_equiv}
+use Rattle.bk_text.specs.Blanks.{is_same_text}
 use Rattle.volume_sets.specs.Testing.{is_pattern}
 use Rattle.volume_sets.specs.declared.sets.SetEntry.{SetEntry}
 use Rattle.volume_sets.specs.declared.sets.VolumeSet.{VolumeSet}
 use Rattle.volume_sets.specs.declared.sets.SetsFault.{SetsFault}
 use Rattle.volume_sets.specs.declared.sets.SetsFault.TheVariants.{SetExists, NoSuchSet}
-use Rattle.volume_sets.specs.Sets.{is_named, place_of, has_set, entries_at, with_entries_at, after_add_entry}
+use Rattle.volume_sets.specs.Sets.{entries_of, with_entries, after_add_entry}
+use Rattle.volume_sets.proofs.EachSet.{with_first, with_behind}
 use Rattle.dump_levels.specs.declared.levels.Level.{Level}
 use Rattle.dump_levels.specs.declared.levels.LevelFault.TheVariants.{LevelExists, NoParentLevel}
 use Rattle.dump_levels.specs.Elements.{path_above}
@@ -26,7 +28,7 @@ use Rattle.budb_fold.specs.Database.{has_port, fits_record, with_sets, with_leve
 use Rattle.budb_fold.specs.Checkpoints.{entry_change, set_changes, level_change, host_change, begin_changes, checkpoint}
 use Rattle.budb_fold.proofs.Folds.{fold_more}
 use Rattle.budb_fold.proofs.Behind.{Behind}
-use Rattle.budb_fold.proofs.SetKeeps.{IsNextSet, HasPatternEntry, HasPatternEntries, has_set_any}
+use Rattle.budb_fold.proofs.SetKeeps.{is_named, IsNextSet, HasPatternEntry, HasPatternEntries, has_set_any}
 use Rattle.budb_fold.proofs.LevelKeeps.{IsNextLevel}
 use Rattle.budb_fold.proofs.FoldKeeps.{Kept, IsNextHost, IsNextDump}
 
@@ -37,44 +39,29 @@ left sets = Ok sets
 -- ---- entries of the set that stands last
 
 module _ (s : VolumeSet) where
-  own_name : is_named s.name s ≡ true
+  own_name : is_same_text s.name s.name ≡ true
   own_name = nat_list_eq_equiv.refl s.name
 
-  last_place : (before : List VolumeSet) → list_any (is_named s.name) before ≡ false → place_of s.name (before ++ s ∷ []) ≡ length before
-  last_place [] none = ap (λ (t : Bool). if not t then 1 else 0) own_name
-  last_place (b ∷ before) none =
+  -- a set before it has another name
+  apart : (b : VolumeSet) → is_named s.name b ≡ false → is_same_text s.name b.name ≡ false
+  apart b other = nat_list_eq_equiv.symm s.name b.name ∙ other
+
+  last_entries : (before : List VolumeSet) → list_any (is_named s.name) before ≡ false → entries_of s.name (before ++ s ∷ []) ≡ Some s.entries
+  last_entries [] none = ap (λ (t : Bool). if t then Some s.entries else None) own_name
+  last_entries (b ∷ before) none =
       let parts = or_parts (is_named s.name b) (list_any (is_named s.name) before) none in
-      ap (λ (t : Bool). if not t then 1 + place_of s.name (before ++ s ∷ []) else 0) parts.0 ∙ ap (λ (n : ℕ). 1 + n) (last_place before parts.1) ∙ one_more (length before)
-    where
-      one_more : (n : ℕ) → 1 + n ≡ suc n
-      one_more n = omega arith
+      ap (λ (t : Bool). if t then Some b.entries else entries_of s.name (before ++ s ∷ [])) (apart b parts.0) ∙ last_entries before parts.1
 
-  there : (before : List VolumeSet) → has_set s.name (before ++ s ∷ []) ≡ true
-  there before = has_set_any s.name (before ++ s ∷ []) ∙ go before
-    where
-      go : (bs : List VolumeSet) → list_any (is_named s.name) (bs ++ s ∷ []) ≡ true
-      go [] = ap (λ (t : Bool). t || false) own_name
-      go (b ∷ bs) = go_on (is_named s.name b) (go bs)
-        where
-          go_on : (t : Bool) → list_any (is_named s.name) (bs ++ s ∷ []) ≡ true → (t || list_any (is_named s.name) (bs ++ s ∷ [])) ≡ true
-          go_on true rest = refl
-          go_on false rest = rest
-
-  last_entries : (before : List VolumeSet) → entries_at (length before) (before ++ s ∷ []) ≡ s.entries
-  last_entries [] = refl
-  last_entries (b ∷ before) = last_entries before
-
-  last_with : (before : List VolumeSet) (entries : List SetEntry) → with_entries_at (length before) entries (before ++ s ∷ []) ≡ before ++ record { name = s.name; entries = entries } ∷ []
-  last_with [] entries = refl
-  last_with (b ∷ before) entries = ap (λ (l : List VolumeSet). b ∷ l) (last_with before entries)
+  last_with : (before : List VolumeSet) (entries : List SetEntry) → list_any (is_named s.name) before ≡ false → with_entries s.name entries (before ++ s ∷ []) ≡ before ++ record { name = s.name; entries = entries } ∷ []
+  last_with [] entries none = with_first s.name entries s [] own_name
+  last_with (b ∷ before) entries none =
+      let parts = or_parts (is_named s.name b) (list_any (is_named s.name) before) none in
+      with_behind s.name entries b (before ++ s ∷ []) (apart b parts.0) ∙ ap (λ (l : List VolumeSet). b ∷ l) (last_with before entries parts.1)
 
   one_entry : (before : List VolumeSet) (entry : SetEntry) → list_any (is_named s.name) before ≡ false → after_add_entry s.name entry (before ++ s ∷ []) ≡ Ok (before ++ record { name = s.name; entries = s.entries ++ entry ∷ [] } ∷ [])
   one_entry before entry none =
-      let place : place_of s.name (before ++ s ∷ []) ≡ length before = last_place before none in
-      ap (λ (t : Bool). if t then left (with_entries_at (place_of s.name (before ++ s ∷ [])) (entries_at (place_of s.name (before ++ s ∷ [])) (before ++ s ∷ []) ++ entry ∷ []) (before ++ s ∷ [])) else Err NoSuchSet) (there before)
-      ∙ ap (λ (n : ℕ). left (with_entries_at n (entries_at n (before ++ s ∷ []) ++ entry ∷ []) (before ++ s ∷ []))) place
-      ∙ ap (λ (l : List SetEntry). left (with_entries_at (length before) (l ++ entry ∷ []) (before ++ s ∷ []))) (last_entries before)
-      ∙ ap left (last_with before (s.entries ++ entry ∷ []))
+      ap (λ (o : Option (List SetEntry)). if is_some o then left (with_entries s.name (unwrap_or o [] ++ entry ∷ []) (before ++ s ∷ [])) else Err NoSuchSet) (last_entries before none)
+      ∙ ap left (last_with before (s.entries ++ entry ∷ []) none)
 
 abbrev with_set : Database → List VolumeSet → List ℕ → List SetEntry → Database
 with_set db before name entries = record db { sets = before ++ record { name = name; entries = entries } ∷ [] }

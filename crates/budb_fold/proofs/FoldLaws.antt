@@ -11,7 +11,7 @@ use Rattle.bk_text.specs.Patterns.{IsPattern}
 use Rattle.volume_sets.specs.Testing.{is_pattern}
 use Rattle.volume_sets.specs.declared.sets.VolumeSet.{VolumeSet}
 use Rattle.volume_sets.specs.declared.sets.SetsFault.TheVariants.{NoSuchSet}
-use Rattle.volume_sets.specs.Sets.{place_of, has_set, entries_at, with_entries_at}
+use Rattle.volume_sets.specs.Sets.{has_set, entries_under, with_entries}
 use Rattle.dump_levels.specs.declared.levels.Level.{Level}
 use Rattle.bk_text.specs.Blanks.{is_same_text}
 use Rattle.dump_levels.specs.Trees.{is_level}
@@ -74,7 +74,7 @@ entry_passes false h db left is there = absurd (cc)
 
 pub entry_fits : ((text : List ℕ) → IsTrue (is_pattern text) ↔ IsPattern text) → (set : List ℕ) (server partition : Option (List ℕ)) (pattern : List ℕ) (db : Database) → (fits (AddEntry set server partition pattern) db ≡ true) ↔ (IsPattern pattern × (has_set set db.sets ≡ true))
 entry_fits test set server partition pattern db =
-    let left : List VolumeSet = with_entries_at (place_of set db.sets) (entries_at (place_of set db.sets) db.sets ++ entry_of server partition pattern ∷ []) db.sets in (
-      (λ fit. (let both = entry_test (is_pattern pattern) (has_set set db.sets) db (with_entries_at (place_of set db.sets) (entries_at (place_of set db.sets) db.sets ++ entry_of server partition pattern ∷ []) db.sets) fit in ((test pattern).0 both.0, both.1))),
-      (λ (form, there). entry_passes (is_pattern pattern) (has_set set db.sets) db (with_entries_at (place_of set db.sets) (entries_at (place_of set db.sets) db.sets ++ entry_of server partition pattern ∷ []) db.sets) ((test pattern).1 form) there),
+    let left : List VolumeSet = with_entries set (entries_under set db.sets ++ entry_of server partition pattern ∷ []) db.sets in (
+      (λ fit. (let both = entry_test (is_pattern pattern) (has_set set db.sets) db (with_entries set (entries_under set db.sets ++ entry_of server partition pattern ∷ []) db.sets) fit in ((test pattern).0 both.0, both.1))),
+      (λ (form, there). entry_passes (is_pattern pattern) (has_set set db.sets) db (with_entries set (entries_under set db.sets ++ entry_of server partition pattern ∷ []) db.sets) ((test pattern).1 form) there),
     )

@@ -1,17 +1,22 @@
 -- What the calls on volume sets keep: each name once, and entries whose patterns are patterns.
-use Rattle.std.proofs.Common.{zero, suc, ◌≡◌, ℕ, ◌+◌, ◌-◌, List, [], ◌∷◌, ◌++◌, length, take, drop, Bool, true, false, cond, not, refl, sym, ◌∙◌, ap, subst, arith, inl, inr}
-use Rattle.std.specs.Prelude.{All, nat_lt, nat_le, ◌&&◌, ◌||◌, if◌then◌else◌, Ok, Err}
+use Rattle.std.proofs.Common.{suc, ◌≡◌, ℕ, ◌-◌, List, [], ◌∷◌, ◌++◌, length, take, drop, Bool, true, false, refl, sym, ◌∙◌, ap, subst, is_some, inl, inr}
+use Rattle.std.specs.Prelude.{All, nat_lt, nat_le, ◌&&◌, ◌||◌, if◌then◌else◌, Some, Ok, Err}
 use Rattle.std.specs.List.{list_any, remove}
 use Rattle.std.proofs.lemmas.Bool.{cases_Bool}
-use Rattle.std.proofs.lemmas.Bool.Decides.{nat_tests}
+use Rattle.std.proofs.lemmas.Cmp.{nat_list_eq_equiv}
 use Rattle.std.proofs.lemmas.List.Folds.{list_any-append}
-use Rattle.std.proofs.lemmas.List.Elements.{All-nil, All-cons, All-head, All-tail, All-append, All-push, All-take, All-drop}
+use Rattle.std.proofs.lemmas.List.Elements.{All-nil, All-append, All-push, All-take, All-drop}
+use Rattle.bk_text.specs.Blanks.{is_same_text}
 use Rattle.volume_sets.specs.Testing.{is_pattern}
 use Rattle.volume_sets.specs.declared.sets.SetEntry.{SetEntry}
 use Rattle.volume_sets.specs.declared.sets.VolumeSet.{VolumeSet}
 use Rattle.volume_sets.specs.declared.sets.SetsFault.TheVariants.{SetExists, NoSuchSet, NoSuchEntry}
-use Rattle.volume_sets.specs.Sets.{is_named, place_of, has_set, entries_at, with_entries_at, after_add, after_remove, after_add_entry, after_remove_entry}
-use Rattle.budb_fold.proofs.Behind.{Behind, behind_push, behind_less, behind_remove, none_left}
+use Rattle.volume_sets.specs.Sets.{entries_of, has_set, entries_under, with_entries, without_set, after_add, after_remove, after_add_entry, after_remove_entry}
+use Rattle.volume_sets.proofs.EachSet.{with_first, with_behind, without_first, without_behind, all_with, all_without, all_under}
+use Rattle.budb_fold.proofs.Behind.{Behind, behind_push, behind_less, none_left}
+
+abbrev pub is_named : List ℕ → VolumeSet → Bool
+is_named name set = is_same_text set.name name
 
 -- no set before has the name
 abbrev pub IsNextSet : List VolumeSet → VolumeSet → Type 0
@@ -27,20 +32,15 @@ pub record KeptSets (sets : List VolumeSet) : Type 0 where
   pub once : Behind IsNextSet [] sets
   pub patterns : All HasPatternEntries sets
 
-lt_more : (a b : ℕ) → nat_lt (1 + a) (suc b) ≡ nat_lt a b
-lt_more a b = elim (cases_Bool (nat_lt a b)) [ inl less ↦ grind (arith, nat_tests) | inr not_less ↦ grind (arith, nat_tests) ]
-
-lt_first : (b : ℕ) → nat_lt 0 (suc b) ≡ true
-lt_first b = grind (arith, nat_tests)
-
 -- there is a set of a name where one of them has it
 pub has_set_any : (name : List ℕ) (sets : List VolumeSet) → has_set name sets ≡ list_any (is_named name) sets
 has_set_any name [] = refl
-has_set_any name (s ∷ sets) = go (is_named name s) (has_set_any name sets)
+has_set_any name (s ∷ sets) =
+    go (is_same_text name s.name) (has_set_any name sets) ∙ ap (λ (t : Bool). t || list_any (is_named name) sets) (nat_list_eq_equiv.symm name s.name)
   where
-    go : (t : Bool) → has_set name sets ≡ list_any (is_named name) sets → nat_lt (cond (not t) (1 + place_of name sets) 0) (suc (length sets)) ≡ (t || list_any (is_named name) sets)
-    go true rest = lt_first (length sets)
-    go false rest = lt_more (place_of name sets) (length sets) ∙ rest
+    go : (t : Bool) → has_set name sets ≡ list_any (is_named name) sets → is_some (if t then Some s.entries else entries_of name sets) ≡ (t || list_any (is_named name) sets)
+    go true rest = refl
+    go false rest = rest
 
 -- ---- other entries of a set
 
@@ -49,25 +49,28 @@ same_names q b c s t same =
     let one : (x : VolumeSet) → list_any q ((b ++ x ∷ []) ++ c) ≡ ((list_any q b || (q x || false)) || list_any q c) = λ x. list_any-append q (b ++ x ∷ []) c ∙ ap (λ (r : Bool). r || list_any q c) (list_any-append q b (x ∷ [])) in
     one s ∙ ap (λ (r : Bool). (list_any q b || (r || false)) || list_any q c) same ∙ sym (one t)
 
-once_with : (before sets : List VolumeSet) (k : ℕ) (entries : List SetEntry) → Behind IsNextSet before sets → Behind IsNextSet before (with_entries_at k entries sets)
-once_with before [] k entries all = tt
-once_with before (s ∷ sets) zero entries all =
-    let new : VolumeSet = record { name = s.name; entries = entries } in
-    (all.0, behind_less IsNextSet (before ++ s ∷ []) (before ++ new ∷ []) sets (λ c x is. sym (same_names (is_named x.name) before c s new refl) ∙ is) all.1)
-once_with before (s ∷ sets) (suc k) entries all = (all.0, once_with (before ++ s ∷ []) sets k entries all.1)
+once_with : (before sets : List VolumeSet) (name : List ℕ) (entries : List SetEntry) → Behind IsNextSet before sets → Behind IsNextSet before (with_entries name entries sets)
+once_with before [] name entries all = tt
+once_with before (s ∷ sets) name entries all = go (is_same_text name s.name) refl (once_with (before ++ s ∷ []) sets name entries all.1)
+  where
+    go : (t : Bool) → is_same_text name s.name ≡ t → Behind IsNextSet (before ++ s ∷ []) (with_entries name entries sets) → Behind IsNextSet before (with_entries name entries (s ∷ sets))
+    go true here more =
+        subst (Behind IsNextSet before) (sym (with_first name entries s sets here)) (all.0, behind_less IsNextSet (before ++ s ∷ []) (before ++ record { name = s.name; entries = entries } ∷ []) sets (λ c x is. sym (same_names (is_named x.name) before c s (record { name = s.name; entries = entries }) refl) ∙ is) all.1)
+    go false not_here more = subst (Behind IsNextSet before) (sym (with_behind name entries s sets not_here)) (all.0, more)
 
-patterns_at : (sets : List VolumeSet) (k : ℕ) → All HasPatternEntries sets → All HasPatternEntry (entries_at k sets)
-patterns_at [] k all = All-nil HasPatternEntry
-patterns_at (s ∷ sets) zero all = All-head HasPatternEntries s sets all
-patterns_at (s ∷ sets) (suc k) all = patterns_at sets k (All-tail HasPatternEntries s sets all)
+once_without : (before sets : List VolumeSet) (name : List ℕ) → Behind IsNextSet before sets → Behind IsNextSet before (without_set name sets)
+once_without before [] name all = tt
+once_without before (s ∷ sets) name all = go (is_same_text name s.name) refl (once_without (before ++ s ∷ []) sets name all.1)
+  where
+    go : (t : Bool) → is_same_text name s.name ≡ t → Behind IsNextSet (before ++ s ∷ []) (without_set name sets) → Behind IsNextSet before (without_set name (s ∷ sets))
+    go true here more = subst (Behind IsNextSet before) (sym (without_first name s sets here)) (behind_less IsNextSet (before ++ s ∷ []) before sets (λ c x is. none_left (is_named x.name) before c s is) all.1)
+    go false not_here more = subst (Behind IsNextSet before) (sym (without_behind name s sets not_here)) (all.0, more)
 
-patterns_with : (sets : List VolumeSet) (k : ℕ) (entries : List SetEntry) → All HasPatternEntries sets → All HasPatternEntry entries → All HasPatternEntries (with_entries_at k entries sets)
-patterns_with [] k entries all each = All-nil HasPatternEntries
-patterns_with (s ∷ sets) zero entries all each = All-cons HasPatternEntries (record { name = s.name; entries = entries }) sets each (All-tail HasPatternEntries s sets all)
-patterns_with (s ∷ sets) (suc k) entries all each = All-cons HasPatternEntries s (with_entries_at k entries sets) (All-head HasPatternEntries s sets all) (patterns_with sets k entries (All-tail HasPatternEntries s sets all) each)
+under : (sets : List VolumeSet) (name : List ℕ) → KeptSets sets → All HasPatternEntry (entries_under name sets)
+under sets name kept = all_under HasPatternEntries HasPatternEntry (λ set is. is) name sets kept.patterns
 
-with_entries : (sets : List VolumeSet) (k : ℕ) (entries : List SetEntry) → KeptSets sets → All HasPatternEntry entries → KeptSets (with_entries_at k entries sets)
-with_entries sets k entries kept each = record { once = once_with [] sets k entries kept.once; patterns = patterns_with sets k entries kept.patterns each }
+with_these : (sets : List VolumeSet) (name : List ℕ) (entries : List SetEntry) → KeptSets sets → All HasPatternEntry entries → KeptSets (with_entries name entries sets)
+with_these sets name entries kept each = record { once = once_with [] sets name entries kept.once; patterns = all_with HasPatternEntries name entries sets (λ set is. each) kept.patterns }
 
 -- ---- the calls
 
@@ -88,34 +91,30 @@ module _ (sets new : List VolumeSet) (kept : KeptSets sets) where
   pub kept_remove : (name : List ℕ) → after_remove name sets ≡ Ok new → KeptSets new
   kept_remove name is = elim (cases_Bool (has_set name sets)) [
     | inl there ↦
-        (let whole : Ok (remove sets (place_of name sets)) ≡ Ok new = rw there at is in
-        let same : remove sets (place_of name sets) ≡ new = cc in
-        subst KeptSets same (record {
-          once = behind_remove IsNextSet (λ b c y x none. none_left (is_named x.name) b c y none) [] sets (place_of name sets) kept.once;
-          patterns = All-append HasPatternEntries (take (place_of name sets) sets) (drop (suc (place_of name sets)) sets) (All-take HasPatternEntries (place_of name sets) sets kept.patterns) (All-drop HasPatternEntries (suc (place_of name sets)) sets kept.patterns);
-        }))
+        (let whole : Ok (without_set name sets) ≡ Ok new = rw there at is in
+        let same : without_set name sets ≡ new = cc in
+        subst KeptSets same (record { once = once_without [] sets name kept.once; patterns = all_without HasPatternEntries name sets kept.patterns }))
     | inr free ↦ absurd (let none : Err NoSuchSet ≡ Ok new = rw free at is in cc)
   ]
 
   pub kept_add_entry : (name : List ℕ) (entry : SetEntry) → HasPatternEntry entry → after_add_entry name entry sets ≡ Ok new → KeptSets new
   kept_add_entry name entry pattern is = elim (cases_Bool (has_set name sets)) [
     | inl there ↦
-        (let k : ℕ = place_of name sets in
-        let whole : Ok (with_entries_at (place_of name sets) (entries_at (place_of name sets) sets ++ entry ∷ []) sets) ≡ Ok new = rw there at is in
-        let same : with_entries_at (place_of name sets) (entries_at (place_of name sets) sets ++ entry ∷ []) sets ≡ new = cc in
-        subst KeptSets same (with_entries sets (place_of name sets) (entries_at (place_of name sets) sets ++ entry ∷ []) kept (All-push HasPatternEntry (entries_at (place_of name sets) sets) entry (patterns_at sets (place_of name sets) kept.patterns) pattern)))
+        (let whole : Ok (with_entries name (entries_under name sets ++ entry ∷ []) sets) ≡ Ok new = rw there at is in
+        let same : with_entries name (entries_under name sets ++ entry ∷ []) sets ≡ new = cc in
+        subst KeptSets same (with_these sets name (entries_under name sets ++ entry ∷ []) kept (All-push HasPatternEntry (entries_under name sets) entry (under sets name kept) pattern)))
     | inr free ↦ absurd (let none : Err NoSuchSet ≡ Ok new = rw free at is in cc)
   ]
 
-  kept_entry : (k number : ℕ) (t : Bool) → (if t then Ok (with_entries_at k (remove (entries_at k sets) (number - 1)) sets) else Err NoSuchEntry) ≡ Ok new → KeptSets new
-  kept_entry k number true is =
-      let same : with_entries_at k (remove (entries_at k sets) (number - 1)) sets ≡ new = cc in
-      let each : All HasPatternEntry (entries_at k sets) = patterns_at sets k kept.patterns in
-      subst KeptSets same (with_entries sets k (remove (entries_at k sets) (number - 1)) kept (All-append HasPatternEntry (take (number - 1) (entries_at k sets)) (drop (suc (number - 1)) (entries_at k sets)) (All-take HasPatternEntry (number - 1) (entries_at k sets) each) (All-drop HasPatternEntry (suc (number - 1)) (entries_at k sets) each)))
-  kept_entry k number false is = absurd (cc)
+  kept_entry : (name : List ℕ) (number : ℕ) (t : Bool) → (if t then Ok (with_entries name (remove (entries_under name sets) (number - 1)) sets) else Err NoSuchEntry) ≡ Ok new → KeptSets new
+  kept_entry name number true is =
+      let same : with_entries name (remove (entries_under name sets) (number - 1)) sets ≡ new = cc in
+      let each : All HasPatternEntry (entries_under name sets) = under sets name kept in
+      subst KeptSets same (with_these sets name (remove (entries_under name sets) (number - 1)) kept (All-append HasPatternEntry (take (number - 1) (entries_under name sets)) (drop (suc (number - 1)) (entries_under name sets)) (All-take HasPatternEntry (number - 1) (entries_under name sets) each) (All-drop HasPatternEntry (suc (number - 1)) (entries_under name sets) each)))
+  kept_entry name number false is = absurd (cc)
 
   pub kept_remove_entry : (name : List ℕ) (number : ℕ) → after_remove_entry name number sets ≡ Ok new → KeptSets new
   kept_remove_entry name number is = elim (cases_Bool (has_set name sets)) [
-    | inl there ↦ kept_entry (place_of name sets) number (nat_lt 0 number && nat_le number (length (entries_at (place_of name sets) sets))) (rw there at is)
+    | inl there ↦ kept_entry name number (nat_lt 0 number && nat_le number (length (entries_under name sets))) (rw there at is)
     | inr free ↦ absurd (let none : Err NoSuchSet ≡ Ok new = rw free at is in cc)
   ]

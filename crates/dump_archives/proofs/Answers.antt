@@ -15,7 +15,7 @@ use Rattle.cell_core.specs.Calls.{entry_of_stored}
 use Rattle.cell_core.specs.Fairness.{Fair, IsNotMadeAfter, NoneIsMadeAfter}
 use Rattle.cell_core.proofs.FairLaws.{fair_later}
 use Rattle.std.proofs.lemmas.List.{length-map}
-use Rattle.volume_sets.specs.Sets.{entries_at, place_of as set_place}
+use Rattle.volume_sets.specs.Sets.{entries_under}
 use Rattle.dump_levels.specs.Elements.{paths_above}
 use Rattle.budb.proofs.FoldForms.{forms_after}
 use Rattle.budb_changes.specs.declared.records.DumpRecordFields.{DumpRecordFields}
@@ -366,7 +366,7 @@ module _ (once : ReadOnce) (s : Scene) (contents : Contents) (records : List Dum
   is_order : (a : DumpCommand) (port : PortFields) → IsCommandForm a → asked_port s.config (database_in s) a ≡ Ok port → IsOrder (order_of s.config (database_in s) (entries_in s) s.time a port)
   is_order a port command is =
       let db = database_in s in
-      let entries = entries_at (set_place a.set db.sets) db.sets in
+      let entries = entries_under a.set db.sets in
       record {
         form = order_form s a port asks.form command is;
         time = refl;

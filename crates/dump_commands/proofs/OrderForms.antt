@@ -12,7 +12,7 @@ use Rattle.byte_formats.specs.Forms.{IsFour}
 use Rattle.vnode_model.specs.declared.listed.VolEntry.{VolEntry}
 use Rattle.cell_core.specs.Calls.{entry_of_stored}
 use Rattle.volume_sets.specs.declared.sets.SetEntry.{SetEntry}
-use Rattle.volume_sets.specs.Sets.{has_set, place_of, entries_at}
+use Rattle.volume_sets.specs.Sets.{has_set, entries_under}
 use Rattle.dump_levels.specs.declared.levels.LevelFault.TheVariants.{NoSuchLevel}
 use Rattle.dump_levels.specs.Elements.{paths_above}
 use Rattle.dump_levels.specs.Spans.{second_after, expires_at, expiry_in}
@@ -94,7 +94,7 @@ asked config db a port is =
 pub order_form : (s : Scene) (a : DumpCommand) (port : PortFields) → IsSceneForm s → IsCommandForm a → asked_port s.config (database_in s) a ≡ Ok port → IsOrderForm (order_of s.config (database_in s) (entries_in s) s.time a port)
 order_form s a port scene command is =
     let db : Database = database_in s in
-    let entries = entries_at (place_of a.set db.sets) db.sets in
+    let entries = entries_under a.set db.sets in
     record {
       set = command.set;
       level = command.level;

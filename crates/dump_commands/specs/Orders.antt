@@ -2,7 +2,7 @@
 use Rattle.std.specs.Prelude.{ℕ, List, if◌then◌else◌, Option, Some, None, Result, Ok, Err}
 use Rattle.vnode_model.specs.declared.listed.VolEntry.{VolEntry}
 use Rattle.volume_sets.specs.declared.sets.VolumeSet.{VolumeSet}
-use Rattle.volume_sets.specs.Sets.{has_set, place_of, entries_at}
+use Rattle.volume_sets.specs.Sets.{has_set, entries_under}
 use Rattle.dump_levels.specs.declared.levels.LevelFault.{LevelFault}
 use Rattle.dump_levels.specs.Trees.{has_level}
 use Rattle.dump_levels.specs.Spans.{expires_in}
@@ -39,7 +39,7 @@ asked_port config db a =
 
 -- the places of the set's volumes in the cell's list, in order
 abbrev pub volumes_of : List VolumeSet → List ℕ → List VolEntry → List ℕ
-volumes_of sets set cell = expansion (entries_at (place_of set sets) sets) cell
+volumes_of sets set cell = expansion (entries_under set sets) cell
 
 -- where the level isn't there, nothing would expire
 abbrev pub expires_or_none : Result ℕ LevelFault → ℕ

@@ -6,4 +6,5 @@ pub mod MatchLaws
 pub mod RowLaws
 pub mod PlaceLaws
 pub mod SetLaws
-mod MapLaws
+pub mod SetRows
+pub mod EachSet

@@ -1,10 +1,9 @@
 //! The volume sets, in the order in which they were added.
 
 ghost use Rattle.std.specs.Prelude.{◌≡◌, ◌<◌, ◌≤◌, ◌++◌, [], ◌∷◌, length, map, false, ◌&&◌, nat_lt, nat_le, slice_index_or, MatchOption, None, Some, OnOk, OnErr};
-ghost use Rattle.std.specs.List.{remove};
 ghost use Rattle.bk_text.specs.Changes.{Changes, ChangesUnless};
 ghost use Rattle.volume_sets.specs.Expansions.{Expands};
-ghost use Rattle.volume_sets.specs.Sets.{set_of, has_set, place_of, entries_at, entries_of, NamesOnce, after_add, after_remove, after_add_entry, after_remove_entry};
+ghost use Rattle.volume_sets.specs.Sets.{set_of, has_set, without_set, entries_at, entries_of, NamesOnce, after_add, after_remove, after_add_entry, after_remove_entry};
 ghost use Rattle.volume_sets.specs.declared.sets.SetsFault.TheVariants.{Memory};
 
 use crate::expanding::places_in;
@@ -77,6 +76,7 @@ impl From<AllocError> for SetsFault {
 type ByName = IndexMap<SetName, List<SetEntry>>;
 
 /// Whether there is a set of this name.
+#[tactic(auto, using(crate::proofs::SetRows::rows_back))]
 fn has_name(sets: &ByName, name: &SetName) -> bool
     ensures { result ≡ has_set name.now (map set_of sets.now.entries) }
 {
@@ -94,10 +94,10 @@ fn put_last(sets: &mut ByName, name: SetName, entries: List<SetEntry>) -> Result
 }
 
 /// Takes a set out, where there is one of this name, and tells whether there was; those behind it close up.
-#[tactic(auto, using(crate::proofs::MapLaws::has_set_is, crate::proofs::MapLaws::remove_is))]
+#[tactic(auto, using(crate::proofs::SetRows::rows_back))]
 fn take_set(sets: &mut ByName, name: &SetName) -> bool
     ensures was { result ≡ has_set name.now (map set_of sets.old.entries) }
-    ensures taken { map set_of sets.new.entries ≡ remove (map set_of sets.old.entries) (place_of name.now (map set_of sets.old.entries)) }
+    ensures taken { map set_of sets.new.entries ≡ without_set name.now (map set_of sets.old.entries) }
     ensures same { result ≡ false → map set_of sets.new.entries ≡ map set_of sets.old.entries }
 {
     match sets.shift_remove(name) {
@@ -172,6 +172,7 @@ impl Sets {
     }
 
     /// Adds an entry behind those that a set has. `NoSuchSet` where there is none of this name.
+    #[tactic(auto, using(crate::proofs::SetRows::rows_back, std::proofs::lemmas::Map::Steps::set_value_same))]
     pub fn add_entry(&mut self, name: &SetName, entry: SetEntry) -> Result<(), SetsFault>
         ensures { ChangesUnless SetsFault.Memory (after_add_entry name.now entry self.old) self.old result self.new }
     {
@@ -184,6 +185,7 @@ impl Sets {
 
     /// Removes the entry of this number, counted from 1; those behind it close up. `NoSuchSet` where there is none of
     /// this name, then `NoSuchEntry` where the number is 0 or past the last. It takes no memory.
+    #[tactic(auto, using(crate::proofs::SetRows::rows_back, std::proofs::lemmas::Map::Steps::set_value_same))]
     pub fn remove_entry(&mut self, name: &SetName, number: u32) -> Result<(), SetsFault>
         ensures { Changes (after_remove_entry name.now number self.old) self.old result self.new }
     {
@@ -200,6 +202,7 @@ impl Sets {
     /// The places in a cell's list of the volumes that a set has, ascending: a volume is among them where its server,
     /// partition and name suit some one entry, also where a bad image stands there. `NoSuchSet` where there is none of
     /// this name. A cell has at most 65,536 volumes, which is this project's own choice.
+    #[tactic(auto, using(crate::proofs::SetRows::rows_back))]
     pub fn expand(&self, name: &SetName, cell: &[VolEntry]) -> Result<List<u32>, SetsFault>
         requires { length cell.now ≤ 65536 }
         ensures { Expands self.now name.now cell.now result }
@@ -224,6 +227,7 @@ impl Sets {
     }
 
     /// The entries of the set of a name, in the order in which they were added; `None` where there is none of this name.
+    #[tactic(auto, using(crate::proofs::SetRows::rows_back))]
     pub fn entries_of(&self, name: &SetName) -> Option<&[SetEntry]>
         ensures once { NamesOnce self.now }
         ensures entries { MatchOption result (entries_of name.now self.now ≡ None) (λ entries. entries_of name.now self.now ≡ Some entries.now) }
@@ -244,6 +248,7 @@ impl Sets {
     }
 
     /// The entries of the set at a place, in the order in which they were added.
+    #[tactic(auto, using(crate::proofs::SetRows::entries_there))]
     pub fn entries_at(&self, i: usize) -> &[SetEntry]
         requires { i < length self.now }
         ensures { result.now ≡ entries_at i self.now }
