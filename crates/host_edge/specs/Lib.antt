@@ -5,3 +5,4 @@ pub mod Openings
 pub mod Shown
 pub mod Slots
 pub mod Streams
+pub mod Waits

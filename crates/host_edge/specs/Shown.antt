@@ -4,6 +4,7 @@ use Rattle.std.specs.declared.io.Error.{Error}
 use Rattle.host_edge.specs.Slots.{file_among, is_here}
 use Rattle.host_edge.specs.declared.dir_media.DirMedia.{DirMedia}
 use Rattle.host_edge.specs.declared.refusal.Refusal.{Refusal}
+use Rattle.host_edge.specs.declared.waiting.Waiting.{Waiting}
 
 -- the output
 abbrev pub output_of : {F W : Type 0} → DirMedia F W → W
@@ -23,6 +24,10 @@ present_of media f = is_here media.slots.items f
 -- the file of a number, where it is here
 abbrev pub file_of : {F W : Type 0} → DirMedia F W → ℕ → Option F
 file_of media f = file_among media.journal media.slots.items f
+
+-- what waits to be written
+abbrev pub waiting_of : {F W : Type 0} → DirMedia F W → Waiting
+waiting_of media = media.waiting
 
 -- the call on a file that was refused last
 abbrev pub refused_of : {F W : Type 0} → DirMedia F W → Option Refusal

@@ -1,6 +1,6 @@
 //! Files of a folder as a media.
 
-ghost use Rattle.std.specs.Prelude.{◌≡◌, ◌≢◌, ◌≤◌, length, IfOk, OnOk, OnErr, IfSome, Some, Err};
+ghost use Rattle.std.specs.Prelude.{◌≡◌, ◌≢◌, ◌≤◌, ◌⊎◌, length, IfOk, OnOk, OnErr, IfSome, Some, Err};
 ghost use Rattle.std.specs.Io.KnownBytes.{WriteAppends};
 ghost use Rattle.crash_moments.specs.Moments.{HasCause};
 ghost use Rattle.host_edge.specs.declared.fault.EdgeFault.TheVariants.{TooMany};
@@ -14,6 +14,7 @@ use crate::slots::{
     changed, file_among, lengths_of, note_length, open_journal, open_slots, path_of, same_length,
     slot_at,
 };
+use crate::waiting::Waiting;
 use crash_moments::raised;
 use media_core::{Failed, Media};
 use std::alloc::AllocError;
@@ -22,12 +23,14 @@ use std::rt::Files;
 
 /// The files `journal` and `slot0` to `slot255` of a folder, and an output. File 0 is the journal; a slot is here where its
 /// file is there at the opening. `lengths` are the lengths that the opening found and the writes of this program left: a file
-/// of another length is a fault. The refusals are the last ones.
+/// of another length is a fault. Small writes behind one another wait, and go to their file as one, at the latest when it is synced
+/// or read. The refusals are the last ones.
 #[derive(Drop)]
 pub struct DirMedia<F: Drop, W: Drop> {
     journal: F,
     slots: Vec<Option<F>>,
     lengths: Vec<u64>,
+    waiting: Waiting,
     output: W,
     faults: u64,
     tell_faults: u64,
@@ -38,7 +41,8 @@ pub struct DirMedia<F: Drop, W: Drop> {
 }
 
 impl<F: DiskFile + Drop, W: Write + Drop> DirMedia<F, W> {
-    ghost use Rattle.host_edge.specs.Shown.{file_of, output_of, faults_of, tell_faults_of};
+    ghost use Rattle.host_edge.specs.Shown.{file_of, output_of, present_of, waiting_of, faults_of, tell_faults_of};
+    ghost use Rattle.host_edge.specs.Waits.{NoneFor};
 
     /// Opens a folder, which is made where it is absent, as is an empty `journal`; the folder that it stands in is there. What
     /// the files have, and their names, is on the disk then. No file gets the number of a standard stream.
@@ -61,6 +65,7 @@ impl<F: DiskFile + Drop, W: Write + Drop> DirMedia<F, W> {
             journal,
             slots,
             lengths,
+            waiting: Waiting::new(alloc)?,
             output,
             faults: 0,
             tell_faults: 0,
@@ -81,24 +86,21 @@ impl<F: DiskFile + Drop, W: Write + Drop> DirMedia<F, W> {
     }
 
     fn len_of(&self, f: u32) -> io::Result<u64>
+        requires { NoneFor f (waiting_of self.now) }
         ensures { IfOk result (λ length. IfSome (file_of self.now f) (λ file. F.measured file length)) }
     {
         same_length(self.file(f)?, self.lengths.as_slice(), f)
     }
 
     fn read_from(&self, f: u32, at: u64, into: &mut [u8]) -> io::Result<()>
+        requires { NoneFor f (waiting_of self.now) }
         ensures { OnOk result (IfSome (file_of self.now f) (λ file. F.gave file at into.new)) }
     {
         self.file(f)?.read_all_at(into, at)
     }
 
-    fn write_to(&self, f: u32, at: u64, from: &[u8]) -> io::Result<()>
-        ensures { OnOk result (IfSome (file_of self.now f) (λ file. F.took file at from.now)) }
-    {
-        self.file(f)?.write_whole_at(from, at)
-    }
-
     fn sync_of(&self, f: u32) -> io::Result<()>
+        requires { NoneFor f (waiting_of self.now) }
         ensures { OnOk result (IfSome (file_of self.now f) (λ file. F.settled file)) }
     {
         self.file(f)?.settle()
@@ -110,7 +112,8 @@ impl<F: DiskFile + Drop, W: Write + Drop> Media for DirMedia<F, W> {
     ghost use Rattle.crash_moments.specs.Moments.{silent};
     ghost use Rattle.media_core.specs.Media.{nothing};
     ghost use Rattle.host_edge.specs.Here.{here_below};
-    ghost use Rattle.host_edge.specs.Shown.{file_of, output_of, present_of, faults_of, tell_faults_of, refused_of, IsRefusalAt};
+    ghost use Rattle.host_edge.specs.Shown.{file_of, output_of, present_of, waiting_of, faults_of, tell_faults_of, refused_of, IsRefusalAt};
+    ghost use Rattle.host_edge.specs.Waits.{NoneFor, IsKept, HasJoined, HasPassed};
 
     ghost tells = { ⊥ };
 
@@ -152,37 +155,49 @@ impl<F: DiskFile + Drop, W: Write + Drop> Media for DirMedia<F, W> {
 
     fn len(&mut self, f: u32) -> Result<u64, Failed>
         ensures length { IfOk result (λ length. IfSome (file_of self.old f) (λ file. F.measured file length)) }
+        ensures none { OnOk result (NoneFor f (waiting_of self.new)) }
+        ensures kept { IsKept F.took (file_of self.old f) f (waiting_of self.old) (waiting_of self.new) }
         ensures files { file_of self.new ≡ file_of self.old }
         ensures present { present_of self.new ≡ present_of self.old }
         ensures cause { HasCause (faults_of self.old) (faults_of self.new) result }
         ensures tell_faults { tell_faults_of self.new ≡ tell_faults_of self.old }
         ensures refused { OnErr result (IsRefusalAt f (refused_of self.new)) }
     {
+        let file = file_among(&self.journal, self.slots.as_slice(), f);
+        let given = self.waiting.give(f, file);
+        counted(&mut self.faults, &mut self.refused, f, given)?;
         let answer = self.len_of(f);
         counted(&mut self.faults, &mut self.refused, f, answer)
     }
 
     fn read(&mut self, f: u32, at: u64, into: &mut [u8]) -> Result<(), Failed>
         ensures gave { OnOk result (IfSome (file_of self.old f) (λ file. F.gave file at into.new)) }
+        ensures none { OnOk result (NoneFor f (waiting_of self.new)) }
+        ensures kept { IsKept F.took (file_of self.old f) f (waiting_of self.old) (waiting_of self.new) }
         ensures files { file_of self.new ≡ file_of self.old }
         ensures present { present_of self.new ≡ present_of self.old }
         ensures cause { HasCause (faults_of self.old) (faults_of self.new) result }
         ensures tell_faults { tell_faults_of self.new ≡ tell_faults_of self.old }
         ensures refused { OnErr result (IsRefusalAt f (refused_of self.new)) }
     {
+        let file = file_among(&self.journal, self.slots.as_slice(), f);
+        let given = self.waiting.give(f, file);
+        counted(&mut self.faults, &mut self.refused, f, given)?;
         let answer = self.read_from(f, at, into);
         counted(&mut self.faults, &mut self.refused, f, answer)
     }
 
     fn write(&mut self, f: u32, at: u64, from: &[u8]) -> Result<(), Failed>
-        ensures took { OnOk result (IfSome (file_of self.old f) (λ file. F.took file at from.now)) }
+        ensures taken { OnOk result (HasJoined f at from.now (waiting_of self.old) (waiting_of self.new) ⊎ HasPassed F.took (file_of self.old f) f at from.now (waiting_of self.old) (waiting_of self.new)) }
+        ensures kept { OnErr result (IsKept F.took (file_of self.old f) f (waiting_of self.old) (waiting_of self.new)) }
         ensures files { file_of self.new ≡ file_of self.old }
         ensures present { present_of self.new ≡ present_of self.old }
         ensures cause { HasCause (faults_of self.old) (faults_of self.new) result }
         ensures tell_faults { tell_faults_of self.new ≡ tell_faults_of self.old }
         ensures refused { OnErr result (IsRefusalAt f (refused_of self.new)) }
     {
-        let answer = self.write_to(f, at, from);
+        let file = file_among(&self.journal, self.slots.as_slice(), f);
+        let answer = self.waiting.take(f, at, from, file);
         counted(&mut self.faults, &mut self.refused, f, answer)?;
         note_length(&mut self.lengths, f, at.saturating_add(from.len() as u64));
         Ok(())
@@ -190,12 +205,17 @@ impl<F: DiskFile + Drop, W: Write + Drop> Media for DirMedia<F, W> {
 
     fn sync(&mut self, f: u32) -> Result<(), Failed>
         ensures settled { OnOk result (IfSome (file_of self.old f) (λ file. F.settled file)) }
+        ensures none { OnOk result (NoneFor f (waiting_of self.new)) }
+        ensures kept { IsKept F.took (file_of self.old f) f (waiting_of self.old) (waiting_of self.new) }
         ensures files { file_of self.new ≡ file_of self.old }
         ensures present { present_of self.new ≡ present_of self.old }
         ensures cause { HasCause (faults_of self.old) (faults_of self.new) result }
         ensures tell_faults { tell_faults_of self.new ≡ tell_faults_of self.old }
         ensures refused { OnErr result (IsRefusalAt f (refused_of self.new)) }
     {
+        let file = file_among(&self.journal, self.slots.as_slice(), f);
+        let given = self.waiting.give(f, file);
+        counted(&mut self.faults, &mut self.refused, f, given)?;
         let answer = self.sync_of(f);
         counted(&mut self.faults, &mut self.refused, f, answer)
     }

@@ -18,6 +18,7 @@ mod opening;
 mod refusal;
 mod slots;
 mod source;
+mod waiting;
 
 pub use clock::SysClock;
 pub use config::read_config;
