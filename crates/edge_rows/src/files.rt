@@ -105,9 +105,22 @@ fn calls_answer_what_the_file_answers(rt: HostRuntime) -> Result<(), Fail> {
 
 #[test]
 fn refused_calls_fail(rt: HostRuntime) -> Result<(), Fail> {
-    let mut media = media(rt.alloc(), true, 0, false)?;
+    let alloc = rt.alloc();
+    let mut media = media(alloc, true, 0, false)?;
     assert!(&rt; media.read(0, 0, &mut []).is_err());
-    assert!(&rt; media.write(0, 0, b"ab").is_err());
+    let long = vec![in alloc; 0u8; 262_145]?;
+    assert!(&rt;
+        media.write(0, 0, long.as_slice()).is_err(),
+        "too long to wait"
+    );
+    assert!(&rt; media.write(0, 0, b"ab").is_ok(), "it waits");
+    assert!(&rt; media.write(0, 2, b"c").is_ok(), "it waits behind");
+    assert!(&rt;
+        media.here(8) && media.write(8, 0, b"d").is_err(),
+        "another file's wait"
+    );
+    assert!(&rt; media.write(0, 4, b"e").is_err(), "not behind what waits");
+    assert!(&rt; media.sync(0).is_err());
     Ok(())
 }
 
