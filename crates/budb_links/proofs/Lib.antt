@@ -20,3 +20,4 @@ pub mod FragStoring
 pub mod FragLists
 pub mod FragUnlinking
 pub mod FragRecords
+pub mod Apart

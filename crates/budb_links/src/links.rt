@@ -6,6 +6,7 @@ ghost use Rattle.std.specs.Option.{option_copied};
 ghost use Rattle.budb_links.specs.Entries.{entry_at, dumps_of, places_of, record_of, record_at, without_id, of_bucket, of_set, of_initial};
 ghost use Rattle.budb_links.specs.Frags.{Placed, dump_frags, frags_of, count_frags, fragments, frag_places, of_dump, of_volume, without_dump, frag_at};
 ghost use Rattle.budb_links.specs.Linked.{listed, places};
+ghost use Rattle.budb_links.specs.Keyed.{Differ};
 
 use crate::frags::{FragPlace, Frags};
 use crate::records::Records;
@@ -159,9 +160,10 @@ impl Links {
         self.records.walk_initial(key, at, steps)
     }
 
-    /// The record at a place; `None` where none stands there.
+    /// The record at a place; `None` where none stands there. No two records have a place.
     pub fn record_at<L: Ledger>(&self, at: usize, steps: &mut Steps<L>) -> Option<&DumpRecord>
         ensures record { option_copied result ≡ record_at at self.now.entries }
+        ensures apart { Differ (places self.now) }
         ensures cost { steps.new ≤ steps.old + 1 }
     {
         self.records.record_at(at, steps)
@@ -205,9 +207,10 @@ impl Links {
         }
     }
 
-    /// Which fragment stands at a place; `None` where none does.
+    /// Which fragment stands at a place; `None` where none does. No two fragments have a place.
     pub fn frag_at<L: Ledger>(&self, at: usize, steps: &mut Steps<L>) -> Option<FragPlace>
         ensures frag { result ≡ frag_at at self.now.frags }
+        ensures apart { Differ (frag_places self.now.frags) }
         ensures whole { fragments self.now.frags ≡ frags_of (listed self.now) }
         ensures cost { steps.new ≤ steps.old + 1 }
     {

@@ -4,6 +4,7 @@
 ghost use Rattle.std.specs.Prelude.{◌≡◌, ◌≢◌, ℕ, ◌+◌, ◌%◌, ◌^◌, ◌<◌, ◌≤◌, [], ◌∷◌, ◌++◌, length, slice_get, Some, None, OnOk, OnErr, IsOk, is_some, if◌then◌else◌, vec_len, vec_capacity};
 ghost use Rattle.std.specs.Option.{option_copied};
 ghost use Rattle.budb_links.specs.Entries.{entry_at, dumps_of, places_of, record_of, record_at, without_id, of_bucket, of_set, of_initial};
+ghost use Rattle.budb_links.specs.Keyed.{Differ};
 
 use crate::arena::Arena;
 use crate::keys::{IDS, Keys, NAMES, unlink_keys};
@@ -198,9 +199,10 @@ impl Records {
         }
     }
 
-    /// The record at a place; `None` where none stands there.
+    /// The record at a place; `None` where none stands there. No two records have a place.
     pub fn record_at<L: Ledger>(&self, at: usize, steps: &mut Steps<L>) -> Option<&DumpRecord>
         ensures record { option_copied result ≡ record_at at self.now.entries }
+        ensures apart { Differ (places_of self.now.entries) }
         ensures cost { steps.new ≤ steps.old + 1 }
     {
         self.shelf.get(at, steps)
