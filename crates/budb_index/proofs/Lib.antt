@@ -1,0 +1,11 @@
+pub mod Once
+pub mod Members
+pub mod Walking
+pub mod Initials
+pub mod Listing
+pub mod SetLeft
+pub mod Greatest
+pub mod Runs
+pub mod Pairs
+pub mod Latest
+pub mod Taking

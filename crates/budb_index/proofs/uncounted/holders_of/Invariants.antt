@@ -1,0 +1,4 @@
+use Rattle.budb_index.proofs.uncounted.holders_of.Given as goal
+
+abbrev pub ghosts-holders_counted : goal.ghosts-holders_counted
+ghosts-holders_counted a = record { name = a.blank.name; parts = a.blank.parts }
