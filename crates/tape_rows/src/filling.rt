@@ -207,6 +207,31 @@ fn has_room(port: &Port) -> bool {
     Writer::new(port, 0, 0).has_room(6, 3)
 }
 
+/// Blocks and filemarks.
+#[derive(Clone, Copy)]
+pub struct Taken {
+    pub blocks: u32,
+    pub marks: u32,
+}
+
+/// Prints whether so much more has room behind what stands on a tape of a port: `room` or `full`. It is a part, or what one must have:
+/// at most 6 blocks and 3 filemarks.
+pub fn room(
+    alloc: Global,
+    line: &str,
+    taken: Taken,
+    more: Taken,
+    printed: &mut Vec<u8>,
+) -> anyhow::Result<()> {
+    let port = port_in(alloc, line)?;
+    if taken.marks > taken.blocks || more.blocks > 6 || more.marks > 3 {
+        anyhow::bail!("no tape has that");
+    }
+    let writer = Writer::new(&port, taken.blocks, taken.marks);
+    let has_room = writer.has_room(u64::from(more.blocks), u64::from(more.marks));
+    print_line(printed, if has_room { "room" } else { "full" })
+}
+
 /// Dumps a volume whose stream has so many bytes to blank tapes of a port, and prints what scans tell of them and what is found;
 /// `full` where a tape has no room for any part.
 pub fn fill(

@@ -12,11 +12,12 @@
 //!   Each is looked for by the slow functions too, and a difference ends the program.
 //! - `random SEED COUNT` tries lists of tapes with changes at random.
 //! - `fill BYTES LINE` dumps a volume whose stream has so many bytes to blank tapes by this line of a configuration, and prints
-//!   what stands on them.
+//!   what stands on them. `room BLOCKS MARKS MORE MORE LINE` prints whether so many blocks and filemarks more have room on a tape that
+//!   has so many.
 //!
 //! Empty lines and lines that begin with `#` are passed over.
 
-use crate::filling::fill;
+use crate::filling::{Taken, fill, room};
 use crate::frames::record_by;
 use crate::numbers::{next_number, number, word};
 use crate::print::{print_found, print_line, print_sections};
@@ -142,6 +143,15 @@ fn print_fill(
     fill(alloc, &world.common, line, bytes, printed)
 }
 
+fn print_room(alloc: Global, rest: &str, printed: &mut Vec<u8>) -> anyhow::Result<()> {
+    let (blocks, rest) = next_number(rest)?;
+    let (marks, rest) = next_number(rest)?;
+    let taken = Taken { blocks, marks };
+    let (blocks, rest) = next_number(rest)?;
+    let (marks, line) = next_number(rest)?;
+    room(alloc, line, taken, Taken { blocks, marks }, printed)
+}
+
 /// Takes a step that prints.
 fn print(
     alloc: Global,
@@ -160,6 +170,7 @@ fn print(
         "ends" => print_ends(alloc, printed, world.records(world.tape)),
         "random" => print_random(alloc, world, rest, printed),
         "fill" => print_fill(alloc, world, rest, printed),
+        "room" => print_room(alloc, rest, printed),
         _ => anyhow::bail!("there is no step {step}"),
     }
 }
