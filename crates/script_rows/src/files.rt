@@ -2,6 +2,7 @@
 
 ghost use Rattle.std.specs.Prelude.{◌≡◌, length, IfOk};
 
+use crate::turning::{read_within, write_within};
 use media_core::{Media, MemMedia, Pick};
 use plant_core::{Failed, Plant};
 use plant_effects::read_log;
@@ -39,6 +40,30 @@ pub fn fill(alloc: Global, media: &mut MemMedia, file: u32, bytes: &[u8]) -> any
     }
     let written = taken(alloc, media)?;
     *media = written.reopen(Pick::New)?;
+    Ok(())
+}
+
+/// The byte at a place of a file.
+pub fn byte_at(media: &mut MemMedia, file: u32, at: u64) -> anyhow::Result<u8> {
+    if !media.here(file) {
+        anyhow::bail!("there is no file {file}");
+    }
+    let mut byte = [0u8; 1];
+    if read_within(media, file, at, &mut byte).is_err() {
+        anyhow::bail!("file {file} has no byte {at}");
+    }
+    Ok(byte[0])
+}
+
+/// Makes the byte at a place of a file another one.
+pub fn set_byte(media: &mut MemMedia, file: u32, at: u64, byte: u8) -> anyhow::Result<()> {
+    let _ = byte_at(media, file, at)?;
+    if at >= MOST as u64 || !media.here(file) {
+        anyhow::bail!("byte {at} of file {file} isn't written");
+    }
+    if write_within(media, file, at, &[byte]).is_err() {
+        anyhow::bail!("byte {at} of file {file} wasn't written");
+    }
     Ok(())
 }
 

@@ -2,6 +2,7 @@
 //! table on standard input, whose steps `table.rt` lists: a row more is a few lines of text there and in `stdout`.
 #![tactic(auto)]
 
+mod cuts;
 mod files;
 mod lines;
 mod mishaps;
@@ -9,9 +10,12 @@ mod numbers;
 mod order;
 mod report;
 mod script;
+mod sweeps;
 mod table;
 mod tapes;
 mod trials;
+mod tries;
+mod turning;
 mod volumes;
 mod world;
 

@@ -18,6 +18,14 @@ pub fn small_number(word: &str) -> anyhow::Result<u32> {
     }
 }
 
+/// A decimal number below 256.
+pub fn small_byte(word: &str) -> anyhow::Result<u8> {
+    match word.parse::<u8>() {
+        Ok(number) => Ok(number),
+        Err(_) => anyhow::bail!("{word} is no number below 256"),
+    }
+}
+
 /// The words of a text, parted by spaces.
 pub fn two_words(text: &str) -> anyhow::Result<(&str, &str)> {
     match text.split_once(' ') {

@@ -3,7 +3,7 @@
 use crate::script::Script;
 use backup_top::{Status, run};
 use cell_core::CellMem;
-use media_core::{ClockMem, MemMedia, SourceMem};
+use media_core::{ClockMem, Media, SourceMem};
 use std::alloc::{AllocError, Global};
 
 /// The moment of a clock that no line is answered by.
@@ -20,16 +20,28 @@ pub struct Order {
 
 impl Order {
     /// Runs a script over media and a cell.
-    pub fn run(
+    pub fn run<M: Media + Drop>(
         &self,
         alloc: Global,
-        media: MemMedia,
+        media: M,
         cell: &mut CellMem,
         script: &Script,
-    ) -> Result<(Status, MemMedia), AllocError> {
+    ) -> Result<(Status, M), AllocError> {
+        self.run_failing(alloc, media, cell, script, self.failing_read)
+    }
+
+    /// The same, where this read of the source fails.
+    pub fn run_failing<M: Media + Drop>(
+        &self,
+        alloc: Global,
+        media: M,
+        cell: &mut CellMem,
+        script: &Script,
+        failing_read: Option<u64>,
+    ) -> Result<(Status, M), AllocError> {
         let mut clock = clock_of(alloc, script.moments.as_slice())?;
         let mut source = SourceMem::new(alloc, script.lines.as_slice())?;
-        if let Some(read) = self.failing_read {
+        if let Some(read) = failing_read {
             source.fail_at(read)?;
         }
         Ok(run(

@@ -98,6 +98,11 @@ impl Script {
         Ok(())
     }
 
+    /// Adds bytes as they are.
+    pub fn add_bytes(&mut self, bytes: &[u8]) -> Result<(), AllocError> {
+        self.lines.extend_from_slice(bytes)
+    }
+
     /// Takes the last line feed away.
     pub fn leave_unended(&mut self) {
         let _ = self.lines.pop();

@@ -5,31 +5,40 @@
 //! - `config LINE` adds a line to the configuration, the first one in place of the line above. `words WORD..` stand behind the
 //!   program's name in place of `run`.
 //! - `fill FILE COUNT BYTE` makes that many equal bytes the front of a file, `log BYTES` gives the journal a log (in hexadecimal).
+//!   `change FILE AT BYTE` makes a byte of a file another one.
 //!   `block BYTES` and `mark` are records, a block as far as it isn't zeros, and `tape SLOT` puts those so far on a tape.
 //!   `volume NAME` makes a volume, by one call of the cell, `spoil NAME AT` makes its image a bad one. `out SLOT` takes a tape
 //!   out, `back SLOT` puts it back.
 //! - `media N`, `cell N` and `read N` make the call of that number fail.
 //! - `preamble N` adds the first N of five common lines to the script, `@MOMENT LINE` a line that is answered at that moment,
 //!   `- LINE` one that isn't answered, `long N` a line of N bytes. `unended` takes the last line feed away. `each FIRST LAST MOMENT
-//!   LINE` adds a line for each number, which stands in place of `%`.
+//!   LINE` adds a line for each number, which stands in place of `%`. `bytes BYTES` adds bytes as they are (in hexadecimal).
 //! - `run` runs the script and begins a new one: what it told is printed, and its status; `count` prints how many lines it told, how
 //!   many of them are refusals, and the last one. `journal` prints the journal's log,
 //!   `shape SLOT` the records of a tape, `show NAME` the vnodes of a volume.
+//! - `turn LINES FILE AT BYTE` runs the script over media that tell no content and read that byte of a file, once so many lines were
+//!   told. `sweep SLOT RECORD FIRST COUNT STEP BITS LINE` restores the volume of `sees` into an empty cell by this line, with each of so
+//!   many bytes of a record in turn changed by these bits, and prints how often each answer came, and what volume it left.
+//! - `cuts BYTES` prints where a journal is refused that is cut off behind each of these bytes, and `changes BITS BYTES` where each of
+//!   the bytes is changed by these bits; `-` where it is opened.
 //! - `look LINE` and `label LINE` are what a later service is asked of the journal and of the tape, and `sees NAME` is a volume that is
-//!   shown behind that. `inside MOMENT LINE` says that a stop inside the line before may leave what this line would. `fails` and
-//!   `stops` run the script with a failure of, or a stop in, each call of the media, and print how many runs there were, and how
-//!   many of them kept what is promised.
+//!   shown behind that. `scan LINE` is what a service is asked then whose journal was lost, and `finds NAME` is a volume that is shown
+//!   behind that. `inside MOMENT LINE` says that a stop inside the line before may leave what this line would. `fails` and
+//!   `stops` run the script with a failure of, or a stop in, each call of the media, `cells` and `reads` with a failure of each call of
+//!   the cell and of each read of the source, and `random SEED COUNT CALLS` with so many stops, each in a call below that number. They
+//!   print how many runs there were, and how many of them kept what is promised; with `scan` also how many dumps were listed behind all
+//!   of them, and how many of these were listed again without the journal.
 //!
 //! Empty lines and lines that begin with `#` are passed over.
 
-use crate::files::{file_of_log, fill, journal, move_tape};
+use crate::files::{file_of_log, fill, journal, move_tape, set_byte};
 use crate::lines::print_line;
-use crate::mishaps::try_calls;
-use crate::numbers::{bytes, number, small_number, two_words};
+use crate::numbers::{bytes, number, small_byte, small_number, two_words};
 use crate::tapes::tape_line;
-use crate::trials::Mishap;
+use crate::tries::try_by;
 use crate::volumes::print_volume;
 use crate::world::World;
+use backup_top::Status;
 use std::alloc::Global;
 
 /// Fills a file by the words of a step.
@@ -37,9 +46,7 @@ fn fill_by(alloc: Global, world: &mut World, rest: &str) -> anyhow::Result<()> {
     let (file, more) = two_words(rest)?;
     let (count, byte) = two_words(more)?;
     let file = small_number(file)?;
-    let Ok(byte) = u8::try_from(small_number(byte)?) else {
-        anyhow::bail!("{rest} has no byte");
-    };
+    let byte = small_byte(byte)?;
     let count = small_number(count)?;
     let bytes = vec![in alloc; byte; count as usize]?;
     fill(alloc, &mut world.media, file, bytes.as_slice())
@@ -70,13 +77,26 @@ fn spoil_by(alloc: Global, world: &mut World, rest: &str) -> anyhow::Result<()> 
     world.spoil(alloc, name, at)
 }
 
+/// Changes a byte of a file by the words of a step.
+fn change_by(world: &mut World, rest: &str) -> anyhow::Result<()> {
+    let (file, more) = two_words(rest)?;
+    let (at, byte) = two_words(more)?;
+    let byte = small_byte(byte)?;
+    set_byte(&mut world.media, small_number(file)?, number(at)?, byte)
+}
+
+/// Prints a status.
+pub fn print_status(alloc: Global, status: &Status, printed: &mut Vec<u8>) -> anyhow::Result<()> {
+    let number = status.number();
+    let line = format!(in alloc; "status {number} {status:?}")?;
+    print_line(printed, line.as_str())
+}
+
 /// Runs the script, and prints what was told and the status.
 fn run_script(alloc: Global, world: &mut World, printed: &mut Vec<u8>) -> anyhow::Result<()> {
     let (status, told) = world.run(alloc)?;
     printed.extend_from_slice(told.as_slice())?;
-    let number = status.number();
-    let line = format!(in alloc; "status {number} {status:?}")?;
-    print_line(printed, line.as_str())
+    print_status(alloc, &status, printed)
 }
 
 /// Runs the script, and prints how many lines were told, how many of them are refusals, the last one, and the status.
@@ -96,9 +116,8 @@ fn count_lines(alloc: Global, world: &mut World, printed: &mut Vec<u8>) -> anyho
     let front = format!(in alloc; "lines {lines} refused {refused} last ")?;
     printed.extend_from_slice(front.as_bytes())?;
     printed.extend_from_slice(last)?;
-    let number = status.number();
-    let line = format!(in alloc; "\nstatus {number} {status:?}")?;
-    print_line(printed, line.as_str())
+    printed.push(b'\n')?;
+    print_status(alloc, &status, printed)
 }
 
 /// Prints the log of the journal.
@@ -122,20 +141,6 @@ fn print_shape(
     printed: &mut Vec<u8>,
 ) -> anyhow::Result<()> {
     let line = tape_line(alloc, &mut world.media, small_number(rest)?)?;
-    print_line(printed, line.as_str())
-}
-
-/// Tries a mishap in each call, and prints the counts.
-fn try_mishaps(
-    alloc: Global,
-    world: &World,
-    mishap: Mishap,
-    printed: &mut Vec<u8>,
-) -> anyhow::Result<()> {
-    let counts = try_calls(alloc, world, mishap)?;
-    let runs = counts.runs;
-    let kept = counts.kept;
-    let line = format!(in alloc; "runs {runs} kept {kept}")?;
     print_line(printed, line.as_str())
 }
 
@@ -179,6 +184,7 @@ fn prepare(alloc: Global, world: &mut World, verb: &str, rest: &str) -> anyhow::
         "words" => world.say(alloc, rest)?,
         "fill" => fill_by(alloc, world, rest)?,
         "log" => log_by(alloc, world, rest)?,
+        "change" => change_by(world, rest)?,
         "block" => world.add_record(0, bytes(alloc, rest)?.as_slice())?,
         "mark" => world.add_record(1, b"")?,
         "tape" => tape_by(alloc, world, rest)?,
@@ -200,6 +206,7 @@ fn write(alloc: Global, world: &mut World, verb: &str, rest: &str) -> anyhow::Re
     match verb {
         "preamble" => world.script.add_preamble(small_number(rest)? as usize)?,
         "-" => world.script.add_silent(rest)?,
+        "bytes" => world.script.add_bytes(bytes(alloc, rest)?.as_slice())?,
         "long" => world.script.add_long(small_number(rest)?)?,
         "unended" => world.script.leave_unended(),
         "each" => add_each(alloc, world, rest)?,
@@ -207,6 +214,8 @@ fn write(alloc: Global, world: &mut World, verb: &str, rest: &str) -> anyhow::Re
         "sees" => world.seen.push(String::from_str(alloc, rest)?)?,
         "look" => world.journal_looks.add(0, rest)?,
         "label" => world.tape_looks.add(0, rest)?,
+        "scan" => world.scan_looks.add(0, rest)?,
+        "finds" => world.found.push(String::from_str(alloc, rest)?)?,
         _ => return Ok(false),
     }
     Ok(true)
@@ -231,9 +240,7 @@ fn print(
         "journal" => print_journal(alloc, world, printed),
         "shape" => print_shape(alloc, world, rest, printed),
         "show" => print_volume(alloc, &mut world.cell, rest, printed),
-        "fails" => try_mishaps(alloc, world, Mishap::Fails, printed),
-        "stops" => try_mishaps(alloc, world, Mishap::Stops, printed),
-        _ => anyhow::bail!("there is no step {step}"),
+        _ => try_by(alloc, world, verb, rest, printed),
     }
 }
 

@@ -1,4 +1,4 @@
-//! A script whose media fail or stop in one of their calls, judged by what a later service finds.
+//! A script of which a call fails or is the last one, judged by what a later service finds.
 
 use crate::files::blank;
 use crate::report::{Report, look};
@@ -9,13 +9,35 @@ use cell_core::CellMem;
 use media_core::{MemMedia, Pick};
 use std::alloc::{AllocError, Global};
 
-/// What becomes of a call of the media.
-#[derive(Clone, Copy)]
+/// What becomes of a call.
+#[derive(Clone, Copy, PartialEq)]
 pub enum Mishap {
-    /// It fails, and changes nothing.
-    Fails,
-    /// The machine stops in it.
-    Stops,
+    /// A call of the media fails, and changes nothing.
+    MediaFails,
+    /// The machine stops in a call of the media.
+    MediaStops,
+    /// A call of the cell fails, and changes nothing.
+    CellFails,
+    /// A read of the source fails.
+    ReadFails,
+}
+
+impl Mishap {
+    /// Whether it befalls a call of the media.
+    pub fn is_of_media(self) -> bool {
+        matches!(self, Mishap::MediaFails | Mishap::MediaStops)
+    }
+
+    /// Whether a run that met the mishap ends with this status.
+    fn ends_with(self, status: &Status) -> bool {
+        match self {
+            Mishap::MediaFails | Mishap::MediaStops => {
+                matches!(status, Status::MediaFault | Status::OutputFault)
+            }
+            Mishap::CellFails => matches!(status, Status::CellFault),
+            Mishap::ReadFails => matches!(status, Status::ReadFault),
+        }
+    }
 }
 
 /// What a script tells to its end, and what is found after each front of its lines.
@@ -65,14 +87,25 @@ impl Wanted {
 
     /// Whether this report is that of just so many lines.
     fn is_after(&self, count: usize, report: &Report) -> bool {
-        self.reports.get(count) == Some(report)
+        match self.reports.get(count) {
+            Some(after) => after.is_like(report),
+            None => false,
+        }
     }
 
-    /// Whether a stop inside the line after so many may leave this report, since the row says so.
-    fn is_said_inside(&self, count: usize, report: &Report) -> bool {
+    /// Whether scans find what they do after just so many lines.
+    fn scans_after(&self, count: usize, report: &Report) -> bool {
+        match self.reports.get(count) {
+            Some(after) => after.found == report.found,
+            None => false,
+        }
+    }
+
+    /// What a stop inside the line after so many may leave, where the row says so.
+    fn said_inside(&self, count: usize) -> Option<&Report> {
         match self.insides.get(count) {
-            Some(Some(inside)) => inside == report,
-            _ => false,
+            Some(Some(inside)) => Some(inside),
+            _ => None,
         }
     }
 
@@ -86,15 +119,35 @@ impl Wanted {
         }
     }
 
+    /// Whether the report is one of those that a stop after so many lines, or inside the next one, may leave.
+    fn is_found(&self, world: &World, count: usize, report: &Report) -> bool {
+        let is_said = match self.said_inside(count) {
+            Some(inside) => inside.is_like(report),
+            None => false,
+        };
+        is_said
+            || self.is_after(count, report)
+            || self.is_after(count.saturating_add(1), report)
+            || self.is_inside(world, count, report)
+    }
+
+    /// Whether scans find what they do after so many lines, after one more, or inside that one.
+    fn is_scanned(&self, count: usize, report: &Report) -> bool {
+        let is_said = match self.said_inside(count) {
+            Some(inside) => inside.found == report.found,
+            None => false,
+        };
+        is_said
+            || self.scans_after(count, report)
+            || self.scans_after(count.saturating_add(1), report)
+    }
+
     /// Whether what was told is a front of the whole, all that was acknowledged is there, and nothing but perhaps one line more.
     fn is_kept(&self, world: &World, told: &[u8], report: &Report) -> bool {
         let acknowledged = replies_in(told);
-        let next = acknowledged.saturating_add(1);
         self.told.as_slice().starts_with(told)
-            && (self.is_after(acknowledged, report)
-                || self.is_after(next, report)
-                || self.is_inside(world, acknowledged, report)
-                || self.is_said_inside(acknowledged, report))
+            && self.is_found(world, acknowledged, report)
+            && self.is_scanned(acknowledged, report)
     }
 }
 
@@ -122,19 +175,31 @@ pub struct Trial {
     pub is_whole: bool,
     /// What it left is as promised.
     pub is_kept: bool,
+    /// How many dumps are listed.
+    pub listed: u64,
+    /// How many of them are listed again once the journal is lost and the tapes are scanned.
+    pub again: u64,
 }
 
-/// Blank media of which a call has this mishap.
-fn media_with(alloc: Global, mishap: Mishap, call: u64) -> Result<MemMedia, AllocError> {
+/// Blank media and an empty cell of which a call has this mishap, and the read of the source that has it.
+fn world_with(
+    alloc: Global,
+    mishap: Mishap,
+    call: u64,
+) -> Result<(MemMedia, CellMem, Option<u64>), AllocError> {
     let mut media = blank(alloc)?;
+    let mut cell = CellMem::new(alloc);
     match mishap {
-        Mishap::Fails => media.fail_at(call)?,
-        Mishap::Stops => media.stop_at(call),
+        Mishap::MediaFails => media.fail_at(call)?,
+        Mishap::MediaStops => media.stop_at(call),
+        Mishap::CellFails => cell.fail_at(call)?,
+        Mishap::ReadFails => return Ok((media, cell, Some(call))),
     }
-    Ok(media)
+    Ok((media, cell, None))
 }
 
-/// Runs a row's script with a mishap, opens what this pick leaves, and looks at it.
+/// Runs a row's script with a mishap, opens what this pick leaves, and looks at it. Where the mishap didn't come to pass, it is met by
+/// no look.
 pub fn try_call(
     alloc: Global,
     world: &World,
@@ -143,16 +208,26 @@ pub fn try_call(
     call: u64,
     pick: Pick,
 ) -> anyhow::Result<Trial> {
-    let mut cell = CellMem::new(alloc);
-    let media = media_with(alloc, mishap, call)?;
-    let (status, media) = world.order.run(alloc, media, &mut cell, &world.script)?;
+    let (media, mut cell, read) = world_with(alloc, mishap, call)?;
+    let (status, media) = world
+        .order
+        .run_failing(alloc, media, &mut cell, &world.script, read)?;
     let told = Vec::from_slice(alloc, media.told())?;
-    let report = look(alloc, world, media.reopen(pick)?, &mut cell)?;
     let is_whole = matches!(status, Status::Done | Status::SomeRefused);
-    let is_fault = matches!(status, Status::MediaFault | Status::OutputFault);
+    if is_whole && mishap == Mishap::CellFails {
+        return Ok(Trial {
+            is_whole,
+            is_kept: told == wanted.told,
+            listed: 0,
+            again: 0,
+        });
+    }
+    let report = look(alloc, world, media.reopen(pick)?, &mut cell)?;
     let is_kept = wanted.is_kept(world, told.as_slice(), &report);
     Ok(Trial {
         is_whole,
-        is_kept: (is_whole || is_fault) && is_kept,
+        is_kept: (is_whole || mishap.ends_with(&status)) && is_kept,
+        listed: report.listed(),
+        again: report.listed_again(),
     })
 }

@@ -2,8 +2,12 @@
 
 use crate::lines::print_line;
 use cell_core::{Cell, CellFault, CellMem, Taken};
+use dump_stream::Writer;
 use std::alloc::Global;
-use vnode_model::{EntryState, Vnode, VnodeKind};
+use vnode_model::{EntryState, Vnode, VnodeKind, Volume};
+
+/// The most pieces of a stream that are taken.
+const MOST_PIECES: u32 = 65_536;
 
 /// The longest data that are shown.
 const SHOWN: usize = 20;
@@ -83,4 +87,40 @@ pub fn print_volume(
         print_at(alloc, cell, i, name, printed)?;
     }
     Ok(())
+}
+
+/// Adds the stream of a volume.
+fn add_volume(volume: Volume, stream: &mut Vec<u8>) -> anyhow::Result<()> {
+    let mut writer = Writer::new(volume, 0, 0);
+    let mut piece = [0u8; 4096];
+    for _ in 0..MOST_PIECES {
+        let count = writer.next(&mut piece);
+        if count == 0 {
+            break;
+        }
+        stream.extend_from_slice(&piece[..count])?;
+    }
+    Ok(())
+}
+
+/// Adds the stream of the volume at a place of the cell's list, if one of this name stands there.
+fn add_at(cell: &mut CellMem, i: u32, name: &str, stream: &mut Vec<u8>) -> anyhow::Result<()> {
+    let Ok(taken) = taken_at(cell, i, name) else {
+        anyhow::bail!("the cell can't be read");
+    };
+    let Some(taken) = taken else {
+        return Ok(());
+    };
+    let Taken { volume, .. } = taken;
+    add_volume(volume, stream)
+}
+
+/// The stream of the volume of this name, an empty one where there is none.
+pub fn volume_stream(alloc: Global, cell: &mut CellMem, name: &str) -> anyhow::Result<Vec<u8>> {
+    let mut stream = Vec::new(alloc);
+    let count = cell.count();
+    for i in 0..count {
+        add_at(cell, i, name, &mut stream)?;
+    }
+    Ok(stream)
 }

@@ -3,6 +3,7 @@
 use crate::files::{blank, taken};
 use crate::order::Order;
 use crate::script::Script;
+use crate::turning::{Turn, Turning};
 use backup_top::Status;
 use bk_text::{Host, Name, Part};
 use cell_core::{Cell, CellMem};
@@ -27,8 +28,12 @@ pub struct World {
     pub script: Script,
     pub journal_looks: Script,
     pub tape_looks: Script,
+    /// What is asked once the journal is lost.
+    pub scan_looks: Script,
     /// The volumes that are shown behind the looks.
     pub seen: Vec<String>,
+    /// The volumes that are shown once the journal is lost and the tapes are scanned.
+    pub found: Vec<String>,
 }
 
 impl World {
@@ -49,7 +54,9 @@ impl World {
             script: Script::new(alloc),
             journal_looks: Script::new(alloc),
             tape_looks: Script::new(alloc),
+            scan_looks: Script::new(alloc),
             seen: Vec::new(alloc),
+            found: Vec::new(alloc),
         })
     }
 
@@ -92,6 +99,30 @@ impl World {
         let media = taken(alloc, &mut self.media)?;
         let (status, media) = self.order.run(alloc, media, &mut self.cell, &self.script)?;
         self.media = media;
+        self.script = Script::new(alloc);
+        let told = told_since(alloc, &self.media, before)?;
+        Ok((status, told))
+    }
+
+    /// Runs a script over the media and another cell.
+    pub fn run_on(
+        &mut self,
+        alloc: Global,
+        cell: &mut CellMem,
+        script: &Script,
+    ) -> anyhow::Result<()> {
+        let media = taken(alloc, &mut self.media)?;
+        let (_, media) = self.order.run(alloc, media, cell, script)?;
+        self.media = media;
+        Ok(())
+    }
+
+    /// Runs the script over media with such a byte, and begins a new one. The answer is the status and what was told.
+    pub fn run_turning(&mut self, alloc: Global, turn: Turn) -> anyhow::Result<(Status, Vec<u8>)> {
+        let before = self.media.told().len();
+        let media = Turning::new(taken(alloc, &mut self.media)?, turn);
+        let (status, media) = self.order.run(alloc, media, &mut self.cell, &self.script)?;
+        self.media = media.into_inner();
         self.script = Script::new(alloc);
         let told = told_since(alloc, &self.media, before)?;
         Ok((status, told))
