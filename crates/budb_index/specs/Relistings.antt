@@ -1,5 +1,5 @@
 -- What changes do to the listed dumps.
-use Rattle.std.specs.Prelude.{ℕ, ◌+◌, ◌≤◌, List, [], ◌∷◌, ◌++◌, length, if◌then◌else◌, Option, Some, None}
+use Rattle.std.specs.Prelude.{ℕ, ◌+◌, ◌≤◌, Bool, false, List, [], ◌∷◌, ◌++◌, length, if◌then◌else◌, Option, Some, None}
 use Rattle.std.specs.List.{filter_map}
 use Rattle.budb_changes.specs.declared.records.DumpRecordFields.{DumpRecordFields}
 use Rattle.budb_changes.specs.declared.change.Change.{Change}
@@ -42,6 +42,16 @@ relisted (DropDump id) listed = without (is_dump id) listed
 abbrev pub relisted_from : List Relisting → List DumpRecordFields → List DumpRecordFields
 relisted_from [] listed = listed
 relisted_from (one ∷ coming) listed = relisted_from coming (relisted one listed)
+
+-- whether a change lists a record: it has one that fits
+abbrev pub lists_by : Option Relisting → List DumpRecordFields → Bool
+lists_by None listed = false
+lists_by (Some (Put dump)) listed = fits_record dump listed
+lists_by (Some (DropSet initial)) listed = false
+lists_by (Some (DropDump id)) listed = false
+
+abbrev pub lists : Change → List DumpRecordFields → Bool
+lists change listed = lists_by (relisting_of change) listed
 
 -- ---- room
 

@@ -82,7 +82,7 @@ impl Index {
 
     /// Whether a record fits: its id isn't 0 and isn't listed, its parent is below it, and without a parent it has whole
     /// volumes alone.
-    fn fits<L: Ledger>(&self, dump: &DumpRecord, steps: &mut Steps<L>) -> bool
+    pub(crate) fn fits<L: Ledger>(&self, dump: &DumpRecord, steps: &mut Steps<L>) -> bool
         ensures { result ≡ fits_record dump.now self.now.listed }
     {
         let fields = dump.fields();
@@ -93,7 +93,7 @@ impl Index {
     }
 
     /// Lists a record, last, where it fits. It takes no memory.
-    fn put<L: Ledger>(&mut self, dump: DumpRecord, steps: &mut Steps<L>)
+    pub(crate) fn put<L: Ledger>(&mut self, dump: DumpRecord, steps: &mut Steps<L>)
         requires room { 0 < self.old.spare_records }
         requires frag_room { length (dump_frags dump) ≤ self.old.spare_frags }
         ensures listed { self.new.listed ≡ (if fits_record dump self.old.listed then self.old.listed ++ dump ∷ [] else self.old.listed) }

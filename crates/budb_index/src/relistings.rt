@@ -23,7 +23,7 @@ pub enum Relisting {
 }
 
 /// What a change does to the listed dumps, with a copy of its record; `None` where it does nothing to them.
-fn relisting_of(change: &Change) -> Result<Option<Relisting>, AllocError>
+pub(crate) fn relisting_of(change: &Change) -> Result<Option<Relisting>, AllocError>
     ensures { IfOk result (λ one. one ≡ relisting_of change.now) }
 {
     Ok(match change {
