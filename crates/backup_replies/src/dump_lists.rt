@@ -1,8 +1,9 @@
 //! The lines of lists of dumps, by their ids.
 
 ghost use Rattle.std.specs.Prelude.{◌≡◌, ◌++◌, Some, OnOk, IfOk};
+ghost use Rattle.std.specs.Option.{option_copied};
 ghost use Rattle.budb_fold.specs.Lookups.{record_of, volume_of};
-ghost use Rattle.backup_replies.specs.Dumps.{listed_line, dumps_lines, on_line, history_line, history_lines, deleted_line, deleted_lines};
+ghost use Rattle.backup_replies.specs.Dumps.{listed_line, dumps_lines, on_line, history_line, deleted_line, deleted_lines};
 
 use crate::dumps::put_dump;
 use crate::putting::{put_number, put_ok};
@@ -55,36 +56,20 @@ fn put_on_dump(line: &mut Out, dump: &DumpRecord, name: &[u8], id: u32) -> Resul
     }
 }
 
-fn put_history(
+/// Puts the line of a volume in the dump of an id behind others, where there is such a dump and it has a volume of exactly this
+/// name. Of one name in a dump the first volume alone counts.
+pub fn put_history(
     lines: &mut Out,
-    listed: &[DumpRecord],
     name: &[u8],
     id: u32,
+    dump: Option<&DumpRecord>,
 ) -> Result<(), AllocError>
-    ensures { OnOk result (lines.new ≡ lines.old ++ history_line name.now id (record_of listed.now id)) }
+    ensures { OnOk result (lines.new ≡ lines.old ++ history_line name.now id (option_copied dump.entry)) }
 {
-    match record_of(listed, id) {
+    match dump {
         None => Ok(()),
         Some(dump) => put_on_dump(lines, dump, name, id),
     }
-}
-
-/// The lines of a volume in the dumps of these ids, as far as they are listed and have one of exactly this name. Of one name in a
-/// dump the first volume alone counts.
-pub fn history_lines(
-    alloc: Global,
-    listed: &[DumpRecord],
-    name: &[u8],
-    ids: &[u32],
-) -> Result<Bytes, AllocError>
-    ensures { IfOk result (λ lines. lines ≡ history_lines listed.now name.now ids.now) }
-{
-    let mut lines = Out::new(alloc);
-    for id in ids {
-        put_history(&mut lines, listed, name, *id)?;
-    }
-    put_ok(&mut lines)?;
-    Ok(lines.into_bytes())
 }
 
 fn put_deleted(line: &mut Out, id: u32) -> Result<(), AllocError>

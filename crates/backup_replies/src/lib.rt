@@ -18,13 +18,13 @@ mod streams;
 mod told;
 mod volumes;
 
-pub use dump_lists::{deleted_lines, dumps_lines, history_lines};
+pub use dump_lists::{deleted_lines, dumps_lines, put_history};
 pub use dumps::whole_dump_lines;
 pub use faults::fault_line;
 pub use hosts::hosts_lines;
 pub use labels::{label_lines, labeled_lines};
 pub use levels::levels_lines;
-pub use putting::ok_line;
+pub use putting::{ok_line, put_ok};
 pub use refusals::Refusal;
 pub use refused::{
     put_refused_number, put_refused_numbers, refused_alone, refused_at, refused_number,

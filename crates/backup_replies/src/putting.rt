@@ -36,7 +36,7 @@ pub(crate) fn put_refused(line: &mut Out, refusal: Refusal) -> Result<(), AllocE
 }
 
 /// The line of a command that is done.
-pub(crate) fn put_ok(line: &mut Out) -> Result<(), AllocError>
+pub fn put_ok(line: &mut Out) -> Result<(), AllocError>
     ensures { OnOk result (line.new ≡ line.old ++ ok_line) }
 {
     line.piece(b"ok\n")?;

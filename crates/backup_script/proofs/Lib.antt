@@ -8,3 +8,4 @@ pub mod ServingLaws
 pub mod AnswerLaws
 pub mod LoopLaws
 pub mod RunLaws
+pub mod StopLaws

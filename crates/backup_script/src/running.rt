@@ -79,6 +79,7 @@ fn serving_stop(stop: ServeStop) -> RunStop
     ensures output { result ≡ RunStop.Output → stop ≡ ServeStop.Output }
     ensures output_back { stop ≡ ServeStop.Output → result ≡ RunStop.Output }
     ensures long { result ≡ RunStop.TooLong → stop ≡ ServeStop.TooLong }
+    ensures long_back { stop ≡ ServeStop.TooLong → result ≡ RunStop.TooLong }
     ensures log { (at : ℕ) → result ≢ RunStop.BadLog at }
 {
     match stop {

@@ -11,3 +11,4 @@ pub mod Taking
 pub mod Settling
 pub mod RestoreLaws
 pub mod DumpLaws
+pub mod OpenLaws

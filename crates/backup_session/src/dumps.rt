@@ -11,8 +11,8 @@ ghost use Rattle.backup_replies.specs.Dumps.{history_lines};
 ghost use Rattle.backup_session.specs.Verdicts.{set_ids, forgets, set_goes, dump_goes, one_dump, told_dumps};
 
 use crate::verdict::{Verdict, refuses_number, refuses_numbers};
-use backup_replies::{Refusal, deleted_lines, dumps_lines, history_lines, whole_dump_lines};
-use bk_text::{List, Name};
+use backup_replies::{Refusal, deleted_lines, dumps_lines, put_history, put_ok, whole_dump_lines};
+use bk_text::{Bytes, List, Name, Out};
 use budb::{Budb, descending};
 use budb_journal::{Change, DumpRecord};
 use std::alloc::{AllocError, Global};
@@ -164,12 +164,23 @@ pub(crate) fn show_dumps(
     }
 }
 
+/// The lines of a volume in the listed dumps of these ids.
+fn history_of(alloc: Global, budb: &Budb, name: &[u8], ids: &[u32]) -> Result<Bytes, AllocError>
+    ensures { IfOk result (λ lines. lines ≡ history_lines budb.now.database.listed name.now ids.now) }
+{
+    let mut lines = Out::new(alloc);
+    for id in ids {
+        put_history(&mut lines, name, *id, budb.record(*id))?;
+    }
+    put_ok(&mut lines)?;
+    Ok(lines.into_bytes())
+}
+
 /// `volinfo`.
 pub(crate) fn show_history(alloc: Global, budb: &Budb, volume: &Name) -> Result<Verdict, AllocError>
     ensures { IfOk result (λ v. v ≡ Verdict.Shows (history_lines budb.now.database.listed volume.now (volume_history budb.now.database.listed volume.now))) }
 {
     let ids = budb.volume_history(volume.bytes())?;
-    let listed = budb.database().listed.as_slice();
-    let text = history_lines(alloc, listed, volume.bytes(), ids.as_slice())?;
+    let text = history_of(alloc, budb, volume.bytes(), ids.as_slice())?;
     Ok(Verdict::Shows(text))
 }

@@ -1,6 +1,6 @@
 -- The database of a log that has bytes: what it holds has the forms of changes, so that the list of a checkpoint has bytes too.
-use Rattle.std.proofs.Common.{◌≡◌, suc, ℕ, ◌+◌, ◌-◌, ◌≤◌, List, [], ◌∷◌, ◌++◌, length, take, drop, Bool, true, false, not, refl, arith}
-use Rattle.std.specs.Prelude.{All, map, max, nat_lt, nat_le, ◌==◌, ◌&&◌, if◌then◌else◌, Option, Some, None, Result, Ok, Err, IfOk}
+use Rattle.std.proofs.Common.{suc, ℕ, ◌+◌, ◌-◌, List, [], ◌∷◌, ◌++◌, length, take, drop, Bool, true, false, not, arith}
+use Rattle.std.specs.Prelude.{All, map, max, nat_lt, nat_le, ◌==◌, ◌&&◌, if◌then◌else◌, Some, None, Result, Ok, Err, IfOk}
 use Rattle.std.specs.Option.{unwrap_or}
 use Rattle.std.specs.List.{filter, flat_map, remove}
 use Rattle.std.proofs.lemmas.List.Elements.{All-nil, All-cons, All-head, All-tail, All-append, All-push, All-take, All-drop, All-map, All-filter, All-weaker}

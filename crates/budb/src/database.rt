@@ -8,16 +8,19 @@ ghost use Rattle.plant_effects.specs.Runs.{state_of, Done, Leaves, SameTape, Sam
 ghost use Rattle.budb_changes.specs.declared.change.Change.{Change as AnyChange};
 ghost use Rattle.budb_changes.specs.Bytes.{encoded};
 ghost use Rattle.budb_changes.specs.Forms.{AreChanges};
-ghost use Rattle.budb_fold.specs.Database.{after_from};
+ghost use Rattle.budb_fold.specs.Database.{after, after_from};
 ghost use Rattle.budb_fold.specs.Lookups.{record_of};
 ghost use Rattle.budb.specs.Views.{prepared_of};
 ghost use Rattle.budb.specs.Kept.{Keeps, Opens, UnlessFailed};
 
 use crate::appending::append_bytes;
+use crate::copies::{Behind, copy_of};
 use crate::fault::{BudbFault, CommitFault, PreparedFault};
-use crate::prepared::Prepared;
+use crate::folding::fold_indexed;
+use crate::prepared::{Prepared, move_in, take_ready};
 use bk_text::List;
-use budb_journal::{Change, Database, DumpRecord, HostPort, ReplayFault, fold, record_of, replay};
+use budb_index::{Index, find};
+use budb_journal::{Change, Database, DumpRecord, HostPort, ReplayFault, replay};
 use dump_levels::Levels;
 use plant_core::Plant;
 use std::alloc::{AllocError, Global};
@@ -29,29 +32,34 @@ use volume_sets::Sets;
 #[derive(Drop)]
 pub struct Budb {
     database: Database,
+    index: Index,
     prepared: Option<Prepared>,
+    behind: Option<Behind>,
 }
 
 impl Model for Budb {
     ghost use Rattle.std.specs.Prelude.{IfSome};
-    ghost use Rattle.budb.specs.Views.{BudbView, changes_of, IsReady};
+    ghost use Rattle.budb.specs.Views.{BudbView, changes_of, IsKept};
 
     ghost Value = { BudbView };
 
     ghost view = { λ a. record { database = a.database; prepared = changes_of a.prepared } };
 
-    ghost invariant = { λ a. IsReady a.database a.prepared };
+    ghost invariant = { λ a. IsKept a.database a.index a.prepared a.behind };
 }
 
 impl Budb {
-    /// The database with nothing prepared.
-    fn of_database(database: Database) -> Budb
-        ensures { result ≡ record { database = database; prepared = None } }
+    /// The database that changes make, with nothing prepared.
+    fn of_changes(alloc: Global, changes: List<Change>) -> Result<Budb, AllocError>
+        ensures { IfOk result (λ budb. budb ≡ record { database = after changes; prepared = None }) }
     {
-        Budb {
+        let (database, index) = fold_indexed(alloc, changes)?;
+        Ok(Budb {
             database,
+            index,
             prepared: None,
-        }
+            behind: None,
+        })
     }
 
     /// Opens the database of a plant's log. Nothing is written, and nothing is prepared.
@@ -66,8 +74,8 @@ impl Budb {
         ensures cause { HasCauseAt BudbFault.Failed (P.view plant.old).faults (P.view plant.new).faults result }
     {
         match replay(alloc, plant) {
-            Ok(changes) => match fold(alloc, changes) {
-                Ok(database) => Ok(Budb::of_database(database)),
+            Ok(changes) => match Budb::of_changes(alloc, changes) {
+                Ok(budb) => Ok(budb),
                 Err(_) => Err(BudbFault::Memory),
             },
             Err(ReplayFault::BadChange { at }) => Err(BudbFault::BadLog { at }),
@@ -92,7 +100,10 @@ impl Budb {
         ensures database { self.new.database ≡ self.old.database }
         ensures err { OnErr result (self.new ≡ self.old) }
     {
-        let prepared = Prepared::new(&self.database, changes)?;
+        let alloc = self.database.sets.allocator();
+        let coming = self.index.prepare(alloc, changes)?;
+        let copy = copy_of(&self.database, &mut self.behind)?;
+        let prepared = Prepared::new(copy, changes, coming)?;
         self.prepared = Some(prepared);
         Ok(())
     }
@@ -103,18 +114,6 @@ impl Budb {
         ensures database { self.new.database ≡ self.old.database }
     {
         self.prepared = None;
-    }
-
-    /// Takes the prepared changes away.
-    fn take_prepared(&mut self) -> Prepared
-        requires { IsSome self.old.prepared }
-        ensures nothing { self.new.prepared ≡ None }
-        ensures same { self.new.database ≡ self.old.database }
-        ensures form { AreChanges (prepared_of self.old) }
-        ensures bytes { result.bytes ≡ encoded (prepared_of self.old) }
-        ensures database { result.database ≡ after_from (prepared_of self.old) self.old.database }
-    {
-        self.prepared.take().unwrap()
     }
 
     /// Commits the prepared changes as one effect: a crash that the plant survives leaves the old log, or the old log with
@@ -137,9 +136,14 @@ impl Budb {
         ensures stays { StaysQuiet P.Plant plant.old plant.new }
         ensures cause { HasCauseAt PreparedFault.Failed (P.view plant.old).faults (P.view plant.new).faults result }
     {
-        let prepared = self.take_prepared();
+        let prepared = take_ready(&self.database, &self.index, &mut self.prepared);
         append_bytes(plant, prepared.bytes.as_slice())?;
-        self.database = prepared.database;
+        move_in(
+            &mut self.database,
+            &mut self.index,
+            &mut self.behind,
+            prepared,
+        );
         Ok(())
     }
 
@@ -181,11 +185,18 @@ impl Budb {
         &self.database
     }
 
+    /// The index of the listed dumps.
+    pub(crate) fn index(&self) -> &Index
+        ensures { result.now.listed ≡ self.now.database.listed }
+    {
+        &self.index
+    }
+
     /// The listed dump of this id.
     pub fn record(&self, id: u32) -> Option<&DumpRecord>
         ensures { option_copied result ≡ record_of self.now.database.listed id }
     {
-        record_of(self.database.listed.as_slice(), id)
+        find(&self.index, id)
     }
 
     /// The ids of the listed dumps, in the order of recording.

@@ -4,10 +4,13 @@
 
 mod appending;
 mod checkpoints;
+mod copies;
 mod database;
 mod fault;
+mod folding;
 mod histories;
 mod laws;
+mod lookups;
 mod prepared;
 
 pub use budb_journal::HostPort;

@@ -1,20 +1,27 @@
 //! Changes that are ready to be committed.
 
-ghost use Rattle.std.specs.Prelude.{◌≡◌, IfOk};
+ghost use Rattle.std.specs.Prelude.{◌≡◌, [], None, IsSome, IfOk, IfSome};
+ghost use Rattle.std.specs.Option.{unwrap_or};
 ghost use Rattle.budb_fold.specs.Database.{after_from};
 ghost use Rattle.budb_changes.specs.Bytes.{encoded};
 ghost use Rattle.budb_changes.specs.Forms.{AreChanges};
+ghost use Rattle.budb_index.specs.Relistings.{relistings_of, relisted_from, HasRoom};
+ghost use Rattle.budb.specs.Views.{changes_of, IsPrepared, CatchesUp};
 
+use crate::copies::{Behind, made};
 use bk_text::{Bytes, List, Out};
+use budb_index::{Index, Relisting, follow};
 use budb_journal::{Change, Database, encode};
 use std::alloc::{AllocError, Global};
+use std::mem::replace;
 
-/// Changes, their bytes, and the database after them: all that a commit needs.
+/// Changes, their bytes, the database after them, and what they do to the index: all that a commit needs.
 #[derive(Drop)]
 pub(crate) struct Prepared {
     pub(crate) changes: List<Change>,
     pub(crate) bytes: Bytes,
     pub(crate) database: Database,
+    pub(crate) coming: List<Relisting>,
 }
 
 /// The bytes of changes.
@@ -28,25 +35,72 @@ pub(crate) fn bytes_of(alloc: Global, changes: &[Change]) -> Result<Bytes, Alloc
 }
 
 /// A copy of changes.
-fn copy_of(alloc: Global, changes: &[Change]) -> Result<List<Change>, AllocError>
+fn copied(alloc: Global, changes: &[Change]) -> Result<List<Change>, AllocError>
     ensures { IfOk result (λ copy. copy ≡ changes.now) }
 {
     Ok(List::from_vec(changes.to_vec(alloc)?))
 }
 
 impl Prepared {
-    /// Encodes changes, and makes the database after them beside this one.
-    pub(crate) fn new(database: &Database, changes: &[Change]) -> Result<Prepared, AllocError>
+    /// Encodes changes, and makes them of a copy of the database. What they do to the index is given.
+    pub(crate) fn new(
+        copy: Database,
+        changes: &[Change],
+        coming: List<Relisting>,
+    ) -> Result<Prepared, AllocError>
         ensures changes { IfOk result (λ one. one.changes ≡ changes.now) }
         ensures form { IfOk result (λ one. AreChanges changes.now) }
         ensures bytes { IfOk result (λ one. one.bytes ≡ encoded changes.now) }
-        ensures database { IfOk result (λ one. one.database ≡ after_from changes.now database.now) }
+        ensures database { IfOk result (λ one. one.database ≡ after_from changes.now copy) }
+        ensures coming { IfOk result (λ one. one.coming ≡ coming) }
     {
-        let alloc = database.sets.allocator();
+        let alloc = copy.sets.allocator();
         Ok(Prepared {
-            changes: copy_of(alloc, changes)?,
+            changes: copied(alloc, changes)?,
             bytes: bytes_of(alloc, changes)?,
-            database: database.with(changes)?,
+            database: made(copy, copied(alloc, changes)?)?,
+            coming,
         })
     }
+}
+
+/// Moves the database after prepared changes in, and has the index follow. The one before is kept as the copy that is behind. It
+/// takes no memory.
+pub(crate) fn move_in(
+    database: &mut Database,
+    index: &mut Index,
+    behind: &mut Option<Behind>,
+    prepared: Prepared,
+)
+    requires room { HasRoom index.old prepared.coming }
+    requires after { prepared.database ≡ after_from prepared.changes database.old }
+    ensures database { database.new ≡ prepared.database }
+    ensures index { index.new.listed ≡ relisted_from prepared.coming index.old.listed }
+    ensures behind { IfSome behind.new (CatchesUp database.new) }
+{
+    let before = replace(database, prepared.database);
+    *behind = Some(Behind {
+        database: before,
+        changes: prepared.changes,
+    });
+    follow(index, prepared.coming);
+}
+
+/// Takes the prepared changes away.
+pub(crate) fn take_ready(
+    database: &Database,
+    index: &Index,
+    prepared: &mut Option<Prepared>,
+) -> Prepared
+    requires ready { IfSome prepared.old (IsPrepared database.now index.now) }
+    requires some { IsSome prepared.old }
+    ensures nothing { prepared.new ≡ None }
+    ensures changes { result.changes ≡ unwrap_or (changes_of prepared.old) [] }
+    ensures form { AreChanges (unwrap_or (changes_of prepared.old) []) }
+    ensures bytes { result.bytes ≡ encoded (unwrap_or (changes_of prepared.old) []) }
+    ensures database { result.database ≡ after_from (unwrap_or (changes_of prepared.old) []) database.now }
+    ensures coming { result.coming ≡ relistings_of (unwrap_or (changes_of prepared.old) []) }
+    ensures room { HasRoom index.now result.coming }
+{
+    prepared.take().unwrap()
 }

@@ -10,7 +10,6 @@ use crate::command::DumpCommand;
 use crate::entries::volumes_of;
 use bk_text::{Bytes, LevelPath};
 use budb::Budb;
-use budb_fold::parent_of;
 use dump_job::DumpOrder;
 use std::alloc::{AllocError, Global};
 use tape_config::{Config, Port};
@@ -54,8 +53,7 @@ pub(crate) fn order_of(
     ensures form { IfOk result (λ order. IsMaybe IsHost order.cell) }
 {
     let volumes = volumes_of(budb.sets(), &command.set, cell)?;
-    let listed = budb.database().listed.as_slice();
-    let parent = parent_of(alloc, listed, &command.set, &command.level)?;
+    let parent = budb.parent_of(&command.set, &command.level)?;
     Ok(DumpOrder {
         set: command.set.clone()?,
         level: command.level.clone()?,

@@ -9,8 +9,9 @@ ghost use Rattle.restore_chain.specs.Planning.{need_at, needs_by, needs_in};
 ghost use Rattle.budb_fold.specs.Lookups.{volume_of};
 
 use bk_text::TapeName;
+use budb::Budb;
 use budb_changes::{DumpRecord, Frag};
-use budb_fold::{record_of, volume_of};
+use budb_fold::volume_of;
 use std::alloc::{AllocError, Global};
 use std::marker::Model;
 use tape_frames::tape_name;
@@ -75,13 +76,13 @@ fn push_dump<'a>(
 /// Puts what the dump of an id needs for a volume behind what is there.
 fn push_listed<'a>(
     needs: &mut Vec<Need<'a>>,
-    listed: &'a [DumpRecord],
+    budb: &'a Budb,
     id: u32,
     name: &[u8],
 ) -> Result<(), AllocError>
-    ensures { OnOk result (needs.new.items ≡ needs.old.items ++ needs_in listed.now name.now id) }
+    ensures { OnOk result (needs.new.items ≡ needs.old.items ++ needs_in budb.now.database.listed name.now id) }
 {
-    match record_of(listed, id) {
+    match budb.record(id) {
         None => Ok(()),
         Some(dump) => push_dump(needs, dump, name),
     }
@@ -90,15 +91,15 @@ fn push_listed<'a>(
 /// The tapes of a chain in playing order: the chain's, and in a dump that of the volume's fragments.
 pub(crate) fn needs_of_chain<'a>(
     alloc: Global,
-    listed: &'a [DumpRecord],
+    budb: &'a Budb,
     ids: &[u32],
     name: &[u8],
 ) -> Result<Vec<Need<'a>>, AllocError>
-    ensures { IfOk result (λ found. found.items ≡ needs listed.now ids.now name.now) }
+    ensures { IfOk result (λ found. found.items ≡ needs budb.now.database.listed ids.now name.now) }
 {
     let mut needs = Vec::new(alloc);
     for id in ids {
-        push_listed(&mut needs, listed, *id, name)?;
+        push_listed(&mut needs, budb, *id, name)?;
     }
     Ok(needs)
 }

@@ -14,8 +14,7 @@ use crate::holders::holder_of;
 use crate::needs::{Need, needs_of_chain};
 use bk_text::{List, Name, TapeName};
 use budb::Budb;
-use budb_changes::DumpRecord;
-use budb_fold::{ChainFault, VolumeDump, chain_of, latest};
+use budb_fold::{ChainFault, VolumeDump};
 use plant_core::Plant;
 use std::alloc::Global;
 
@@ -133,16 +132,16 @@ pub(crate) fn fault_of(fault: LookFault) -> RestoreFault
 fn plan_chain<P: Plant>(
     alloc: Global,
     plant: &mut P,
-    listed: &[DumpRecord],
+    budb: &Budb,
     name: &Name,
     dumps: List<u32>,
 ) -> Result<ChainPlan, RestoreFault>
     requires { P.sound plant.old }
-    ensures planned { P.tells → (slots : AnyList Slot) → HasSlots P.Plant slots plant.old → AnswersChain slots listed.now name.now dumps result }
+    ensures planned { P.tells → (slots : AnyList Slot) → HasSlots P.Plant slots plant.old → AnswersChain slots budb.now.database.listed name.now dumps result }
     ensures only { IsPlanAnswer result }
     ensures looks { LooksAt P.Plant RestoreFault.Failed plant.old plant.new result }
 {
-    let Ok(needs) = needs_of_chain(alloc, listed, dumps.as_slice(), name.bytes()) else {
+    let Ok(needs) = needs_of_chain(alloc, budb, dumps.as_slice(), name.bytes()) else {
         return Err(RestoreFault::Memory);
     };
     let Ok(kept) = name.clone() else {
@@ -158,17 +157,17 @@ fn plan_chain<P: Plant>(
 fn plan_one<P: Plant>(
     alloc: Global,
     plant: &mut P,
-    listed: &[DumpRecord],
+    budb: &Budb,
     one: &VolumeDump<'_>,
 ) -> Result<ChainPlan, RestoreFault>
     requires { P.sound plant.old }
-    ensures planned { P.tells → (slots : AnyList Slot) → HasSlots P.Plant slots plant.old → PlansOne slots listed.now one.now result }
+    ensures planned { P.tells → (slots : AnyList Slot) → HasSlots P.Plant slots plant.old → PlansOne slots budb.now.database.listed one.now result }
     ensures only { IsPlanAnswer result }
     ensures looks { LooksAt P.Plant RestoreFault.Failed plant.old plant.new result }
 {
     let name = &one.volume.fields().name;
-    match chain_of(alloc, listed, one.dump.fields().id, name.bytes()) {
-        Ok(dumps) => plan_chain(alloc, plant, listed, name, dumps),
+    match budb.chain_of(one.dump.fields().id, name.bytes()) {
+        Ok(dumps) => plan_chain(alloc, plant, budb, name, dumps),
         Err(ChainFault::Missing { id }) => Err(RestoreFault::MissingDump { id }),
         Err(ChainFault::Memory) => Err(RestoreFault::Memory),
     }
@@ -193,9 +192,8 @@ pub fn plan<P: Plant>(
     ensures stays { StaysQuiet P.Plant plant.old plant.new }
     ensures cause { HasCauseAt RestoreFault.Failed (P.view plant.old).faults (P.view plant.new).faults result }
 {
-    let listed = budb.database().listed.as_slice();
-    match latest(alloc, listed, name.bytes(), before) {
-        Ok(Some(one)) => plan_one(alloc, plant, listed, &one),
+    match budb.latest(name.bytes(), before) {
+        Ok(Some(one)) => plan_one(alloc, plant, budb, &one),
         Ok(None) => Err(RestoreFault::NoDump),
         Err(_) => Err(RestoreFault::Memory),
     }

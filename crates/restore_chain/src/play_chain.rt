@@ -12,7 +12,6 @@ use crate::chain_plan::{ChainPlan, TapeNeed};
 use crate::fault::RestoreFault;
 use crate::play_dump::{needs_behind, play_listed};
 use budb::Budb;
-use budb_changes::DumpRecord;
 use plant_core::Plant;
 use std::alloc::Global;
 use vnode_model::Volume;
@@ -21,23 +20,23 @@ use vnode_model::Volume;
 fn play_chain<P: Plant>(
     alloc: Global,
     plant: &mut P,
-    listed: &[DumpRecord],
+    budb: &Budb,
     ids: &[u32],
     name: &[u8],
     tapes: &[TapeNeed],
 ) -> Result<Volume, RestoreFault>
     requires { P.sound plant.old }
-    ensures plays { P.tells → (slots : AnyList Slot) → HasSlots P.Plant slots plant.old → 0 < length ids.now → AreReady slots listed.now name.now ids.now tapes.now → Tells (Plays slots listed.now ids.now name.now) result }
+    ensures plays { P.tells → (slots : AnyList Slot) → HasSlots P.Plant slots plant.old → 0 < length ids.now → AreReady slots budb.now.database.listed name.now ids.now tapes.now → Tells (Plays slots budb.now.database.listed ids.now name.now) result }
     ensures looks { LooksAt P.Plant RestoreFault.Failed plant.old plant.new result }
 {
     let mut base = None;
     let mut rest = tapes;
     for id in ids {
-        match play_listed(alloc, plant, listed, *id, name, rest, base) {
+        match play_listed(alloc, plant, budb, *id, name, rest, base) {
             Err(fault) => return Err(fault),
             Ok(volume) => {
                 base = Some(volume);
-                rest = needs_behind(listed, *id, name, rest);
+                rest = needs_behind(budb, *id, name, rest);
             }
         }
     }
@@ -65,12 +64,11 @@ pub fn play<P: Plant>(
     ensures stays { StaysQuiet P.Plant plant.old plant.new }
     ensures cause { HasCauseAt RestoreFault.Failed (P.view plant.old).faults (P.view plant.new).faults result }
 {
-    let listed = budb.database().listed.as_slice();
     let ids = plan.dumps.as_slice();
     play_chain(
         alloc,
         plant,
-        listed,
+        budb,
         ids,
         plan.name.bytes(),
         plan.tapes.as_slice(),

@@ -21,8 +21,9 @@ use crate::planning::fault_of;
 use crate::play_apply::apply_next;
 use crate::play_joined::Site;
 use crate::play_volume::{Given, play_volume};
+use budb::Budb;
 use budb_changes::{DumpRecord, VolRecord};
-use budb_fold::{record_of, volume_of};
+use budb_fold::volume_of;
 use plant_core::Plant;
 use std::alloc::Global;
 use tape_frames::tape_name;
@@ -136,27 +137,27 @@ fn play_dump<P: Plant>(
 pub(crate) fn play_listed<P: Plant>(
     alloc: Global,
     plant: &mut P,
-    listed: &[DumpRecord],
+    budb: &Budb,
     id: u32,
     name: &[u8],
     needs: &[TapeNeed],
     base: Option<Volume>,
 ) -> Result<Volume, RestoreFault>
     requires { P.sound plant.old }
-    ensures plays { P.tells → (slots : AnyList Slot) (d : AnyDump) (v : AnyVolume) → HasSlots P.Plant slots plant.old → record_of listed.now id ≡ Some d → volume_of d name.now ≡ Some v → AreHeld slots d (called_for d name.now) needs.now → Tells (PlaysOver slots name.now base (d ∷ [])) result }
+    ensures plays { P.tells → (slots : AnyList Slot) (d : AnyDump) (v : AnyVolume) → HasSlots P.Plant slots plant.old → record_of budb.now.database.listed id ≡ Some d → volume_of d name.now ≡ Some v → AreHeld slots d (called_for d name.now) needs.now → Tells (PlaysOver slots name.now base (d ∷ [])) result }
     ensures looks { LooksAt P.Plant RestoreFault.Failed plant.old plant.new result }
 {
-    match record_of(listed, id) {
+    match budb.record(id) {
         None => Err(RestoreFault::MissingDump { id }),
         Some(dump) => play_dump(alloc, plant, dump, name, needs, base),
     }
 }
 
 /// How many tapes the listed dump of an id is played from, one for each fragment of the volume.
-fn need_count(listed: &[DumpRecord], id: u32, name: &[u8]) -> usize
-    ensures { result ≡ length (needs_in listed.now name.now id) }
+fn need_count(budb: &Budb, id: u32, name: &[u8]) -> usize
+    ensures { result ≡ length (needs_in budb.now.database.listed name.now id) }
 {
-    match record_of(listed, id) {
+    match budb.record(id) {
         None => 0,
         Some(dump) => match volume_of(dump, name) {
             None => 0,
@@ -178,12 +179,12 @@ fn behind(needs: &[TapeNeed], count: usize) -> &[TapeNeed]
 
 /// The tapes behind those that the listed dump of an id is played from.
 pub(crate) fn needs_behind<'a>(
-    listed: &[DumpRecord],
+    budb: &Budb,
     id: u32,
     name: &[u8],
     needs: &'a [TapeNeed],
 ) -> &'a [TapeNeed]
-    ensures { result.now ≡ drop (length (needs_in listed.now name.now id)) needs.now }
+    ensures { result.now ≡ drop (length (needs_in budb.now.database.listed name.now id)) needs.now }
 {
-    behind(needs, need_count(listed, id, name))
+    behind(needs, need_count(budb, id, name))
 }

@@ -1,10 +1,13 @@
-use Rattle.std.proofs.Common.{ap, Err}
+use Rattle.std.proofs.Common.{ap, refl, Err}
 use Rattle.std.specs.Str.Lines.{lines}
 use Rattle.backup_script.specs.Scripts.{script}
 use Rattle.backup_script.specs.Ended.{world_on}
 use Rattle.backup_script.specs.declared.running.RunStop.TheVariants.{Read, TooLong}
+use Rattle.backup_script.specs.declared.running.RunStop.TheVariants as runs
+use Rattle.backup_script.specs.declared.serving.ServeStop.TheVariants as serves
 use Rattle.backup_script.specs.declared.serving.ServeStop.{ServeStop}
 use Rattle.backup_script.proofs.AnswerLaws.{err_same}
+use Rattle.backup_script.proofs.StopLaws.{cause_told, takes_told}
 use Rattle.backup_script.proofs.RunLaws.{opened_fits, went_ends, short_ends, left_after, not_opened}
 use Rattle.backup_script.proofs.running.run_on.Goals as goal
 
@@ -71,6 +74,31 @@ returns-in-Ok-clause-long_short g c = λ told tells_cell tells_clock source sett
     let fits = opened_fits P C c.args.config log contents old mid c.args.cell.now c.open.new.cell c.in-Ok.session form is f.0 f.1 f.2 (f.3 settled contents) in
     short_ends P C w (g.K.Clock.moments c.args.clock.now) old mid n.plant n.cell c.in-Ok.ensures.done c.in-Ok.ensures.leaves (g.S.Source.left c.args.source.now) (g.S.Source.left n.source) n.session (g.K.Clock.moments n.clock)
     (c.in-Err-run_script.ensures.long_short told tells_cell tells_clock source w fits held (ap (λ (e : ServeStop). Err e) (c.serving_stop.ensures.long (err_same TooLong c.serving_stop.result stops))))
+
+pub returns-in-Ok-clause-takes : goal.returns-in-Ok-clause-takes
+returns-in-Ok-clause-takes g c = λ told.
+    let s = c.serving_stop.ensures in
+    takes_told _ _ _ c.serving_stop.result s.long s.long_back s.log (c.in-Err-run_script.ensures.takes told)
+
+pub returns-in-Ok-clause-plant_cause : goal.returns-in-Ok-clause-plant_cause
+returns-in-Ok-clause-plant_cause g c =
+    let s = c.serving_stop.ensures in
+    cause_told serves.Plant _ runs.Plant c.serving_stop.result _ _ _ s.plant s.plant_back (c.in-Ok.ensures.plant_cause.stays (λ is. absurd (cc))) c.in-Err-run_script.ensures.plant_cause
+
+pub returns-in-Ok-clause-cell_cause : goal.returns-in-Ok-clause-cell_cause
+returns-in-Ok-clause-cell_cause g c =
+    let s = c.serving_stop.ensures in
+    cause_told serves.Cell _ runs.Cell c.serving_stop.result _ _ _ s.cell s.cell_back (c.in-Ok.ensures.cell_cause.stays (λ is. absurd (cc))) c.in-Err-run_script.ensures.cell_cause
+
+pub returns-in-Ok-clause-output_cause : goal.returns-in-Ok-clause-output_cause
+returns-in-Ok-clause-output_cause g c =
+    let s = c.serving_stop.ensures in
+    cause_told serves.Output _ runs.Output c.serving_stop.result _ _ _ s.output s.output_back c.in-Ok.ensures.stays.tell_faults c.in-Err-run_script.ensures.output_cause
+
+pub returns-in-Ok-clause-read_cause : goal.returns-in-Ok-clause-read_cause
+returns-in-Ok-clause-read_cause g c =
+    let s = c.serving_stop.ensures in
+    cause_told serves.Read _ runs.Read c.serving_stop.result _ _ _ s.read s.read_back refl c.in-Err-run_script.ensures.read_cause
 
 pub returns-clause-left : goal.returns-clause-left
 returns-clause-left g c = λ told tells_cell tells_clock source settled log form is contents held.

@@ -7,7 +7,7 @@ use Rattle.restore_chain.proofs.play_chain.play_chain.Goals as goal
 
 pub loop-id-init : goal.loop-id-init
 loop-id-init g c = record {
-  played = λ told slots has ready. played_none slots c.args.listed.now c.args.name.now c.args.ids.now c.args.tapes.now ready;
+  played = λ told slots has ready. played_none slots c.args.budb.now.database.listed c.args.name.now c.args.ids.now c.args.tapes.now ready;
   loads = loads_none g.P.Plant c.args.plant.now c.requires (λ told survives x left. g.met.P.Plant.left c.args.plant.now x told c.requires survives left);
   stays = nothing_quiet g.P.Plant c.args.plant.now;
   faults = refl;
@@ -24,7 +24,7 @@ loop-id-preserved g c =
     let within : c.loop-id.id-index < length c.args.ids.now = omega (arith, c.loop-id-test.true) in
     record {
       played = λ told slots has ready.
-          played_more slots c.args.listed.now c.args.name.now c.args.ids.now c.loop-id.id-index c.loop-id.base c.loop-id.rest.now c.needs_behind-rest.result.now c.in-Ok.volume within (so_far.played told slots has ready)
+          played_more slots c.args.budb.now.database.listed c.args.name.now c.args.ids.now c.loop-id.id-index c.loop-id.base c.loop-id.rest.now c.needs_behind-rest.result.now c.in-Ok.volume within (so_far.played told slots has ready)
           (λ d v is named held. e.plays told slots d v (slots_later P slots old mid so_far.loads so_far.stays told has) is named held)
           c.needs_behind-rest.ensures;
       loads = loads_both P old mid new so_far.loads (e.looks.done (λ is. absurd (cc)));
@@ -37,7 +37,7 @@ returns-in-Err-clause-plays g c = λ told slots has some ready.
     let P = g.P.Plant in
     let so_far = c.loop-id.invariant in
     let within : c.loop-id.id-index < length c.args.ids.now = omega (arith, c.loop-id-test.true) in
-    played_bad slots c.args.listed.now c.args.name.now c.args.ids.now c.loop-id.id-index c.loop-id.base c.loop-id.rest.now c.in-Err.fault within (so_far.played told slots has ready)
+    played_bad slots c.args.budb.now.database.listed c.args.name.now c.args.ids.now c.loop-id.id-index c.loop-id.base c.loop-id.rest.now c.in-Err.fault within (so_far.played told slots has ready)
     (λ d v is named held. c.in-Err.ensures.plays told slots d v (slots_later P slots c.args.plant.now c.loop-id.plant so_far.loads so_far.stays told has) is named held)
 
 pub returns-in-Err-clause-looks : goal.returns-in-Err-clause-looks
@@ -48,7 +48,7 @@ returns-in-Err-clause-looks g c =
 pub returns-in-Some-clause-plays : goal.returns-in-Some-clause-plays
 returns-in-Some-clause-plays g c = λ told slots has some ready.
     let past : length c.args.ids.now ≤ c.loop-id.id-index = omega (arith, c.loop-id-test.false) in
-    played_all slots c.args.listed.now c.args.name.now c.args.ids.now c.loop-id.id-index c.loop-id.base c.loop-id.rest.now c.in-Some.volume past (c.loop-id.invariant.played told slots has ready) c.in-Some.is
+    played_all slots c.args.budb.now.database.listed c.args.name.now c.args.ids.now c.loop-id.id-index c.loop-id.base c.loop-id.rest.now c.in-Some.volume past (c.loop-id.invariant.played told slots has ready) c.in-Some.is
 
 pub returns-in-Some-clause-looks : goal.returns-in-Some-clause-looks
 returns-in-Some-clause-looks g c =

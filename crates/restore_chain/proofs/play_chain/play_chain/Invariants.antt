@@ -9,7 +9,7 @@ abbrev pub invariant-loop-id : goal.invariant-loop-id
 invariant-loop-id g l =
     let P = g.P.Plant in
     record {
-      played : P.tells → (slots : List Slot) → HasSlots P slots l.fn.plant → AreReady slots l.listed l.name l.ids l.tapes → HavePlayed slots l.listed l.name l.ids l.id-index l.base l.rest;
+      played : P.tells → (slots : List Slot) → HasSlots P slots l.fn.plant → AreReady slots l.budb.database.listed l.name l.ids l.tapes → HavePlayed slots l.budb.database.listed l.name l.ids l.id-index l.base l.rest;
       loads : Loads P l.fn.plant l.plant;
       stays : StaysQuiet P l.fn.plant l.plant;
       faults : (P.view l.plant).faults ≡ (P.view l.fn.plant).faults;

@@ -20,7 +20,7 @@ returns-in-None-clause-looks g c =
 pub returns-in-Some-clause-plays : goal.returns-in-Some-clause-plays
 returns-in-Some-clause-plays g c = λ told slots d v has is named held.
     let name = c.args.name.now in
-    let same : c.in-Some.dump.now ≡ d = one_there (record_of c.args.listed.now c.args.id) c.in-Some.dump.now d (sym c.in-Some.ensures) is in
+    let same : c.in-Some.dump.now ≡ d = one_there (record_of c.args.budb.now.database.listed c.args.id) c.in-Some.dump.now d (sym c.in-Some.ensures) is in
     subst (λ (x : DumpRecordFields). Tells (PlaysOver slots name c.args.base (x ∷ [])) c.play_dump.result) same
     (c.play_dump.ensures.plays told slots v has (subst (λ (x : DumpRecordFields). volume_of x name ≡ Some v) (sym same) named)
     (subst (λ (x : DumpRecordFields). AreHeld slots x (called_for x name) c.args.needs.now) (sym same) held))

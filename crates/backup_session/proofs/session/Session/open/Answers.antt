@@ -1,0 +1,14 @@
+use Rattle.std.proofs.lemmas.Result.{err_from_is_err_and}
+use Rattle.backup_session.proofs.OpenLaws.{held_anyway, cause_handed_on}
+use Rattle.backup_session.proofs.session.Session.open.Goals as goal
+
+pub returns-in_err-time-clause-done : goal.returns-in_err-time-clause-done
+returns-in_err-time-clause-done g c = held_anyway c.from_residual-in_err-time.result _ c.in_ok-budb.ensures.done
+
+pub returns-in_err-time-clause-numbers : goal.returns-in_err-time-clause-numbers
+returns-in_err-time-clause-numbers g c = held_anyway c.from_residual-in_err-time.result _ c.in_ok-budb.ensures.numbers
+
+pub returns-in_err-time-clause-cell_cause : goal.returns-in_err-time-clause-cell_cause
+returns-in_err-time-clause-cell_cause g c =
+    let p = err_from_is_err_and c.from_residual-in_err-time.result c.from_residual-in_err-time.ensures.1 in
+    rw (p.1, p.2) (cause_handed_on _ _ _ c.in_err-time.ensures.cause)
