@@ -1,5 +1,9 @@
+pub mod Again
 pub mod Alike
 pub mod Alone
 pub mod Found
 pub mod Latest
 pub mod Placed
+pub mod Quiet
+pub mod Restored
+pub mod Standing

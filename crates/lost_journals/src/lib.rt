@@ -3,5 +3,10 @@
 #![tactic(auto)]
 
 mod archives;
+mod worlds;
 
 pub use archives::{archives_that_list_the_same_restore_the_same, tapes_hold_what_they_held};
+pub use worlds::{
+    a_lost_journal_is_scanned_again, tapes_hold_without_their_journal,
+    what_is_scanned_again_is_restored_again,
+};
