@@ -5,3 +5,4 @@ mod Lowering
 mod TapeCounts
 mod ArchiveLaws
 mod CourseLaws
+pub mod WordLaws

@@ -84,3 +84,18 @@ Examines p statuses.ScriptTooLong = (most_input < length p.input) × ToldNothing
 abbrev pub TellsUsage : List ℕ → List ℕ → Status → Type 0
 TellsUsage before after statuses.Usage = after ≡ before ++ usage_line
 TellsUsage before after status = ToldFront usage_line before after
+
+-- What a rehearsal tells, by its status: all its lines, a front of them where the output took no more, nothing where memory was refused. It
+-- doesn't end otherwise.
+abbrev pub TellsRehearsal : List ℕ → List ℕ → List ℕ → Status → Type 0
+TellsRehearsal lines before after statuses.Done = after ≡ before ++ lines
+TellsRehearsal lines before after statuses.OutputFault = ToldFront lines before after
+TellsRehearsal lines before after statuses.Memory = after ≡ before
+TellsRehearsal lines before after status = ⊥
+
+-- a rehearsal ends so
+abbrev pub IsRehearseStatus : Status → Type 0
+IsRehearseStatus statuses.Done = Unit {0}
+IsRehearseStatus statuses.OutputFault = Unit {0}
+IsRehearseStatus statuses.Memory = Unit {0}
+IsRehearseStatus status = ⊥

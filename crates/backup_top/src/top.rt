@@ -8,15 +8,16 @@ ghost use Rattle.tape_config.specs.Configs.{Settings, config_of};
 ghost use Rattle.tape_config.specs.declared.fault.ConfigFault.{ConfigFault as AnyFault};
 ghost use Rattle.backup_top.specs.Tells.{TellsOn, OnlyTells};
 ghost use Rattle.backup_top.specs.Replies.{usage_line};
-ghost use Rattle.backup_top.specs.Runs.{passage, Examines, TellsUsage, told_status};
+ghost use Rattle.backup_top.specs.Runs.{passage, Examines, TellsUsage, TellsRehearsal, IsRehearseStatus, told_status};
+ghost use Rattle.rehearsal.specs.Rehearsed.{rehearsed};
 ghost use Rattle.backup_top.specs.Words.{asked};
 ghost use Rattle.backup_top.specs.Answers.{config_status};
 ghost use Rattle.backup_session.specs.Held.{HoldsArchive};
 ghost use Rattle.backup_session.specs.Worlds.{Contents};
 ghost use Rattle.session_archives.specs.Held.{HoldsWorld};
 ghost use Rattle.backup_top.specs.Courses.{course_of, Entry, Journal, IsBadLog, IsRefusedAt, RefusesJournal, IsExamineStatus, Runs, TakesBy, EndsAt, LeavesImages, FindsHeld, FindsReady, FindsFormed, outcome, HasCauseAs, IsWithin, IsComplete};
-ghost use Rattle.backup_top.specs.declared.words.Asked.TheVariants.{Run, Examine, Nothing};
-ghost use Rattle.backup_top.specs.declared.status.Status.TheVariants.{Usage, ReadFault, MediaFault, CellFault, Memory, BadConfig, BadLog, OutputFault};
+ghost use Rattle.backup_top.specs.declared.words.Asked.TheVariants.{Run, Examine, Rehearse, Nothing};
+ghost use Rattle.backup_top.specs.declared.status.Status.TheVariants.{Done, Usage, ReadFault, MediaFault, CellFault, Memory, BadConfig, BadLog, OutputFault};
 
 use crate::input::{ReadStop, read_input};
 use crate::run_mode::run_mode;
@@ -26,6 +27,7 @@ use crate::words::{Asked, asked_by};
 use cell_core::Cell;
 use dump_stream::Input;
 use media_core::{Clock, Media, Source};
+use rehearsal::rehearse;
 use script_journals::journals_of_scripts;
 use session_archives::{
     images_hold_the_archive, ready_worlds_have_forms, scripts_keep_the_archive,
@@ -114,12 +116,50 @@ fn run_usage<M: Media>(media: M) -> (Status, M)
     (status, media)
 }
 
-/// Runs the program on these words, which are those after its name: `run` or `examine`; one first `--` is left out. The media are handed
-/// back as the run leaves them, whatever the status is. Want of memory may come at any point. These are this project's own rules.
+/// Rehearses, and tells the lines.
+fn tell_rehearsal<M: Media>(alloc: Global, media: &mut M, volumes: u32) -> Status
+    requires { volumes ≤ 200 }
+    ensures told { M.tells → TellsRehearsal (rehearsed volumes) (M.seen media.old).told (M.seen media.new).told result }
+    ensures images { M.tells → Leads M.time media.old media.new (TellsOn (rehearsed volumes) (M.seen media.old).told) }
+    ensures only { OnlyTells M.tells M.seen M.time M.count M.present M.faults M.tell_faults media.old media.new }
+    ensures output_fault { result ≡ OutputFault → Rose (M.tell_faults media.old) (M.tell_faults media.new) }
+    ensures no_output_fault { result ≢ OutputFault → M.tell_faults media.new ≡ M.tell_faults media.old }
+    ensures statuses { IsRehearseStatus result }
+{
+    match rehearse(alloc, volumes) {
+        Err(_) => Status::Memory,
+        Ok(lines) => match tell_all(media, lines.as_slice()) {
+            Ok(()) => Status::Done,
+            Err(_) => Status::OutputFault,
+        },
+    }
+}
+
+/// The rehearsal on media that are handed back.
+fn run_rehearse<M: Media>(alloc: Global, media: M, volumes: u32) -> (Status, M)
+    requires { volumes ≤ 200 }
+    ensures told { M.tells → TellsRehearsal (rehearsed volumes) (M.seen media).told (M.seen result.1).told result.0 }
+    ensures images { M.tells → Leads M.time media result.1 (TellsOn (rehearsed volumes) (M.seen media).told) }
+    ensures only { OnlyTells M.tells M.seen M.time M.count M.present M.faults M.tell_faults media result.1 }
+    ensures output_fault { result.0 ≡ OutputFault → Rose (M.tell_faults media) (M.tell_faults result.1) }
+    ensures no_output_fault { result.0 ≢ OutputFault → M.tell_faults result.1 ≡ M.tell_faults media }
+    ensures statuses { IsRehearseStatus result.0 }
+{
+    let mut media = media;
+    let status = tell_rehearsal(alloc, &mut media, volumes);
+    (status, media)
+}
+
+/// Runs the program on these words, which are those after its name: `run`, `examine`, or `rehearse` and a number from 1 to 200; one first
+/// `--` is left out. The media are handed back as the run leaves them, whatever the status is. Want of memory may come at any point. These are
+/// this project's own rules.
 ///
 /// `run` opens the journal of the media by the configuration and runs the source as a script, line by line. `examine` reads the
 /// source to its end as one dump stream and tells it line by line, or the one line by which it is refused; at `ReadFault` and
 /// `ScriptTooLong` it has told nothing, at `OutputFault` and `Memory` a front of the lines.
+///
+/// `rehearse` dumps and restores volumes over media and a cell of its own in memory, and tells the five lines of what came of it, which are
+/// a function of the number of volumes alone. It reads nothing.
 pub fn run<M: Media, C: Cell, K: Clock, S: Source>(
     alloc: Global,
     words: &Vec<String>,
@@ -136,6 +176,10 @@ pub fn run<M: Media, C: Cell, K: Clock, S: Source>(
 
     // An input is told by its lines.
     ensures examine { asked words.now.items ≡ Examine → S.tells → M.tells → Examines (passage S.left M.seen M.time source.old source.new media result.1) result.0 }
+    // A rehearsal is told by its five lines, and reads nothing. Where the output takes them it comes to its end, unless memory runs out.
+    ensures rehearse { (n : ℕ) → asked words.now.items ≡ Rehearse n → (M.tells → TellsRehearsal (rehearsed n) (M.seen media).told (M.seen result.1).told result.0) × (source.new ≡ source.old) }
+    ensures rehearse_images { (n : ℕ) → asked words.now.items ≡ Rehearse n → M.tells → Leads M.time media result.1 (TellsOn (rehearsed n) (M.seen media).told) }
+    ensures rehearse_complete { (n : ℕ) → asked words.now.items ≡ Rehearse n → (Rose (M.tell_faults media) (M.tell_faults result.1) → ⊥) → (result.0 ≡ Done) ⊎ (result.0 ≡ Memory) }
     // But for a script, the files stay, the cell and the clock too, whatever the configuration and the journal are.
     ensures only { (asked words.now.items ≡ Run → ⊥) → OnlyTells M.tells M.seen M.time M.count M.present M.faults M.tell_faults media result.1 }
     ensures same { (asked words.now.items ≡ Run → ⊥) → (cell.new ≡ cell.old) × (clock.new ≡ clock.old) }
@@ -198,6 +242,7 @@ pub fn run<M: Media, C: Cell, K: Clock, S: Source>(
         Err(_) => (Status::Memory, media),
         Ok(Asked::Run) => run_mode(alloc, config, media, cell, clock, source),
         Ok(Asked::Examine) => run_examine(alloc, media, source),
+        Ok(Asked::Rehearse(volumes)) => run_rehearse(alloc, media, volumes),
         Ok(Asked::Nothing) => run_usage(media),
     }
 }

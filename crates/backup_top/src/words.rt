@@ -1,8 +1,9 @@
 //! What the program's words ask for.
 
-ghost use Rattle.std.specs.Prelude.{◌≡◌, Some, IfOk, map};
+ghost use Rattle.std.specs.Prelude.{◌≡◌, ◌≤◌, ℕ, Some, IfOk, map};
+ghost use Rattle.backup_top.specs.declared.words.Asked.TheVariants.{Rehearse as RehearseAsked};
 ghost use Rattle.std.specs.String.{string_bytes};
-ghost use Rattle.backup_top.specs.Words.{with_body, asked};
+ghost use Rattle.backup_top.specs.Words.{asked_of, asked};
 
 use backup_words::{Mode, OuterFault, outer};
 use std::alloc::{AllocError, Global};
@@ -25,27 +26,31 @@ pub enum Asked {
     Run,
     /// To tell a dump stream.
     Examine,
-    /// Nothing that has a body: the rehearsal has none yet.
+    /// To rehearse with so many volumes.
+    Rehearse(u32),
+    /// Nothing: they aren't those of a mode.
     Nothing,
 }
 
-fn with_a_body(mode: Mode) -> Asked
-    ensures { result ≡ with_body (Some mode) }
+fn of_mode(mode: Mode) -> Asked
+    ensures { result ≡ asked_of (Some mode) }
 {
     match mode {
         Mode::Run => Asked::Run,
         Mode::Examine => Asked::Examine,
-        Mode::Rehearse(_) => Asked::Nothing,
+        Mode::Rehearse(volumes) => Asked::Rehearse(volumes),
     }
 }
 
 /// What the words ask for.
+#[tactic(auto, using(crate::proofs::WordLaws::few_volumes))]
 pub fn asked_by(alloc: Global, words: &Vec<String>) -> Result<Asked, AllocError>
-    ensures { IfOk result (λ mode. mode ≡ asked words.now.items) }
+    ensures is { IfOk result (λ mode. mode ≡ asked words.now.items) }
+    ensures few { (n : ℕ) → asked words.now.items ≡ RehearseAsked n → n ≤ 200 }
 {
     let texts = texts_of(alloc, words.as_slice())?;
     match outer(alloc, texts.as_slice()) {
-        Ok(mode) => Ok(with_a_body(mode)),
+        Ok(mode) => Ok(of_mode(mode)),
         Err(OuterFault::Usage) => Ok(Asked::Nothing),
         Err(OuterFault::Memory) => Err(AllocError),
     }

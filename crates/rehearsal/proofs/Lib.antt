@@ -1,2 +1,9 @@
 pub mod Counting
 pub mod CopyLaws
+pub mod RecordLaws
+pub mod PlayLaws
+pub mod Standing
+pub mod Worlds
+pub mod Forms
+pub mod Holding
+pub mod TallyLaws

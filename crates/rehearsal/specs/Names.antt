@@ -1,7 +1,17 @@
--- The names of a rehearsal's volumes.
-use Rattle.std.specs.Prelude.{ℕ, List, ◌++◌, codes}
+-- The names of a rehearsal.
+use Rattle.std.specs.Prelude.{ℕ, List, [], ◌∷◌, ◌++◌, codes}
 use Rattle.std.specs.Fmt.{decimal}
 use Rattle.std.specs.List.{range_with_len}
+
+-- the tape host, and the server and the partition of all volumes
+abbrev pub tape_host : List ℕ
+tape_host = codes "th"
+
+abbrev pub server : List ℕ
+server = codes "fs1"
+
+abbrev pub partition : List ℕ
+partition = codes "vicepa"
 
 -- the volumes are numbered from 1
 abbrev pub volumes : ℕ → List ℕ
@@ -16,3 +26,23 @@ extension = codes ".r"
 
 abbrev pub copy_name : ℕ → List ℕ
 copy_name k = volume_name k ++ extension
+
+-- the volume set, and the pattern of its volumes: `reh\..*`
+abbrev pub set_name : List ℕ
+set_name = codes "reh"
+
+abbrev pub pattern : List ℕ
+pattern = codes "reh" ++ 92 ∷ codes "..*"
+
+-- the level of a full dump, and those of the three incremental dumps
+abbrev pub full_level : List ℕ
+full_level = codes "/full"
+
+abbrev pub first_level : List ℕ
+first_level = codes "/full/r1"
+
+abbrev pub second_level : List ℕ
+second_level = codes "/full/r1/r2"
+
+abbrev pub third_level : List ℕ
+third_level = codes "/full/r1/r2/r3"

@@ -1,7 +1,15 @@
-//! Parts of a rehearsal of the program: which volumes of a cell were restored as they are.
+//! The program's rehearsal of itself: dumps of made volumes onto tapes in memory, a journal that is lost, scans and restores.
 #![tactic(auto)]
 
+mod batch;
+mod commands;
 mod copies;
+mod finding;
+mod lines;
 mod names;
+mod playing;
+mod rehearsing;
+mod sessions;
+mod tapes;
 
-pub use copies::{Copies, compare};
+pub use rehearsing::rehearse;

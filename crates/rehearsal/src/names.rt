@@ -1,11 +1,32 @@
-//! The names of a rehearsal's volumes. Each text is of its form, so that only want of memory is an error.
+//! The names of a rehearsal, as values of their types. Each text is of its form, so that only want of memory is an error.
 
 ghost use Rattle.std.specs.Prelude.{◌≡◌, ◌++◌, OnOk, IfOk};
-ghost use Rattle.rehearsal.specs.Names.{volume_name, copy_name};
+ghost use Rattle.rehearsal.specs.Names.{partition, extension, volume_name, copy_name};
 
-use bk_text::{Bytes, Name, Out};
+use bk_text::{Bytes, Host, LevelPath, Name, Out, Part, SetName};
 use itoa::Buffer;
 use std::alloc::{AllocError, Global};
+use volume_sets::Pattern;
+
+/// The server of this name.
+pub fn host(alloc: Global, text: &[u8]) -> Result<Host, AllocError>
+    ensures { IfOk result (λ host. host ≡ text.now) }
+{
+    match Host::parse(alloc, text) {
+        Ok(host) => Ok(host),
+        Err(_) => Err(AllocError),
+    }
+}
+
+/// The partition of all volumes.
+pub fn partition(alloc: Global) -> Result<Part, AllocError>
+    ensures { IfOk result (λ part. part ≡ partition) }
+{
+    match Name::parse(alloc, b"vicepa") {
+        Ok(name) => Part::from_bytes(alloc, name.bytes()),
+        Err(_) => Err(AllocError),
+    }
+}
 
 /// The volume of this name.
 fn name(alloc: Global, text: &[u8]) -> Result<Name, AllocError>
@@ -13,6 +34,36 @@ fn name(alloc: Global, text: &[u8]) -> Result<Name, AllocError>
 {
     match Name::parse(alloc, text) {
         Ok(name) => Ok(name),
+        Err(_) => Err(AllocError),
+    }
+}
+
+/// The volume set of this name.
+pub fn set(alloc: Global, text: &[u8]) -> Result<SetName, AllocError>
+    ensures { IfOk result (λ set. set ≡ text.now) }
+{
+    match SetName::parse(alloc, text) {
+        Ok(set) => Ok(set),
+        Err(_) => Err(AllocError),
+    }
+}
+
+/// The pattern of this text.
+pub fn pattern(alloc: Global, text: &[u8]) -> Result<Pattern, AllocError>
+    ensures { IfOk result (λ pattern. pattern ≡ text.now) }
+{
+    match Pattern::parse(alloc, text) {
+        Ok(pattern) => Ok(pattern),
+        Err(_) => Err(AllocError),
+    }
+}
+
+/// The dump level of this path.
+pub fn level(alloc: Global, text: &[u8]) -> Result<LevelPath, AllocError>
+    ensures { IfOk result (λ level. level ≡ text.now) }
+{
+    match LevelPath::parse(alloc, text) {
+        Ok(level) => Ok(level),
         Err(_) => Err(AllocError),
     }
 }
@@ -44,4 +95,11 @@ pub fn copy_name(alloc: Global, volume: u32) -> Result<Bytes, AllocError>
     put_name(&mut text, volume)?;
     text.piece(b".r")?;
     Ok(text.into_bytes())
+}
+
+/// What is put behind the name of a volume that is restored.
+pub fn extension(alloc: Global) -> Result<Bytes, AllocError>
+    ensures { IfOk result (λ text. text ≡ extension) }
+{
+    Bytes::from_slice(alloc, b".r")
 }

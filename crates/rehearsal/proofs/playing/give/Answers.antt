@@ -1,0 +1,15 @@
+use Rattle.std.proofs.Common.{◌≡◌, ℕ, List, [], ◌∷◌, ◌++◌, ◌∙◌, ap, subst}
+use Rattle.plant_core.specs.Effects.{tells}
+use Rattle.plant_effects.specs.Runs.{Done}
+use Rattle.backup_session.specs.Machine.{turn}
+use Rattle.rehearsal.proofs.PlayLaws.{reached_next}
+use Rattle.rehearsal.proofs.playing.give.Goals as goal
+
+pub returns-in-Ok-tell_whole-clause-given : goal.returns-in-Ok-tell_whole-clause-given
+returns-in-Ok-tell_whole-clause-given g c = λ told tells_cell s reached held.
+    let P = g.P.Plant in
+    let mid = c.exec.new.plant in
+    let new = c.tell_whole.new.plant in
+    reached_next P g.C.Cell s (turn s.world c.args.now c.args.command.now) c.args.plant.now mid new c.exec.new.cell c.exec.new.self c.in-Ok.reply c.args.told.now c.piece.new.self told
+    (c.in-Ok.ensures.turned told tells_cell s.world reached.fits held) (subst (λ (l : List ℕ). Done P (tells l ∷ []) mid new) c.text.ensures c.in-Ok-tell_whole.ensures.done) c.tell_whole.ensures.stays.stays
+    reached.told (c.in_ok-piece-in-Ok-tell_whole.ensures.ok ∙ ap (λ (l : List ℕ). c.args.told.now ++ l) c.text-in-Ok-tell_whole.ensures)
