@@ -14,7 +14,7 @@ const PREAMBLE: [&str; 5] = [
 /// The moment at which they run.
 const FIRST: u64 = 1000;
 
-/// What a stop inside a line may leave: what another line in its place would.
+/// What a stop inside a line may leave: what other lines in its place would, which are parted by `;`.
 #[derive(Drop)]
 pub struct Inside {
     /// The number of the line inside which the stop is.
@@ -66,18 +66,26 @@ impl Script {
         Ok(())
     }
 
-    /// The first so many lines, and behind them what a stop inside the next one may leave.
-    pub fn inside(&self, alloc: Global, count: usize) -> Result<Option<Script>, AllocError> {
+    /// The lines before one, and behind them those that stand in its place.
+    fn with_inside(&self, alloc: Global, inside: &Inside) -> Result<Script, AllocError> {
+        let mut front = self.front(alloc, inside.number)?;
+        for line in inside.line.split(|byte| *byte == b';') {
+            front.moments.push(inside.moment)?;
+            front.lines.extend_from_slice(line)?;
+            front.lines.push(b'\n')?;
+        }
+        Ok(front)
+    }
+
+    /// The first so many lines, and behind them what a stop inside the next one may leave, each way of it.
+    pub fn insides(&self, alloc: Global, count: usize) -> Result<Vec<Script>, AllocError> {
+        let mut fronts = Vec::new(alloc);
         for inside in self.insides.iter() {
             if inside.number == count {
-                let mut front = self.front(alloc, count)?;
-                front.moments.push(inside.moment)?;
-                front.lines.extend_from_slice(inside.line.as_slice())?;
-                front.lines.push(b'\n')?;
-                return Ok(Some(front));
+                fronts.push(self.with_inside(alloc, inside)?)?;
             }
         }
-        Ok(None)
+        Ok(fronts)
     }
 
     /// Adds the first so many lines of the preamble.

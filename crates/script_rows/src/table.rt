@@ -23,7 +23,9 @@
 //!   the bytes is changed by these bits; `-` where it is opened.
 //! - `look LINE` and `label LINE` are what a later service is asked of the journal and of the tape, and `sees NAME` is a volume that is
 //!   shown behind that. `scan LINE` is what a service is asked then whose journal was lost, and `finds NAME` is a volume that is shown
-//!   behind that. `inside MOMENT LINE` says that a stop inside the line before may leave what this line would. `fails` and
+//!   behind that. `inside MOMENT LINE` says that a stop inside the line before may leave what this line would, or these lines, which
+//!   are parted by `;`. `lose SLOT` has the script so far go before a new one, behind which the tape of the slot is taken out and the
+//!   journal is lost, and `regain SLOT` one behind which the tape is put back. `fails` and
 //!   `stops` run the script with a failure of, or a stop in, each call of the media, `cells` and `reads` with a failure of each call of
 //!   the cell and of each read of the source, and `random SEED COUNT CALLS` with so many stops, each in a call below that number. They
 //!   print how many runs there were, and how many of them kept what is promised; with `scan` also how many dumps were listed behind all
@@ -211,6 +213,8 @@ fn write(alloc: Global, world: &mut World, verb: &str, rest: &str) -> anyhow::Re
         "unended" => world.script.leave_unended(),
         "each" => add_each(alloc, world, rest)?,
         "inside" => add_inside(alloc, world, rest)?,
+        "lose" => world.go_before(alloc, small_number(rest)?, true)?,
+        "regain" => world.go_before(alloc, small_number(rest)?, false)?,
         "sees" => world.seen.push(String::from_str(alloc, rest)?)?,
         "look" => world.journal_looks.add(0, rest)?,
         "label" => world.tape_looks.add(0, rest)?,

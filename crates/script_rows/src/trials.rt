@@ -1,13 +1,13 @@
 //! A script of which a call fails or is the last one, judged by what a later service finds.
 
-use crate::files::blank;
+use crate::files::{blank, move_tape};
 use crate::report::{Report, look};
 use crate::script::Script;
-use crate::world::World;
+use crate::world::{Part, World, told_since};
 use backup_top::Status;
 use cell_core::CellMem;
 use media_core::{MemMedia, Pick};
-use std::alloc::{AllocError, Global};
+use std::alloc::Global;
 
 /// What becomes of a call.
 #[derive(Clone, Copy, PartialEq)]
@@ -40,32 +40,59 @@ impl Mishap {
     }
 }
 
-/// What a script tells to its end, and what is found after each front of its lines.
+/// What a script tells to its end, and after each front of its lines how much of it was told, and what is found.
 #[derive(Drop)]
 pub struct Wanted {
     told: Vec<u8>,
+    lengths: Vec<usize>,
     reports: Vec<Report>,
-    insides: Vec<Option<Report>>,
+    insides: Vec<Vec<Report>>,
+}
+
+/// Runs a part of what was before on media and a cell, and moves its tape.
+fn run_part(
+    alloc: Global,
+    world: &World,
+    part: &Part,
+    media: MemMedia,
+    cell: &mut CellMem,
+) -> anyhow::Result<MemMedia> {
+    let (_, mut media) = world.order.run(alloc, media, cell, &part.script)?;
+    move_tape(&mut media, part.slot, part.is_lost)?;
+    if part.is_lost {
+        media.empty_journal();
+    }
+    Ok(media)
+}
+
+/// Media and a cell as a row's script finds them: blank and empty, but for what was before.
+fn found_by(alloc: Global, world: &World) -> anyhow::Result<(MemMedia, CellMem)> {
+    let mut media = blank(alloc)?;
+    let mut cell = CellMem::new(alloc);
+    for part in world.before.iter() {
+        media = run_part(alloc, world, part, media, &mut cell)?;
+    }
+    Ok((media.reopen(Pick::New)?, cell))
 }
 
 /// Runs a script, and looks at what it leaves.
 fn left_by(alloc: Global, world: &World, script: &Script) -> anyhow::Result<(Vec<u8>, Report)> {
-    let mut cell = CellMem::new(alloc);
-    let (_, media) = world.order.run(alloc, blank(alloc)?, &mut cell, script)?;
-    let told = Vec::from_slice(alloc, media.told())?;
+    let (media, mut cell) = found_by(alloc, world)?;
+    let before = media.told().len();
+    let (_, media) = world.order.run(alloc, media, &mut cell, script)?;
+    let told = told_since(alloc, &media, before)?;
     let report = look(alloc, world, media, &mut cell)?;
     Ok((told, report))
 }
 
 /// What a stop inside the line after so many may leave beside what is found before and behind it.
-fn inside(alloc: Global, world: &World, count: usize) -> anyhow::Result<Option<Report>> {
-    match world.script.inside(alloc, count)? {
-        None => Ok(None),
-        Some(script) => {
-            let (_, report) = left_by(alloc, world, &script)?;
-            Ok(Some(report))
-        }
+fn insides(alloc: Global, world: &World, count: usize) -> anyhow::Result<Vec<Report>> {
+    let mut reports = Vec::new(alloc);
+    for script in world.script.insides(alloc, count)?.iter() {
+        let (_, report) = left_by(alloc, world, script)?;
+        reports.push(report)?;
     }
+    Ok(reports)
 }
 
 impl Wanted {
@@ -73,14 +100,16 @@ impl Wanted {
     pub fn new(alloc: Global, world: &World) -> anyhow::Result<Wanted> {
         let mut wanted = Wanted {
             told: Vec::new(alloc),
+            lengths: Vec::new(alloc),
             reports: Vec::new(alloc),
             insides: Vec::new(alloc),
         };
         for count in 0..world.script.count().saturating_add(1) {
             let (told, report) = left_by(alloc, world, &world.script.front(alloc, count)?)?;
+            wanted.lengths.push(told.len())?;
             wanted.told = told;
             wanted.reports.push(report)?;
-            wanted.insides.push(inside(alloc, world, count)?)?;
+            wanted.insides.push(insides(alloc, world, count)?)?;
         }
         Ok(wanted)
     }
@@ -101,12 +130,32 @@ impl Wanted {
         }
     }
 
-    /// What a stop inside the line after so many may leave, where the row says so.
-    fn said_inside(&self, count: usize) -> Option<&Report> {
+    /// What a stop inside the line after so many may leave, as far as the row says it.
+    fn said_inside(&self, count: usize) -> &[Report] {
         match self.insides.get(count) {
-            Some(Some(inside)) => Some(inside),
-            _ => None,
+            Some(reports) => reports.as_slice(),
+            None => &[],
         }
+    }
+
+    /// Whether the row says that a stop inside the line after so many may leave this report.
+    fn is_said(&self, count: usize, report: &Report) -> bool {
+        for inside in self.said_inside(count) {
+            if inside.is_like(report) {
+                return true;
+            }
+        }
+        false
+    }
+
+    /// Whether scans find what they do where a stop inside the line after so many leaves what the row says.
+    fn scans_as_said(&self, count: usize, report: &Report) -> bool {
+        for inside in self.said_inside(count) {
+            if inside.found == report.found {
+                return true;
+            }
+        }
+        false
     }
 
     /// Whether a stop inside the line after so many may leave this report, since the line makes a label.
@@ -121,11 +170,7 @@ impl Wanted {
 
     /// Whether the report is one of those that a stop after so many lines, or inside the next one, may leave.
     fn is_found(&self, world: &World, count: usize, report: &Report) -> bool {
-        let is_said = match self.said_inside(count) {
-            Some(inside) => inside.is_like(report),
-            None => false,
-        };
-        is_said
+        self.is_said(count, report)
             || self.is_after(count, report)
             || self.is_after(count.saturating_add(1), report)
             || self.is_inside(world, count, report)
@@ -133,39 +178,29 @@ impl Wanted {
 
     /// Whether scans find what they do after so many lines, after one more, or inside that one.
     fn is_scanned(&self, count: usize, report: &Report) -> bool {
-        let is_said = match self.said_inside(count) {
-            Some(inside) => inside.found == report.found,
-            None => false,
-        };
-        is_said
+        self.scans_as_said(count, report)
             || self.scans_after(count, report)
             || self.scans_after(count.saturating_add(1), report)
     }
 
+    /// How many whole replies stand in what was told, which is a front of the whole.
+    fn replies_in(&self, told: &[u8]) -> usize {
+        let mut count: usize = 0;
+        for length in self.lengths.iter() {
+            if *length <= told.len() {
+                count = count.saturating_add(1);
+            }
+        }
+        count.saturating_sub(1)
+    }
+
     /// Whether what was told is a front of the whole, all that was acknowledged is there, and nothing but perhaps one line more.
     fn is_kept(&self, world: &World, told: &[u8], report: &Report) -> bool {
-        let acknowledged = replies_in(told);
+        let acknowledged = self.replies_in(told);
         self.told.as_slice().starts_with(told)
             && self.is_found(world, acknowledged, report)
             && self.is_scanned(acknowledged, report)
     }
-}
-
-/// How many whole replies stand in what was told.
-fn replies_in(told: &[u8]) -> usize {
-    let mut count: usize = 0;
-    let mut line_feeds: usize = 0;
-    for byte in told {
-        if *byte == b'\n' {
-            line_feeds = line_feeds.saturating_add(1);
-        }
-    }
-    for line in told.split(|byte| *byte == b'\n').take(line_feeds) {
-        if line == b"ok".as_slice() || line.starts_with(b"refused ") {
-            count = count.saturating_add(1);
-        }
-    }
-    count
 }
 
 /// How a run with a mishap ended.
@@ -181,14 +216,14 @@ pub struct Trial {
     pub again: u64,
 }
 
-/// Blank media and an empty cell of which a call has this mishap, and the read of the source that has it.
+/// Media and a cell as a row's script finds them, of which a call has this mishap, and the read of the source that has it.
 fn world_with(
     alloc: Global,
+    world: &World,
     mishap: Mishap,
     call: u64,
-) -> Result<(MemMedia, CellMem, Option<u64>), AllocError> {
-    let mut media = blank(alloc)?;
-    let mut cell = CellMem::new(alloc);
+) -> anyhow::Result<(MemMedia, CellMem, Option<u64>)> {
+    let (mut media, mut cell) = found_by(alloc, world)?;
     match mishap {
         Mishap::MediaFails => media.fail_at(call)?,
         Mishap::MediaStops => media.stop_at(call),
@@ -208,11 +243,12 @@ pub fn try_call(
     call: u64,
     pick: Pick,
 ) -> anyhow::Result<Trial> {
-    let (media, mut cell, read) = world_with(alloc, mishap, call)?;
+    let (media, mut cell, read) = world_with(alloc, world, mishap, call)?;
+    let before = media.told().len();
     let (status, media) = world
         .order
         .run_failing(alloc, media, &mut cell, &world.script, read)?;
-    let told = Vec::from_slice(alloc, media.told())?;
+    let told = told_since(alloc, &media, before)?;
     let is_whole = matches!(status, Status::Done | Status::SomeRefused);
     if is_whole && mishap == Mishap::CellFails {
         return Ok(Trial {

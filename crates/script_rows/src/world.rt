@@ -5,16 +5,25 @@ use crate::order::Order;
 use crate::script::Script;
 use crate::turning::{Turn, Turning};
 use backup_top::Status;
-use bk_text::{Host, Name, Part};
+use bk_text::{Host, Name, Part as Partition};
 use cell_core::{Cell, CellMem};
 use media_core::MemMedia;
 use std::alloc::{AllocError, Global};
+use std::mem;
 
 /// The configuration where a row gives none.
 const FOUR_SLOTS: &[u8] = b"slots:0-3 0\n";
 
 /// The length of a block.
 const BLOCK: usize = 16_384;
+
+/// A script that goes before another one, whose tape is then taken out with the journal lost, or put back.
+#[derive(Drop)]
+pub struct Part {
+    pub script: Script,
+    pub slot: u32,
+    pub is_lost: bool,
+}
 
 /// Media, a cell, and what is run over them.
 #[derive(Drop)]
@@ -25,6 +34,8 @@ pub struct World {
     pub is_configured: bool,
     /// Records that stand on no tape yet, as the bytes of a tape's log.
     pub records: Vec<u8>,
+    /// What goes before a script that is stopped or failed in.
+    pub before: Vec<Part>,
     pub script: Script,
     pub journal_looks: Script,
     pub tape_looks: Script,
@@ -51,6 +62,7 @@ impl World {
             },
             is_configured: false,
             records: Vec::new(alloc),
+            before: Vec::new(alloc),
             script: Script::new(alloc),
             journal_looks: Script::new(alloc),
             tape_looks: Script::new(alloc),
@@ -58,6 +70,17 @@ impl World {
             seen: Vec::new(alloc),
             found: Vec::new(alloc),
         })
+    }
+
+    /// Has the script go before a new one, behind which the tape of a slot is taken out with the journal lost, or put back.
+    pub fn go_before(&mut self, alloc: Global, slot: u32, is_lost: bool) -> Result<(), AllocError> {
+        let script = mem::replace(&mut self.script, Script::new(alloc));
+        self.before.push(Part {
+            script,
+            slot,
+            is_lost,
+        })?;
+        Ok(())
     }
 
     /// Adds a line to the configuration.
@@ -141,7 +164,7 @@ impl World {
     pub fn create(&mut self, alloc: Global, name: &str) -> anyhow::Result<()> {
         let (Ok(server), Ok(partition), Ok(name)) = (
             Host::parse(alloc, b"fs1"),
-            Part::parse(alloc, b"vicepa"),
+            Partition::parse(alloc, b"vicepa"),
             Name::parse(alloc, name.as_bytes()),
         ) else {
             anyhow::bail!("a volume's name is bad");
