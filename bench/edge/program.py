@@ -1,10 +1,12 @@
 #!/usr/bin/env python3
 """Tests of `afsbackup run` in a real folder: scripts after one another, standard streams that are closed or full, what can't be
-opened, a full device, a damaged journal, and a program that is killed in the midst of its scripts.
+opened, a full device, a damaged journal, a journal and a volume that are lost and got back, also with a tape out, a journal of the
+first version, and a program that is killed in the midst of its scripts.
 
 The first argument is the program. It works in folders of its own below the second one (else a new one)."""
 import os
 import random
+import re
 import subprocess
 import sys
 import time
@@ -164,6 +166,122 @@ def cell():
         subprocess.run(["umount", place])
 
 
+# ---- lost journals, and a journal of the first version
+
+HOST = "addhost -tapehost th -portoffset 0"
+RESTORE = "volrestore -server fs1 -partition vicepa -volume user.a"
+
+
+def path(place, *names):
+    return os.path.join(place, *names)
+
+
+def told(name, place, *lines):
+    done = run(place, *lines)
+    check(name + ": every line is done", done.returncode == 0, done)
+    return done.stdout.decode()
+
+
+def dumped():
+    """A folder with a full dump of a volume on the tape of slot 0 and an increment on that of slot 1."""
+    place = folder()
+    os.mkdir(path(place, "media"))
+    for slot in range(3):
+        open(path(place, "media", "slot%d" % slot), "wb").close()
+    with open(path(place, "tapeconfig"), "w") as file:
+        file.write("slots:0-2 0\n")
+    told("a volume", place, HOST, "addvolset -name users", ENTRY + "user\\..*", "adddump -dump /full /full/mon",
+         "vos create -server fs1 -partition vicepa -name user.a", "vos write -volume user.a -vnode 2 -size 100000")
+    time.sleep(1.1)
+    told("a full dump", place, "dump -volumeset users -dump /full")
+    time.sleep(1.1)
+    told("an increment", place, "vos write -volume user.a -vnode 4 -size 70000", "dump -volumeset users -dump /full/mon")
+    return place
+
+
+def holds(place, name="user.a"):
+    """What a volume holds, but for its header."""
+    with open(path(place, "cell", "fs1", "vicepa", name + ".vol"), "rb") as file:
+        done = subprocess.run([PROGRAM, "examine"], stdin=file, capture_output=True)
+    check("an image is a stream", done.returncode == 0, done)
+    return done.stdout.split(b"\n", 1)[1]
+
+
+def lose(place):
+    os.remove(path(place, "media", "journal"))
+    image = path(place, "cell", "fs1", "vicepa", "user.a.vol")
+    if os.path.exists(image):
+        os.remove(image)
+
+
+def lost():
+    place = dumped()
+    whole = holds(place)
+    lose(place)
+    text = told("a lost journal", place, HOST, "scantape -dbadd", RESTORE)
+    check("both dumps are added", text.count("added ") == 2 and " chain 2\n" in text, text)
+    check("the volume is as it was", holds(place) == whole)
+    lose(place)
+    os.rename(path(place, "media", "slot0"), path(place, "aside"))
+    done = run(place, HOST, "scantape -dbadd", RESTORE)
+    check("without its first tape", done.returncode == 1 and done.stdout.count(b"added ") == 1 and b"refused 61 " in done.stdout, done)
+    check("no volume is made", not os.path.exists(path(place, "cell", "fs1", "vicepa", "user.a.vol")))
+    os.rename(path(place, "aside"), path(place, "media", "slot0"))
+    done = run(place, "scantape -dbadd", RESTORE)
+    check("the tape is put back", done.stdout.count(b"added ") == 1 and done.stdout.endswith(b" chain 2\nok\n"), done)
+    check("the volume is as it was then", holds(place) == whole)
+    lose(place)
+    os.rename(path(place, "media", "slot1"), path(place, "aside"))
+    text = told("without its second tape", place, HOST, "scantape -dbadd", RESTORE)
+    check("the full dump is restored alone", text.count("added ") == 1 and " chain 1\n" in text and holds(place) != whole, text)
+
+
+def old_record(log, at):
+    """The record of a dump without a cell's name in the first version's form, and where it ends: that of the second one has two more
+    fields for each tape, and the cell's name behind it."""
+    def text1(at):
+        return at + 1 + log[at]
+
+    start = at + 1
+    at = text1(start + 16)
+    at = text1(at + 2 + int.from_bytes(log[at : at + 2], "big"))
+    tapes, at = int.from_bytes(log[at : at + 2], "big"), at + 2
+    record = log[start:at]
+    for _ in range(tapes):
+        record += log[at : at + 16]
+        at = text1(at + 20)
+    volumes, begin, at = int.from_bytes(log[at : at + 4], "big"), at, at + 4
+    for _ in range(volumes):
+        at = text1(text1(text1(at) + 4)) + 8
+        at += 2 + 8 * int.from_bytes(log[at : at + 2], "big")
+    return bytes([log[start - 1] - 3]) + record + log[begin:at], text1(at)
+
+
+def first_version():
+    place = dumped()
+    whole, listed = holds(place), told("its dumps", place, "dumpinfo")
+    ids = [int(ident).to_bytes(4, "big") for ident in re.findall(r"^dump (\d+) ", listed, re.M)]
+    with open(path(place, "media", "journal"), "rb") as file:
+        log = file.read()[8192:]
+    for ident in ids:
+        at = log.index(b"\x0f" + ident)
+        record, end = old_record(log, at)
+        log = log[:at] + record + log[end:]
+    with open(path(place, "media", "journal"), "wb") as file:
+        slot = b"\1" + bytes(7) + (8192).to_bytes(8, "big") + len(log).to_bytes(8, "big")
+        file.write(slot + bytes(8192 - len(slot)) + log)
+    check("two dumps were written so", len(ids) == 2 and all(b"\x0c" + ident in log for ident in ids), ids)
+    text = told("a journal of the first version", place, "dumpinfo", RESTORE + " -extension .r")
+    check("it lists the same dumps", text.startswith(listed) and " chain 2\n" in text and holds(place, "user.a.r") == whole, text)
+    told("it is checkpointed", place, "checkpoint")
+    with open(path(place, "media", "journal"), "rb") as file:
+        journal = file.read()
+    check("its records are of the second version then", all(b"\x10" + ident in journal for ident in ids))
+    check("it lists the same dumps again", told("behind it", place, "dumpinfo") == listed)
+    text = told("it is used", place, "vos write -volume user.a -vnode 6 -text more", "dump -volumeset users -dump /full/mon", RESTORE + " -extension .s")
+    check("a dump behind it is restored", " chain 2\n" in text and holds(place, "user.a.s") == holds(place), text)
+
+
 # ---- kills
 
 
@@ -200,5 +318,7 @@ streams()
 opening()
 full()
 cell()
+lost()
+first_version()
 kills(int(os.environ.get("KILLS", "200")))
 finish()

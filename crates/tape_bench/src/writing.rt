@@ -102,7 +102,7 @@ fn volume_end() -> VolEnd {
 
 /// A port whose tapes take 1 GB.
 fn port(alloc: Global) -> anyhow::Result<Port> {
-    let Ok(config) = Config::parse(alloc, b"1000000000 0 slots:0-0 0\n") else {
+    let Ok(config) = Config::parse(alloc, b"1g 0 slots:0-0 0\n") else {
         anyhow::bail!("it is no configuration");
     };
     match config.port(0) {
