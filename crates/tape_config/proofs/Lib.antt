@@ -1,2 +1,3 @@
 pub mod ConfigLaws
+pub mod CellLaws
 pub mod PortLaws

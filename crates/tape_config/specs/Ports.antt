@@ -1,5 +1,5 @@
 -- What holds of every port of a configuration.
-use Rattle.std.specs.Prelude.{◌≡◌, ◌⊎◌, ℕ, ◌<◌, ◌≤◌, List, Ok}
+use Rattle.std.specs.Prelude.{◌⊎◌, ◌<◌, ◌≤◌}
 use Rattle.tape_config.specs.declared.port.PortFields.{PortFields}
 
 -- a port within its limits

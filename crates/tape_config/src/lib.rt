@@ -5,6 +5,7 @@
 mod config;
 mod entries;
 mod fault;
+mod laws;
 mod line;
 mod numbers;
 mod port;
@@ -12,6 +13,7 @@ mod words;
 
 pub use config::Config;
 pub use fault::ConfigFault;
+pub use laws::a_configuration_has_its_forms;
 pub use port::{Port, PortFields};
 
 #[cfg(test)]
