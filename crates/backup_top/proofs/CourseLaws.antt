@@ -1,8 +1,9 @@
 -- What a run over a plant and a cell says of its course.
-use Rattle.std.proofs.Common.{◌≡◌, inl, inr, ℕ, ◌+◌, ◌<◌, ◌≤◌, Bool, true, false, List, [], ◌∷◌, ◌++◌, length, take, drop, append_assoc, Option, Some, None, refl, sym, ◌∙◌, ap, subst, arith, length-append, Result, Ok, Err, IfOk}
+use Rattle.std.proofs.Common.{◌≡◌, inl, inr, zero, suc, ℕ, ◌+◌, ◌<◌, ◌≤◌, Bool, true, false, List, [], ◌∷◌, ◌++◌, length, take, drop, append_assoc, Option, Some, None, refl, sym, ◌∙◌, ap, subst, arith, length-append, Result, Ok, Err, IfOk}
+use Rattle.std.specs.Prelude.{All, slice_get}
 use Rattle.std.specs.Str.Lines.{lines}
 use Rattle.std.proofs.lemmas.Bool.{cases_lt}
-use Rattle.std.proofs.lemmas.List.{take-append-le, take-append-drop, take_at}
+use Rattle.std.proofs.lemmas.List.{take-append-le, take-append-drop, take_at, take_all}
 use Rattle.bk_text.specs.Places.{FailsAt}
 use Rattle.crash_moments.specs.Moments.{Moments, LeavesSince}
 use Rattle.media_core.specs.Media.{Image}
@@ -18,12 +19,16 @@ use Rattle.plant_media.specs.Opening.{HasCauseIn}
 use Rattle.plant_media.specs.declared.open.OpenFault.{OpenFault}
 use Rattle.plant_media.specs.declared.open.OpenFault.TheVariants as opening
 use Rattle.cell_core.specs.declared.cell.Cell.{Ghosts as Cell}
+use Rattle.cell_core.specs.Cells.{IsCell}
+use Rattle.cell_core.specs.Forms.{IsStoredForm}
+use Rattle.cell_forms.specs.Forms.{IsCellForm}
 use Rattle.tape_config.specs.Configs.{Settings, config_of}
 use Rattle.budb_changes.specs.declared.change.Change.{Change}
 use Rattle.budb_changes.specs.Bytes.{encoded}
 use Rattle.budb_changes.specs.Forms.{AreChanges, IsLog}
 use Rattle.backup_session.specs.Worlds.{World}
 use Rattle.backup_session.specs.Bounded.{HasTapes}
+use Rattle.backup_session.specs.Opening.{first_time}
 use Rattle.backup_script.specs.declared.running.RunStop.{RunStop}
 use Rattle.backup_script.specs.declared.running.RunStop.TheVariants as stop
 use Rattle.backup_script.specs.Lines.{ended, has_quit}
@@ -36,21 +41,46 @@ use Rattle.script_journals.proofs.Following.{journal_front, journal_form, journa
 use Rattle.backup_top.specs.declared.status.Status.{Status}
 use Rattle.backup_top.specs.declared.status.Status.TheVariants.{Done, SomeRefused, Usage, ReadFault, MediaFault, CellFault, Memory, BadConfig, BadLog, OutputFault, ScriptTooLong}
 use Rattle.backup_top.specs.Answers.{run_status, opening_status}
-use Rattle.backup_top.specs.Courses.{Course, FindsReady, FindsFormed, contents_in, IsWithin, IsComplete, outcome, Leaves, LeavesShort, Runs, TakesBy, Journal, IsBadLog, RefusesJournal, IsRefusedAt, Reopens, LeftImage, LeavesImages, EndsAt, HasCauseAs}
+use Rattle.backup_top.specs.Courses.{Course, FindsFit, FindsVolumes, contents_in, IsWithin, IsComplete, outcome, Leaves, LeavesShort, Runs, TakesBy, Journal, IsBadLog, RefusesJournal, IsRefusedAt, Reopens, LeftImage, LeavesImages, EndsAt, HasCauseAs}
 use Rattle.script_journals.specs.Dumping.{IsFormedFor}
-use Rattle.session_archives.specs.Held.{HoldsWorld, HoldsAfter}
-use Rattle.session_archives.specs.Ready.{IsReady, RestoresApartThroughout, IsReadyFor}
+use Rattle.session_archives.specs.Held.{HoldsWorld, HoldsAfter, KeepsListed, EachKeepsListed}
+use Rattle.session_archives.specs.Ready.{IsFitWorld, IsReady, RestoresApartThroughout, at_first, IsReadyFor, IsFitFor, AreVolumesFor}
 use Rattle.backup_top.proofs.Lowering.{alike_same, log_come, log_whole}
 use Rattle.backup_top.proofs.ArchiveLaws.{ScriptsKeep, ImagesHold, keeps_media}
+
+-- ---- the forms of the world that a run finds
+
+-- what is so of each world in which a session begins
+pub record OpenedForms : Type 0 where
+  pub lines : (w : World) (bytes : List ℕ) (these : List (List ℕ)) → config_of bytes ≡ Ok w.setting.config → HasTapes w → AreChanges w.log → IsCellForm w.cell → w.time ≡ first_time w.log w.cell → AreVolumesFor w these → IsFormedFor w these
+  pub ready : (w : World) (bytes moments : List ℕ) (these : List (List ℕ)) → config_of bytes ≡ Ok w.setting.config → AreChanges w.log → IsCellForm w.cell → w.time ≡ first_time w.log w.cell → IsFitWorld (at_first w moments these) → IsReady (at_first w moments these)
+  pub fit : (w : World) → IsReady w → IsFitWorld w
+
+-- a course whose world has the forms of its configuration, its journal and its cell
+pub record HasForms (c : Course) : Type 0 where
+  pub formed : (these : List (List ℕ)) → AreVolumesFor c.world these → IsFormedFor c.world these
+  pub ready : (these : List (List ℕ)) → IsFitWorld (at_first c.world c.moments these) → IsReady (at_first c.world c.moments these)
+
+pub has_forms : OpenedForms → (c : Course) (bytes : List ℕ) → config_of bytes ≡ Ok c.world.setting.config → HasTapes c.world → AreChanges c.world.log → IsCell c.world.cell → All IsStoredForm c.world.cell → c.world.time ≡ first_time c.world.log c.world.cell
+    → HasForms c
+has_forms laws c bytes says has form cell allowed begins =
+    let cells : IsCellForm c.world.cell = record { list = cell; volumes = allowed } in
+    record {
+      formed = λ these volumes. laws.lines c.world bytes these says has form cells begins volumes;
+      ready = λ these fit. laws.ready c.world bytes c.moments these says form cells begins fit;
+    }
+
+pub ready_for : (c : Course) → HasForms c → (these : List (List ℕ)) → IsFitFor c.world c.moments these → IsReadyFor c.world c.moments these
+ready_for c forms these fit = λ asks. (let f = fit asks in (forms.ready these f.0, f.1))
 
 -- ---- what was done
 
 -- the effects were done, and the media were handed back
 pub leaves_media : (c : Course) (these : List (List ℕ)) (s : Outcome) (first last : State) → c.world.state ≡ first → c.world.state.log_settled ≡ length c.world.state.log → c.world.state.told ≡ c.before.told → c.after ≡ settled_part last
     → Alike (come s.effects first) last → Alike s.world.state last → AreChanges s.world.log → s.world.state.log ≡ encoded s.world.log → c.cell ≡ s.world.cell → c.left ≡ s.moments
-    → ImagesHold → (HoldsWorld c.world → IsReadyFor c.world c.moments these → HoldsAfter c.world s.world.contents s.effects) → (HoldsWorld c.world → IsReadyFor c.world c.moments these → HoldsWorld s.world)
-    → (HoldsWorld c.world → IsReady c.world → RestoresApartThroughout c.world c.moments these → IsReady s.world) → Leaves c these s
-leaves_media c these s first last rests settled told_at back done state form log cell clock hold whole kept ready =
+    → ImagesHold → (HoldsWorld c.world → IsFitFor c.world c.moments these → HoldsAfter c.world s.world.contents s.effects) → (HoldsWorld c.world → IsFitFor c.world c.moments these → HoldsWorld s.world)
+    → (HoldsWorld c.world → IsFitWorld (at_first c.world c.moments these) → RestoresApartThroughout c.world c.moments these → IsFitWorld s.world) → Leaves c these s
+leaves_media c these s first last rests settled told_at back done state form log cell clock hold whole kept fit =
     let end : come s.effects c.world.state ≡ last = ap (come s.effects) rests ∙ alike_same (come s.effects first) last done in
     let archive : c.after ≡ settled_part (come s.effects c.world.state) = back ∙ ap settled_part (sym end) in
     let same : (come s.effects c.world.state).log ≡ encoded s.world.log = ap (λ (x : State). x.log) end ∙ state.log ∙ log in
@@ -62,7 +92,7 @@ leaves_media c these s first last rests settled told_at back done state form log
       cell = cell;
       clock = clock;
       kept = λ held asked. keeps_media hold c s archive (alike_same s.world.state last state ∙ sym end) (whole held asked) (kept held asked);
-      ready = ready;
+      fit = fit;
     }
 
 module _ {D E : Type 0} (P : Plant D) (C : Cell E) (c : Course) (w : World) (old new : D) (site : E) (same : w ≡ c.world) (leaves : (these : List (List ℕ)) → Ends P C (script w c.moments these) old new site c.left → Leaves c these (script w c.moments these)) where
@@ -129,7 +159,7 @@ pub bad_journal : (log : Option (List ℕ)) (bytes : List ℕ) (at : ℕ) → lo
 bad_journal log bytes at is fails = subst (λ (l : Option (List ℕ)). IsBadLog l at) (sym is) fails
 
 pub damaged_journal : (log : Option (List ℕ)) (at : ℕ) → log ≡ None → at ≡ 0 → IsBadLog log at
-damaged_journal log at is zero = subst (λ (l : Option (List ℕ)). IsBadLog l at) (sym is) zero
+damaged_journal log at is first = subst (λ (l : Option (List ℕ)). IsBadLog l at) (sym is) first
 
 -- ---- images
 
@@ -167,17 +197,18 @@ pub record Journaled (c : Course) (effects : List Effect) : Type 0 where
   pub settled : c.world.state.log_settled ≡ length c.world.state.log
   pub form : AreChanges c.world.log
   pub is : c.world.state.log ≡ encoded c.world.log
-  pub after : FindsFormed c → (last : List Change) × IsJournalAfter c.world.log effects last
-  pub way : HoldsWorld c.world → FindsReady c → (count : ℕ) → count ≤ length effects → HoldsAfter c.world (contents_in c count) (take count effects)
+  pub after : FindsVolumes c → (last : List Change) × IsJournalAfter c.world.log effects last
+  pub way : HoldsWorld c.world → FindsFit c → (count : ℕ) → count ≤ length effects → HoldsAfter c.world (contents_in c count) (take count effects)
   pub images : ImagesHold
+  pub listed : HoldsWorld c.world → FindsFit c → EachKeepsListed c.world effects
 
 front_journal : (log : List Change) (effects : List Effect) (n : ℕ) → (last : List Change) × IsJournalAfter log effects last → (mid : List Change) × IsJournalAfter log (take n effects) mid
 front_journal log effects n (last, after) = journal_front (take n effects) (drop n effects) log last (subst (λ (es : List Effect). IsJournalAfter log es last) (sym (take-append-drop n effects)) after)
 
 -- the journal that is found opens
-opens_again : (c : Course) (effects : List Effect) (n : ℕ) (found : Option (List ℕ)) → Journaled c effects → found ≡ Some (come (take n effects) c.world.state).log → FindsFormed c → Reopens c.world.log (take n effects) found
-opens_again c effects n found j is formed =
-    let mid = front_journal c.world.log effects n (j.after formed) in
+opens_again : (c : Course) (effects : List Effect) (n : ℕ) (found : Option (List ℕ)) → Journaled c effects → found ≡ Some (come (take n effects) c.world.state).log → FindsVolumes c → Reopens c.world.log (take n effects) found
+opens_again c effects n found j is volumes =
+    let mid = front_journal c.world.log effects n (j.after volumes) in
     let form = journal_form (take n effects) c.world.log mid.0 j.form mid.1 in
     let bytes : found ≡ Some (encoded mid.0) = is ∙ ap (λ (l : List ℕ). Some l) (journal_bytes (take n effects) c.world.state c.world.log mid.0 j.is mid.1) in
     record {
@@ -188,6 +219,22 @@ opens_again c effects n found j is formed =
       never_bad = λ at bad. (subst (λ (l : Option (List ℕ)). IsBadLog l at) bytes bad).not_whole (mid.0, form, refl);
     }
 
+-- the first of effects that take no tape of a listed dump take none
+nothing_at : (k : ℕ) (e : Effect) → slice_get [] k ≡ Some e → ⊥
+nothing_at k e at = (let f : ◌≡◌ {A = Option Effect} None (Some e) = at in cc)
+
+front_at : (n k : ℕ) (es : List Effect) (e : Effect) → slice_get (take n es) k ≡ Some e → (slice_get es k ≡ Some e) × (take k (take n es) ≡ take k es)
+front_at zero k [] e at = absurd (nothing_at k e at)
+front_at zero k (x ∷ es) e at = absurd (nothing_at k e at)
+front_at (suc n) k [] e at = (at, refl)
+front_at (suc n) zero (x ∷ es) e at = (at, refl)
+front_at (suc n) (suc k) (x ∷ es) e at = (let further = front_at n k es e at in (further.0, ap (λ (l : List Effect). x ∷ l) further.1))
+
+front_listed : (w : World) (n : ℕ) (es : List Effect) → EachKeepsListed w es → EachKeepsListed w (take n es)
+front_listed w n es keeps = λ k e at.
+    (let there = front_at n k es e at in
+    subst (λ (l : List Effect). KeepsListed w l e) (sym there.1) (keeps k e there.0))
+
 image_of : (c : Course) (effects : List Effect) (old new : Stock) → Journaled c effects → Joint c.world.state effects old new → LeftImage c effects old new
 image_of c effects old new j joint =
     let events : new.log ≡ Some (come (take joint.count effects) c.world.state).log
@@ -197,6 +244,7 @@ image_of c effects old new j joint =
       events = events;
       reopens = opens_again c effects joint.count new.log j events;
       acknowledged = told_whole c.world.state effects old new joint;
+      listed = λ held asked. front_listed c.world joint.count effects (j.listed held asked);
       archive = λ held asked. j.images c.world (contents_in c joint.count) (take joint.count effects) new (j.way held asked joint.count joint.within) joint.left;
     }
 
@@ -207,15 +255,20 @@ images_of time old new c effects j images = λ i left. let at = images i left in
 abbrev pub ScriptsJournaled : Type 0
 ScriptsJournaled = (w : World) (moments : List ℕ) (lines : List (List ℕ)) → HasTapes w → AreChanges w.log → IsFormedFor w lines → IsJournalAfter w.log (script w moments lines).effects (script w moments lines).world.log
 
+-- no effect of a script takes a tape from a dump that is listed behind it
+abbrev pub ScriptsKeepListed : Type 0
+ScriptsKeepListed = (w : World) (moments : List ℕ) (lines : List (List ℕ)) → HoldsWorld w → IsReadyFor w moments lines → EachKeepsListed w (script w moments lines).effects
+
 -- the script of a course
-pub journaled : ScriptsJournaled → ScriptsKeep → ImagesHold → (c : Course) → HasTapes c.world → c.world.state.log_settled ≡ length c.world.state.log → AreChanges c.world.log → c.world.state.log ≡ encoded c.world.log → Journaled c (outcome c).effects
-journaled journals keep hold c has settled form is = record {
+pub journaled : ScriptsJournaled → ScriptsKeep → ScriptsKeepListed → ImagesHold → (c : Course) → HasForms c → HasTapes c.world → c.world.state.log_settled ≡ length c.world.state.log → AreChanges c.world.log → c.world.state.log ≡ encoded c.world.log → Journaled c (outcome c).effects
+journaled journals keep listed hold c forms has settled form is = record {
   settled = settled;
   form = form;
   is = is;
-  after = λ formed. ((outcome c).world.log, journals c.world c.moments (lines c.input) has form formed);
-  way = λ held asked count within. keep c.world c.moments (lines c.input) held asked count;
+  after = λ volumes. ((outcome c).world.log, journals c.world c.moments (lines c.input) has form (forms.formed (lines c.input) volumes));
+  way = λ held asked count within. keep c.world c.moments (lines c.input) held (ready_for c forms (lines c.input) asked) count;
   images = hold;
+  listed = λ held asked. listed c.world c.moments (lines c.input) held (ready_for c forms (lines c.input) asked);
 }
 
 -- a stage of it
@@ -226,12 +279,15 @@ stage_journaled c stage on j =
       settled = j.settled;
       form = j.form;
       is = j.is;
-      after = λ formed. (let whole = j.after formed in journal_front stage.effects more.0 c.world.log whole.0 (subst (λ (es : List Effect). IsJournalAfter c.world.log es whole.0) more.1 whole.1));
+      after = λ volumes. (let whole = j.after volumes in journal_front stage.effects more.0 c.world.log whole.0 (subst (λ (es : List Effect). IsJournalAfter c.world.log es whole.0) more.1 whole.1));
       way = λ held asked count within.
           (let all : stage.effects ++ more.0 ≡ (outcome c).effects = sym more.1 in
           let long : length stage.effects ≤ length (outcome c).effects = subst (λ (es : List Effect). length stage.effects ≤ length es) all (omega (arith, length-append stage.effects more.0)) in
           subst (λ (es : List Effect). HoldsAfter c.world (contents_in c count) es) (ap (take count) more.1 ∙ take-append-le count stage.effects more.0 within) (j.way held asked count (omega (arith, within, long))));
       images = j.images;
+      listed = λ held asked.
+          subst (λ (es : List Effect). EachKeepsListed c.world es) (ap (take (length stage.effects)) more.1 ∙ take-append-le (length stage.effects) stage.effects more.0 (omega arith) ∙ take_all (length stage.effects) stage.effects (omega arith))
+          (front_listed c.world (length stage.effects) (outcome c).effects (j.listed held asked));
     }
 
 -- however it ended

@@ -22,9 +22,8 @@ use Rattle.backup_script.specs.Scripts.{Outcome, script, Stage, IsStage}
 use Rattle.backup_script.specs.Held.{IsHeldThroughout}
 use Rattle.backup_script.specs.Running.{Took, TookAll, TookToQuit, TookTooMany}
 use Rattle.dump_forms.specs.Journals.{IsJournalAfter}
-use Rattle.script_journals.specs.Dumping.{IsFormedFor}
-use Rattle.session_archives.specs.Held.{HoldsWorld, HoldsImage, contents_on}
-use Rattle.session_archives.specs.Ready.{IsReady, RestoresApartThroughout, IsReadyFor}
+use Rattle.session_archives.specs.Held.{HoldsWorld, HoldsImage, contents_on, EachKeepsListed}
+use Rattle.session_archives.specs.Ready.{IsFitWorld, RestoresApartThroughout, at_first, IsFitFor, AreVolumesFor}
 use Rattle.backup_top.specs.Answers.{config_status}
 use Rattle.backup_top.specs.declared.status.Status.{Status}
 use Rattle.backup_top.specs.declared.status.Status.TheVariants.{Done, SomeRefused, Usage, ReadFault, MediaFault, CellFault, Memory, BadConfig, BadLog, OutputFault, ScriptTooLong}
@@ -98,13 +97,13 @@ course_of seen count present contents old entry new cell_old cell_new moments le
 abbrev pub FindsHeld : Course → Type 0
 FindsHeld c = IsHeldThroughout c.world c.moments (lines c.input)
 
--- a script that dumps finds a world that is ready for dumps; so it is of every script without a dump
-abbrev pub FindsReady : Course → Type 0
-FindsReady c = IsReadyFor c.world c.moments (lines c.input)
+-- a script that dumps finds a world that is fit for dumps at its first command; so it is of every script without a dump
+abbrev pub FindsFit : Course → Type 0
+FindsFit c = IsFitFor c.world c.moments (lines c.input)
 
--- and one that has its forms
-abbrev pub FindsFormed : Course → Type 0
-FindsFormed c = IsFormedFor c.world (lines c.input)
+-- and one in which what dumps have of volumes are volumes
+abbrev pub FindsVolumes : Course → Type 0
+FindsVolumes c = AreVolumesFor c.world (lines c.input)
 
 -- what the dumps have behind so many of its effects
 abbrev pub contents_in : Course → ℕ → Contents
@@ -121,8 +120,8 @@ pub record KeepsArchive (c : Course) (s : Outcome) : Type 0 where
   pub media : HoldsImage c.world s.world.contents s.effects c.after
 
 -- What is left where these lines were run, and this came of them. The journal and the tapes are those of the entry with these effects, so far
--- as they are settled. Where the media held the archive at the entry, and a script that dumps found a world that is ready, they hold it at the
--- exit. And a world that was ready is ready again, where no volume was restored under a name that ends in `.backup`.
+-- as they are settled. Where the media held the archive at the entry, and a script that dumps found a world that is fit for it, they hold it at
+-- the exit. And a world that was fit at the first command is fit again, where no volume was restored under a name that ends in `.backup`.
 pub record Leaves (c : Course) (these : List (List ℕ)) (s : Outcome) : Type 0 where
   pub told : c.after.told ≡ c.before.told ++ told_by s.effects
   pub archive : c.after ≡ settled_part (come s.effects c.world.state)
@@ -130,8 +129,8 @@ pub record Leaves (c : Course) (these : List (List ℕ)) (s : Outcome) : Type 0 
   pub form : AreChanges s.world.log
   pub cell : c.cell ≡ s.world.cell
   pub clock : c.left ≡ s.moments
-  pub kept : HoldsWorld c.world → IsReadyFor c.world c.moments these → KeepsArchive c s
-  pub ready : HoldsWorld c.world → IsReady c.world → RestoresApartThroughout c.world c.moments these → IsReady s.world
+  pub kept : HoldsWorld c.world → IsFitFor c.world c.moments these → KeepsArchive c s
+  pub fit : HoldsWorld c.world → IsFitWorld (at_first c.world c.moments these) → RestoresApartThroughout c.world c.moments these → IsFitWorld s.world
 
 -- cut short by a read or the limit: the lines that were ended were run
 pub record LeavesShort (c : Course) : Type 0 where
@@ -211,21 +210,28 @@ pub record Reopens (log : List Change) (effects : List Effect) (found : Option (
   pub never_bad : (at : ℕ) → IsBadLog found at → ⊥
 
 -- What a crash leaves of a course, from its entry: what the crash model leaves after the first of these effects of its script, for ONE count
--- of them. The journal isn't damaged, and is that after these effects, so that it opens again (of a script that dumps, where the world has its
--- forms). A reply that was told whole is among them. Where the media held the archive at the entry, and a script that dumps finds a world that is
--- ready, the image holds that of its changes and of its tapes: each listed dump lies where it lay behind these effects, with the contents that it
--- had then.
+-- of them. The journal isn't damaged, and is that after these effects, so that it opens again (of a script that dumps, where what dumps have of
+-- volumes are volumes). A reply that was told whole is among them. Where the media held the archive at the entry, and a script that dumps finds a
+-- world that is fit for it, the image holds that of its changes and of its tapes: each listed dump lies where it lay behind these effects, with the contents that it
+-- had then. And none of these effects takes a tape from a dump that is listed behind it.
 pub record LeftImage (c : Course) (effects : List Effect) (old new : Stock) : Type 0 where
   pub joint : Joint c.world.state effects old new
   pub events : new.log ≡ Some (come (take joint.count effects) c.world.state).log
-  pub reopens : FindsFormed c → Reopens c.world.log (take joint.count effects) new.log
+  pub reopens : FindsVolumes c → Reopens c.world.log (take joint.count effects) new.log
   pub acknowledged : (before after : List Effect) (reply : List ℕ) → effects ≡ before ++ tells reply ∷ after → 0 < length reply
       → length c.world.state.told + length (told_by before) + length reply ≤ length new.told → length before < joint.count
-  pub archive : HoldsWorld c.world → FindsReady c → HoldsImage c.world (contents_in c joint.count) (take joint.count effects) new
+  pub archive : HoldsWorld c.world → FindsFit c → HoldsImage c.world (contents_in c joint.count) (take joint.count effects) new
+  pub listed : HoldsWorld c.world → FindsFit c → EachKeepsListed c.world (take joint.count effects)
 
 -- each image since the entry
 abbrev pub LeavesImages : {D : Type 0} → Moments D Image → D → D → Course → List Effect → Type 0
 LeavesImages time old new c effects = LeavesSince time old new (λ a b. LeftImage c effects (stock_of a) (stock_of b))
+
+-- the cell has the list of a stage of the script
+pub record CellAtStage (c : Course) : Type 0 where
+  pub stage : Stage
+  pub on_the_way : IsStage [] c.world c.moments (lines c.input) stage
+  pub is : c.cell ≡ stage.cell
 
 -- However a run ends, what reads give is such an image of a stage of the script, and the cell has the list of this stage. So the cell has
 -- the changes of each command whose reply was told.

@@ -8,7 +8,7 @@ ghost use Rattle.tape_config.specs.declared.fault.ConfigFault.{ConfigFault as An
 ghost use Rattle.backup_top.specs.declared.status.Status.TheVariants.{Usage, ReadFault, MediaFault, CellFault, OutputFault, BadConfig, BadLog, Memory};
 ghost use Rattle.backup_top.specs.Answers.{config_status};
 ghost use Rattle.backup_session.specs.Worlds.{Contents};
-ghost use Rattle.backup_top.specs.Courses.{course_of, Entry, Journal, IsBadLog, IsRefusedAt, RefusesJournal, Runs, TakesBy, EndsAt, LeavesImages, FindsHeld, outcome, HasCauseAs};
+ghost use Rattle.backup_top.specs.Courses.{course_of, Entry, Journal, IsBadLog, IsRefusedAt, RefusesJournal, Runs, TakesBy, CellAtStage, EndsAt, LeavesImages, FindsHeld, outcome, HasCauseAs};
 
 use crate::running::run_media;
 use crate::status::Status;
@@ -17,7 +17,8 @@ use cell_core::Cell;
 use media_core::{Clock, Media, Source};
 use script_journals::journals_of_scripts;
 use session_archives::{
-    images_hold_the_archive, scripts_keep_the_archive, scripts_leave_a_ready_world_ready,
+    images_hold_the_archive, opened_worlds_have_their_forms, scripts_keep_the_archive,
+    scripts_leave_a_ready_world_ready,
 };
 use std::alloc::Global;
 use tape_config::Config;
@@ -50,6 +51,10 @@ pub fn run_mode<M: Media, C: Cell, K: Clock, S: Source>(
     ensures bad_log_media { M.tells → (at : ℕ) → result.0 ≡ BadLog at → stock_of (M.seen result.1) ≡ stock_of (M.seen media) }
     ensures bad_log_cell { C.tells → (at : ℕ) → result.0 ≡ BadLog at → C.list cell.new ≡ C.list cell.old }
     ensures bad_log_clock { (at : ℕ) → result.0 ≡ BadLog at → (clock.new ≡ clock.old) × (source.new ≡ source.old) }
+    ensures refused_config_same { (fault : AnyFault) → config_of config.now ≡ Err fault → (result.1 ≡ media) × (cell.new ≡ cell.old) × (clock.new ≡ clock.old) × (source.new ≡ source.old) }
+    ensures cell_at_end { M.tells → C.tells → K.tells → S.tells → (entry : Entry config.now (stock_of (M.seen media))) → (contents : Contents)
+        → let c = course_of M.seen M.count M.present contents media entry result.1 (C.list cell.old) (C.list cell.new) (K.moments clock.old) (K.moments clock.new) (S.left source.old) (S.left source.new) in
+        FindsHeld c → CellAtStage c }
     ensures media_cause { HasCauseAs MediaFault (M.faults media) (M.faults result.1) result.0 }
     ensures cell_cause { HasCauseAs CellFault (C.faults cell.old) (C.faults cell.new) result.0 }
     ensures output_cause { HasCauseAs OutputFault (M.tell_faults media) (M.tell_faults result.1) result.0 }
@@ -63,6 +68,8 @@ pub fn run_mode<M: Media, C: Cell, K: Clock, S: Source>(
     scripts_keep_the_archive();
     scripts_leave_a_ready_world_ready();
     images_hold_the_archive();
+    opened_worlds_have_their_forms();
+    cell.listed_is_allowed();
     match Config::parse(alloc, config) {
         Ok(config) => run_media(alloc, config, media, cell, clock, source),
         Err(fault) => (of_config(fault), media),

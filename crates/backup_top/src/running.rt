@@ -1,11 +1,12 @@
 //! A run of a script over media and a cell.
 
-ghost use Rattle.std.specs.Prelude.{◌≡◌, ◌≤◌, ℕ};
+ghost use Rattle.std.specs.Prelude.{◌≡◌, ◌≤◌, ℕ, List, Ok};
 ghost use Rattle.media_core.specs.Still.{AreStill};
 ghost use Rattle.plant_media.specs.Stock.{stock_of};
+ghost use Rattle.tape_config.specs.Configs.{config_of};
 ghost use Rattle.backup_top.specs.declared.status.Status.TheVariants.{ReadFault, MediaFault, CellFault, OutputFault, BadLog};
 ghost use Rattle.backup_session.specs.Worlds.{Contents};
-ghost use Rattle.backup_top.specs.Courses.{course, Journal, IsBadLog, IsRunStatus, RefusesJournal, Runs, TakesBy, EndsAt, LeavesImages, FindsHeld, outcome, HasCauseAs};
+ghost use Rattle.backup_top.specs.Courses.{course, Journal, IsBadLog, IsRunStatus, RefusesJournal, Runs, TakesBy, CellAtStage, EndsAt, LeavesImages, FindsHeld, outcome, HasCauseAs};
 
 use crate::status::Status;
 use crate::statuses::{of_opening, of_run};
@@ -15,7 +16,8 @@ use media_core::{Clock, Media, Source};
 use plant_media::MediaPlant;
 use script_journals::journals_of_scripts;
 use session_archives::{
-    images_hold_the_archive, scripts_keep_the_archive, scripts_leave_a_ready_world_ready,
+    images_hold_the_archive, opened_worlds_have_their_forms, scripts_keep_the_archive,
+    scripts_leave_a_ready_world_ready,
 };
 use std::alloc::Global;
 use tape_config::Config;
@@ -29,13 +31,13 @@ pub fn run_media<M: Media, C: Cell, K: Clock, S: Source>(
     clock: &mut K,
     source: &mut S,
 ) -> (Status, M)
-    ensures runs { M.tells → C.tells → K.tells → S.tells → (journal : Journal (stock_of (M.seen media))) → (contents : Contents)
+    ensures runs { M.tells → C.tells → K.tells → S.tells → (bytes : List ℕ) → config_of bytes ≡ Ok config → (journal : Journal (stock_of (M.seen media))) → (contents : Contents)
         → let c = course M.seen M.count M.present config journal.log contents media result.1 (C.list cell.old) (C.list cell.new) (K.moments clock.old) (K.moments clock.new) (S.left source.old) (S.left source.new) in
         FindsHeld c → Runs c result.0 }
-    ensures images { M.tells → C.tells → K.tells → S.tells → AreStill M.time M.seen media → (journal : Journal (stock_of (M.seen media))) → (contents : Contents)
+    ensures images { M.tells → C.tells → K.tells → S.tells → AreStill M.time M.seen media → (bytes : List ℕ) → config_of bytes ≡ Ok config → (journal : Journal (stock_of (M.seen media))) → (contents : Contents)
         → let c = course M.seen M.count M.present config journal.log contents media result.1 (C.list cell.old) (C.list cell.new) (K.moments clock.old) (K.moments clock.new) (S.left source.old) (S.left source.new) in
         FindsHeld c → LeavesImages M.time media result.1 c (outcome c).effects }
-    ensures ends { M.tells → C.tells → K.tells → S.tells → AreStill M.time M.seen media → (journal : Journal (stock_of (M.seen media))) → (contents : Contents)
+    ensures ends { M.tells → C.tells → K.tells → S.tells → AreStill M.time M.seen media → (bytes : List ℕ) → config_of bytes ≡ Ok config → (journal : Journal (stock_of (M.seen media))) → (contents : Contents)
         → let c = course M.seen M.count M.present config journal.log contents media result.1 (C.list cell.old) (C.list cell.new) (K.moments clock.old) (K.moments clock.new) (S.left source.old) (S.left source.new) in
         FindsHeld c → EndsAt M.time M.seen media result.1 c }
     ensures takes { S.tells → TakesBy (S.left source.old) (S.left source.new) result.0 }
@@ -44,6 +46,9 @@ pub fn run_media<M: Media, C: Cell, K: Clock, S: Source>(
     ensures bad_log_media { M.tells → (at : ℕ) → result.0 ≡ BadLog at → stock_of (M.seen result.1) ≡ stock_of (M.seen media) }
     ensures bad_log_cell { C.tells → (at : ℕ) → result.0 ≡ BadLog at → C.list cell.new ≡ C.list cell.old }
     ensures bad_log_clock { (at : ℕ) → result.0 ≡ BadLog at → (clock.new ≡ clock.old) × (source.new ≡ source.old) }
+    ensures cell_at_end { M.tells → C.tells → K.tells → S.tells → (journal : Journal (stock_of (M.seen media))) → (contents : Contents)
+        → let c = course M.seen M.count M.present config journal.log contents media result.1 (C.list cell.old) (C.list cell.new) (K.moments clock.old) (K.moments clock.new) (S.left source.old) (S.left source.new) in
+        FindsHeld c → CellAtStage c }
     ensures media_cause { HasCauseAs MediaFault (M.faults media) (M.faults result.1) result.0 }
     ensures cell_cause { HasCauseAs CellFault (C.faults cell.old) (C.faults cell.new) result.0 }
     ensures output_cause { HasCauseAs OutputFault (M.tell_faults media) (M.tell_faults result.1) result.0 }
@@ -57,6 +62,8 @@ pub fn run_media<M: Media, C: Cell, K: Clock, S: Source>(
     scripts_keep_the_archive();
     scripts_leave_a_ready_world_ready();
     images_hold_the_archive();
+    opened_worlds_have_their_forms();
+    cell.listed_is_allowed();
     match MediaPlant::open(media) {
         Ok(mut plant) => {
             let answer = run_on(alloc, config, &mut plant, cell, clock, source);

@@ -15,7 +15,7 @@ ghost use Rattle.backup_top.specs.Answers.{config_status};
 ghost use Rattle.backup_session.specs.Held.{HoldsArchive};
 ghost use Rattle.backup_session.specs.Worlds.{Contents};
 ghost use Rattle.session_archives.specs.Held.{HoldsWorld};
-ghost use Rattle.backup_top.specs.Courses.{course_of, Entry, Journal, IsBadLog, IsRefusedAt, RefusesJournal, IsExamineStatus, Runs, TakesBy, EndsAt, LeavesImages, FindsHeld, FindsReady, FindsFormed, outcome, HasCauseAs, IsWithin, IsComplete};
+ghost use Rattle.backup_top.specs.Courses.{course_of, Entry, Journal, IsBadLog, IsRefusedAt, RefusesJournal, IsExamineStatus, Runs, TakesBy, CellAtStage, EndsAt, LeavesImages, FindsHeld, FindsFit, FindsVolumes, outcome, HasCauseAs, IsWithin, IsComplete};
 ghost use Rattle.backup_top.specs.declared.words.Asked.TheVariants.{Run, Examine, Rehearse, Nothing};
 ghost use Rattle.backup_top.specs.declared.status.Status.TheVariants.{Done, Usage, ReadFault, MediaFault, CellFault, Memory, BadConfig, BadLog, OutputFault};
 
@@ -30,7 +30,7 @@ use media_core::{Clock, Media, Source};
 use rehearsal::rehearse;
 use script_journals::journals_of_scripts;
 use session_archives::{
-    images_hold_the_archive, ready_worlds_have_forms, scripts_keep_the_archive,
+    images_hold_the_archive, opened_worlds_have_their_forms, scripts_keep_the_archive,
     scripts_leave_a_ready_world_ready,
 };
 use std::alloc::Global;
@@ -185,11 +185,11 @@ pub fn run<M: Media, C: Cell, K: Clock, S: Source>(
     ensures same { (asked words.now.items ≡ Run → ⊥) → (cell.new ≡ cell.old) × (clock.new ≡ clock.old) }
 
     // Media that hold the archive of these contents at the entry hold it as each restore of the script finds it. A script that dumps finds a
-    // world that is ready for dumps, and so one that has its forms, and restores no volume under a name that ends in `.backup`; of other
-    // scripts nothing is asked.
-    ensures finds { asked words.now.items ≡ Run → (entry : Entry config.now (stock_of (M.seen media))) → (contents : Contents)
+    // world that is fit for dumps at its first command, in which what dumps have of volumes are volumes, and restores no volume under a name
+    // that ends in `.backup`; of other scripts nothing is asked.
+    ensures finds { asked words.now.items ≡ Run → C.tells → (entry : Entry config.now (stock_of (M.seen media))) → (contents : Contents)
         → let c = course_of M.seen M.count M.present contents media entry result.1 (C.list cell.old) (C.list cell.new) (K.moments clock.old) (K.moments clock.new) (S.left source.old) (S.left source.new) in
-        HoldsArchive c.world → FindsReady c → HoldsWorld c.world × FindsHeld c × FindsFormed c }
+        HoldsArchive c.world → FindsFit c → HoldsWorld c.world × FindsHeld c × FindsVolumes c }
     // A script, over media whose journal is a list of changes, and by a configuration of the form: what was done, by the status. It
     // is said of scripts whose restores find media that hold the archive of these contents, and so of every script without a restore.
     ensures runs { asked words.now.items ≡ Run → M.tells → C.tells → K.tells → S.tells → (entry : Entry config.now (stock_of (M.seen media))) → (contents : Contents)
@@ -204,6 +204,10 @@ pub fn run<M: Media, C: Cell, K: Clock, S: Source>(
     ensures ends { asked words.now.items ≡ Run → M.tells → C.tells → K.tells → S.tells → AreStill M.time M.seen media → (entry : Entry config.now (stock_of (M.seen media))) → (contents : Contents)
         → let c = course_of M.seen M.count M.present contents media entry result.1 (C.list cell.old) (C.list cell.new) (K.moments clock.old) (K.moments clock.new) (S.left source.old) (S.left source.new) in
         FindsHeld c → EndsAt M.time M.seen media result.1 c }
+    // Also where a write waited for a sync at the entry, the cell has the list of a stage of the script.
+    ensures cell_at_end { asked words.now.items ≡ Run → M.tells → C.tells → K.tells → S.tells → (entry : Entry config.now (stock_of (M.seen media))) → (contents : Contents)
+        → let c = course_of M.seen M.count M.present contents media entry result.1 (C.list cell.old) (C.list cell.new) (K.moments clock.old) (K.moments clock.new) (S.left source.old) (S.left source.new) in
+        FindsHeld c → CellAtStage c }
     // What is taken of the source. A script is too long exactly where more came than it may have, with no end and no `quit`.
     ensures takes { asked words.now.items ≡ Run → S.tells → TakesBy (S.left source.old) (S.left source.new) result.0 }
     // Where no call is refused, all of a script within its bound is run, unless memory runs out.
@@ -214,6 +218,7 @@ pub fn run<M: Media, C: Cell, K: Clock, S: Source>(
     ensures bad_config { (line : ℕ) → result.0 ≡ BadConfig line → (asked words.now.items ≡ Run) × IsRefusedAt config.now line }
     ensures only_bad_config { asked words.now.items ≡ Run → (fault : AnyFault) → config_of config.now ≡ Err fault → (result.0 ≡ config_status fault) ⊎ (result.0 ≡ Memory) }
     ensures bad_config_same { (line : ℕ) → result.0 ≡ BadConfig line → (result.1 ≡ media) × (cell.new ≡ cell.old) × (clock.new ≡ clock.old) × (source.new ≡ source.old) }
+    ensures refused_config_same { asked words.now.items ≡ Run → (fault : AnyFault) → config_of config.now ≡ Err fault → (result.1 ≡ media) × (cell.new ≡ cell.old) × (clock.new ≡ clock.old) × (source.new ≡ source.old) }
     // A journal is refused exactly where its log stops being a list of changes, before a line is read; nothing is told, and nothing changes.
     ensures bad_log { M.tells → (at : ℕ) → result.0 ≡ BadLog at → IsBadLog (stock_of (M.seen media)).log at }
     ensures bad_log_config { (at : ℕ) → result.0 ≡ BadLog at → (asked words.now.items ≡ Run) × ((settings : Settings) × (config_of config.now ≡ Ok settings)) }
@@ -236,8 +241,9 @@ pub fn run<M: Media, C: Cell, K: Clock, S: Source>(
     journals_of_scripts();
     scripts_keep_the_archive();
     scripts_leave_a_ready_world_ready();
-    ready_worlds_have_forms();
     images_hold_the_archive();
+    opened_worlds_have_their_forms();
+    cell.listed_is_allowed();
     match asked_by(alloc, words) {
         Err(_) => (Status::Memory, media),
         Ok(Asked::Run) => run_mode(alloc, config, media, cell, clock, source),

@@ -6,6 +6,7 @@ pub mod ChangeLaws
 pub mod CellLaws
 pub mod CallLaws
 pub mod FairLaws
+pub mod FormLaws
 pub mod KeepLaws
 pub mod AnswerLaws
 pub mod DumpLaws

@@ -9,6 +9,7 @@ pub mod Answers
 pub mod Changing
 pub mod Backups
 pub mod Fairness
+pub mod Forms
 pub mod Spoiling
 pub mod Mem
 pub mod Props

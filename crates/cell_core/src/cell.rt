@@ -1,8 +1,9 @@
 //! A cell: volumes in the order of their names, clones of them, and file servers that stamp each change.
 
-ghost use Rattle.std.specs.Prelude.{◌≡◌, ℕ, ◌<◌, ◌≤◌, List, length, Some, IfOk, OnOk, IsTrue, slice_get};
+ghost use Rattle.std.specs.Prelude.{◌≡◌, ℕ, ◌<◌, ◌≤◌, List, length, Some, IfOk, OnOk, IsTrue, slice_get, All};
 ghost use Rattle.cell_core.specs.declared.stored.Stored.{Stored};
 ghost use Rattle.cell_core.specs.Cells.{IsCell};
+ghost use Rattle.cell_core.specs.Forms.{IsStoredForm};
 ghost use Rattle.cell_core.specs.Calls.{entry_at, clone_at, is_good, after_create, after_put, after_write, after_remove_vnode, after_backup, after_remove};
 ghost use Rattle.crash_moments.specs.Moments.{HasCauseAt};
 ghost use Rattle.cell_core.specs.Answers.{Changes, Creates, OnlyFromOutside};
@@ -96,6 +97,10 @@ pub trait Cell {
     fn remove(&mut self, name: &Name) -> Result<(), CellFault>
         ensures answer { tells → Changes (after_remove (list self.old) name.now) (list self.old) result (list self.new) }
         ensures cause { HasCauseAt CellFault.Failed (faults self.old) (faults self.new) result };
+
+    /// What the list has is such as the types allow it. It is a law that takes the cell by reference: there is nothing to find out.
+    fn listed_is_allowed(&self)
+        ensures { tells → All IsStoredForm (list self.now) };
 
     /// The list is a cell's.
     ghost is_cell: { (s : Self) → tells → IsCell (list s) };

@@ -8,6 +8,7 @@ mod calls;
 mod cell;
 mod changes;
 mod fault;
+mod forms;
 mod laws;
 mod listed;
 mod lists;

@@ -1,10 +1,11 @@
 //! A cell in memory.
 
-ghost use Rattle.std.specs.Prelude.{refl, ◌≡◌, ◌≢◌, ◌↔◌, ◌<◌, ◌≤◌, [], ℕ, List, length, false, Some, Err, IfOk, OnOk, OnErr, IsTrue, slice_get};
+ghost use Rattle.std.specs.Prelude.{refl, ◌≡◌, ◌≢◌, ◌↔◌, ◌<◌, ◌≤◌, [], ℕ, List, length, false, Some, Err, IfOk, OnOk, OnErr, IsTrue, slice_get, All};
 ghost use Rattle.crash_moments.specs.Moments.{HasCauseAt, Rose};
 ghost use Rattle.media_core.specs.Plan.{counted, is_planned, more_where, GainsCall, SamePlan, IsUnplanned};
 ghost use Rattle.cell_core.specs.declared.stored.Stored.{Stored};
 ghost use Rattle.cell_core.specs.Cells.{IsCell};
+ghost use Rattle.cell_core.specs.Forms.{IsStoredForm};
 ghost use Rattle.cell_core.specs.Props.{cell_prop};
 ghost use Rattle.cell_core.specs.Spoiling.{spoilt};
 ghost use Rattle.cell_core.specs.Calls.{entry_at, clone_at, is_good, after_create, after_put, after_write, after_remove_vnode, after_backup, after_remove};
@@ -14,6 +15,7 @@ use crate::answering::{backup, change, create, put, remove};
 use crate::cell::Cell;
 use crate::changes::Change;
 use crate::fault::CellFault;
+use crate::forms::all_are_formed;
 use crate::looking::{entry_at, take_at};
 use crate::spoiling::spoil_in;
 use crate::stored::{Stored, Taken};
@@ -198,6 +200,12 @@ impl Cell for CellMem {
             return Err(CellFault::Failed);
         }
         remove(&mut self.volumes, name.bytes())
+    }
+
+    fn listed_is_allowed(&self)
+        ensures { All IsStoredForm (cell_list self.now) }
+    {
+        all_are_formed(self.volumes.as_slice());
     }
 }
 

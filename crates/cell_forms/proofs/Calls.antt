@@ -23,7 +23,7 @@ use Rattle.cell_core.proofs.LookupLaws.{key_found, found_beside}
 use Rattle.cell_core.proofs.CellLaws.{same_name, is_cell_with, is_cell_without}
 use Rattle.cell_core.proofs.CallLaws.{backup_apart}
 use Rattle.cell_core.proofs.IdLaws.{id_fits}
-use Rattle.dump_forms.specs.Forms.{IsVolumeForm, IsImageForm, IsStoredForm}
+use Rattle.cell_core.specs.Forms.{IsVolumeForm, IsImageForm, IsStoredForm}
 use Rattle.restore_target.specs.Targets.{standing_there, id_over, id_at, restored_as, put_with, after_restore}
 use Rattle.cell_forms.specs.Forms.{IsCellForm}
 use Rattle.cell_forms.proofs.Lists.{placed_more, placed_over}

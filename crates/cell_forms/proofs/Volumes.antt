@@ -21,7 +21,7 @@ use Rattle.cell_core.proofs.OrderLaws.{placed_all, without_all}
 use Rattle.cell_core.proofs.LookupLaws.{key_found}
 use Rattle.cell_core.proofs.VnodeLaws.{AreKept, kept_in, kept_out, number_order_total, volume_with, volume_less}
 use Rattle.cell_core.proofs.ChangeLaws.{fit_made}
-use Rattle.dump_forms.specs.Forms.{IsVolumeForm}
+use Rattle.cell_core.specs.Forms.{IsVolumeForm}
 use Rattle.restore_target.specs.Targets.{restored_as}
 
 -- ---- what vnodes use of a disk

@@ -7,7 +7,7 @@ ghost use Rattle.vnode_model.specs.declared.volumes.VolumeFields.{VolumeFields};
 ghost use Rattle.cell_core.specs.declared.stored.Stored.{Stored};
 ghost use Rattle.cell_core.specs.Calls.{Creation, after_create, after_put, after_write, after_remove_vnode, after_backup, after_remove};
 ghost use Rattle.dump_stream.specs.Forms.{IsBytes};
-ghost use Rattle.dump_forms.specs.Forms.{IsVolumeForm};
+ghost use Rattle.cell_core.specs.Forms.{IsVolumeForm};
 ghost use Rattle.restore_target.specs.Targets.{after_restore};
 ghost use Rattle.cell_forms.specs.Forms.{IsCellForm};
 

@@ -181,6 +181,8 @@ impl<R: Files + AllocGlobal + Clone + Drop> Cell for DirCell<R> {
         let answer = self.folder.remove(name, &mut self.refused);
         counted(&mut self.faults, answer)
     }
+
+    fn listed_is_allowed(&self) {}
 }
 
 impl<R: Drop> Explains for DirCell<R> {

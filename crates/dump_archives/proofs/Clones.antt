@@ -30,7 +30,7 @@ use Rattle.dump_job.specs.declared.fields.Hand.{Hand}
 use Rattle.dump_job.specs.declared.fields.JobFields.{JobFields}
 use Rattle.dump_job.specs.Cloning.{record_with, with_hand, volumes_done}
 use Rattle.dump_job.specs.Events.{Around}
-use Rattle.dump_forms.specs.Forms.{IsVolumeForm, IsImageForm, IsStoredForm}
+use Rattle.cell_core.specs.Forms.{IsVolumeForm, IsImageForm, IsStoredForm}
 use Rattle.dump_forms.proofs.EventForms.{found_has}
 use Rattle.dump_laws.specs.Made.{Made}
 use Rattle.dump_laws.specs.Growing.{is_clone_of}

@@ -39,7 +39,8 @@ use Rattle.dump_job.specs.Ending.{done_record}
 use Rattle.dump_job.specs.Jobs.{IsAt}
 use Rattle.dump_job.specs.Reels.{records_on}
 use Rattle.dump_job.specs.Events.{Event, clone_by, clone_from}
-use Rattle.dump_forms.specs.Forms.{IsStoredForm, AroundHasForms, HasForms, EventHasForms}
+use Rattle.cell_core.specs.Forms.{IsStoredForm}
+use Rattle.dump_forms.specs.Forms.{AroundHasForms, HasForms, EventHasForms}
 use Rattle.dump_forms.specs.Journals.{IsJournalAfter}
 use Rattle.dump_forms.proofs.EventForms.{event_forms}
 use Rattle.dump_forms.proofs.JournalLaws.{event_journaled}

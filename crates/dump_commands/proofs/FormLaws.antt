@@ -10,7 +10,8 @@ use Rattle.dump_job.specs.declared.fault.JobFault.{JobFault}
 use Rattle.dump_job.specs.declared.order.DumpOrder.{DumpOrder}
 use Rattle.dump_job.specs.declared.first_tapes.FirstTape.{FirstTape}
 use Rattle.dump_job.specs.Events.{Event}
-use Rattle.dump_forms.specs.Forms.{IsStoredForm, HasForms, AroundHasForms, EventHasForms}
+use Rattle.cell_core.specs.Forms.{IsStoredForm}
+use Rattle.dump_forms.specs.Forms.{HasForms, AroundHasForms, EventHasForms}
 use Rattle.dump_forms.specs.Begins.{IsOrderForm}
 use Rattle.dump_forms.specs.Journals.{IsJournalAfter}
 use Rattle.dump_forms.proofs.EventForms.{event_forms}

@@ -17,7 +17,7 @@ use Rattle.dump_job.specs.declared.fault.JobFault.{JobFault}
 use Rattle.dump_job.specs.declared.first_tapes.FirstTape.{FirstTape}
 use Rattle.dump_job.specs.declared.order.DumpOrder.{DumpOrder}
 use Rattle.dump_job.specs.Beginning.{id_of}
-use Rattle.dump_forms.specs.Forms.{IsVolumeForm, IsImageForm, IsStoredForm}
+use Rattle.cell_core.specs.Forms.{IsVolumeForm, IsImageForm, IsStoredForm}
 use Rattle.dump_commands.specs.declared.command.DumpCommand.{DumpCommand}
 use Rattle.dump_commands.specs.Scenes.{Scene, database_in, entries_in}
 use Rattle.dump_commands.specs.Orders.{asked_port, order_of}

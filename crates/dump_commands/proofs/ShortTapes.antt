@@ -42,7 +42,8 @@ use Rattle.dump_job.specs.Passing.{next_choice, next_changes, part_passed, part_
 use Rattle.dump_job.specs.Closing.{committing, is_too_long, made_of, done_changes, dump_ended}
 use Rattle.dump_job.specs.Jobs.{IsAt}
 use Rattle.dump_job.specs.Events.{Around, Event, putting, items_at, tape_event, clone_by, clone_from, closing, part_end_by, part_end_event, dump_end_event, head_event, piece_event, hand_event, event_by, event}
-use Rattle.dump_forms.specs.Forms.{IsStoredForm, HasForms}
+use Rattle.cell_core.specs.Forms.{IsStoredForm}
+use Rattle.dump_forms.specs.Forms.{HasForms}
 use Rattle.dump_forms.specs.Begins.{IsOrderForm}
 use Rattle.dump_forms.proofs.SlotForms.{tapes_fit}
 use Rattle.dump_forms.proofs.BeginForms.{begin_forms}

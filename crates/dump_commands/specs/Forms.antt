@@ -8,7 +8,7 @@ use Rattle.plant_core.specs.Records.{Record}
 use Rattle.tape_config.specs.declared.port.PortFields.{PortFields}
 use Rattle.tape_config.specs.Configs.{port_in, name_or_nothing}
 use Rattle.budb_changes.specs.Forms.{AreChanges}
-use Rattle.dump_forms.specs.Forms.{IsVolumeForm, IsStoredForm}
+use Rattle.cell_core.specs.Forms.{IsVolumeForm, IsStoredForm}
 use Rattle.dump_commands.specs.declared.command.DumpCommand.{DumpCommand}
 use Rattle.dump_commands.specs.Scenes.{Scene}
 use Rattle.dump_commands.specs.Answers.{Contents}

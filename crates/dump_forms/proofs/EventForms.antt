@@ -56,7 +56,8 @@ use Rattle.dump_job.proofs.Jobs.{taped_is_job, cloned_is_job, headed_is_job, pie
 use Rattle.dump_job.proofs.Streams.{written_long}
 use Rattle.dump_job.proofs.Turns.{few_all_parts, head_due, piece_due, end_due, part_due, last_due, few_done}
 use Rattle.dump_forms.proofs.Choices.{and_left, and_right, chosen_of, begun_room, head_fits}
-use Rattle.dump_forms.specs.Forms.{IsVolumeForm, IsImageForm, IsStoredForm, LabelsFit, AroundHasForms, IsHandForm, HasForms, EventHasForms}
+use Rattle.cell_core.specs.Forms.{IsVolumeForm, IsImageForm, IsStoredForm}
+use Rattle.dump_forms.specs.Forms.{LabelsFit, AroundHasForms, IsHandForm, HasForms, EventHasForms}
 
 -- ---- options and lists
 

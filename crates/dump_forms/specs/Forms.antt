@@ -1,13 +1,8 @@
 -- The forms of what a dump has between two events, and of what stands around it: each number fits its bytes, and each text is one of its kind.
 use Rattle.std.specs.Prelude.{◌≡◌, ℕ, ◌≤◌, Some, IfSome, List, map, slice_get, All}
 use Rattle.byte_formats.specs.Forms.{IsFour}
-use Rattle.bk_text.specs.Alphabets.{IsName, IsHost}
-use Rattle.vnode_model.specs.declared.volumes.VolumeFields.{VolumeFields}
-use Rattle.vnode_model.specs.Limits.{AreVolume}
-use Rattle.dump_stream.specs.Allowed.{AllowedHeader, AllowedVnode}
 use Rattle.cell_core.specs.declared.stored.Stored.{Stored}
-use Rattle.cell_core.specs.declared.stored.Image.{Image}
-use Rattle.cell_core.specs.declared.stored.Image.TheVariants.{Good, Bad}
+use Rattle.cell_core.specs.Forms.{IsStoredForm}
 use Rattle.tape_frames.specs.Layouts.{FitsLabel, FitsDumpHead, FitsVolHead}
 use Rattle.budb_changes.specs.Forms.{IsTapePart, IsFrag, IsVolRecord, IsDumpRecord, AreChanges}
 use Rattle.tape_scan.specs.Slots.{Slot}
@@ -19,22 +14,6 @@ use Rattle.dump_job.specs.Jobs.{IsJob}
 use Rattle.dump_job.specs.Events.{Around, Event}
 
 -- ---- what stands around a dump
-
--- a volume as its types allow it
-pub record IsVolumeForm (v : VolumeFields) : Type 0 where
-  pub header : AllowedHeader v.header
-  pub vnodes : All AllowedVnode v.vnodes
-  pub fit : AreVolume v.vnodes
-
-abbrev pub IsImageForm : Image → Type 0
-IsImageForm (Good volume) = IsVolumeForm volume
-IsImageForm (Bad at) = Unit {0}
-
-pub record IsStoredForm (s : Stored) : Type 0 where
-  pub name : IsName s.name
-  pub server : IsHost s.server
-  pub partition : IsName s.partition
-  pub image : IsImageForm s.image
 
 -- where a tape has a label its fields fit
 abbrev pub LabelsFit : List Slot → Type 0

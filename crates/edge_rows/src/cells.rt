@@ -71,6 +71,10 @@ impl Cell for NamedCell {
     fn remove(&mut self, name: &Name) -> Result<(), CellFault> {
         self.cell.remove(name)
     }
+
+    fn listed_is_allowed(&self) {
+        self.cell.listed_is_allowed();
+    }
 }
 
 impl Explains for NamedCell {

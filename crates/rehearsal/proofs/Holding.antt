@@ -14,7 +14,7 @@ use Rattle.plant_core.specs.Crashes.{seen_in, IsSettled}
 use Rattle.plant_core.specs.Stock.{IsNothing}
 use Rattle.cell_core.specs.Fairness.{Fair, NoneIsMadeAfter, NoSourceHasBackupName}
 use Rattle.cell_forms.specs.Forms.{IsCellForm}
-use Rattle.dump_forms.specs.Forms.{IsVolumeForm}
+use Rattle.cell_core.specs.Forms.{IsVolumeForm}
 use Rattle.backup_words.specs.declared.command.Command.{Command}
 use Rattle.backup_session.specs.Asks.{asks_archive, asks_dump}
 use Rattle.backup_session.specs.Bounded.{HasTapes}
@@ -25,6 +25,7 @@ use Rattle.command_forms.specs.Forms.{HasForms}
 use Rattle.command_forms.specs.NewNames.{NamesApart}
 use Rattle.session_archives.specs.Held.{HoldsWorld}
 use Rattle.session_archives.specs.Ready.{IsReady, RestoresApart, IsReadyForCommand}
+use Rattle.session_archives.proofs.TurnLeads.{ready_later}
 use Rattle.rehearsal.specs.declared.batch.Batch.{Batch}
 use Rattle.rehearsal.specs.Commands.{first_session, second_session, third_session}
 use Rattle.rehearsal.specs.Playing.{Stage, then_turn, given, played, FindsHeld, AllFindHeld}
@@ -36,8 +37,8 @@ use Rattle.rehearsal.proofs.Worlds.{dumped_setting, scanned_setting}
 -- the laws of the crates below
 pub record Laws : Type 0 where
   pub tests : Tests
-  pub keep : (w : World) (now : ℕ) (command : Command) → HasForms command → HoldsWorld w → IsReadyForCommand w command → HoldsWorld (after_turn w (turn w now command))
-  pub ready : (w : World) (now : ℕ) (command : Command) → HasForms command → NamesApart command → RestoresApart w command → HoldsWorld w → IsReady w → IsReady (after_turn w (turn w now command))
+  pub keep : (w : World) (now : ℕ) (command : Command) → HasForms command → HoldsWorld w → IsReadyForCommand (at_moment w now) command → HoldsWorld (after_turn w (turn w now command))
+  pub ready : (w : World) (now : ℕ) (command : Command) → HasForms command → NamesApart command → RestoresApart w command → HoldsWorld w → IsReady (at_moment w now) → IsReady (after_turn w (turn w now command))
   pub blank : (w : World) → w.log ≡ [] → IsNothing (seen_in w.state) → IsSettled w.state → ((k : ℕ) → IsTrue (w.setting.present k) → k < w.setting.slots) → HasTapes w → HoldsWorld w
   pub blank_ready : (w : World) → w.log ≡ [] → IsNothing (seen_in w.state) → IsCellForm w.cell → Fair w.cell [] w.time → NoneIsMadeAfter w.time w.cell → NoSourceHasBackupName w.cell → IsFour w.time
       → ((id : ℕ) (name : List ℕ) (volume : VolumeFields) → w.contents id name ≡ Ok volume → IsVolumeForm volume) → IsMaybe IsHost (name_or_nothing w.setting.config.cell)
@@ -86,8 +87,8 @@ module _ (laws : Laws) where
 
   made_next : (s : Stage) (now : ℕ) (command : Command) → IsMade command → Ready s → Ready (then_turn s (turn s.world now command))
   made_next s now command made is = record {
-    held = laws.keep s.world now command made.forms is.held (λ asks. is.ready);
-    ready = laws.ready s.world now command made.forms made.named (made.restores s.world) is.held is.ready;
+    held = laws.keep s.world now command made.forms is.held (λ asks. ready_later s.world now is.ready);
+    ready = laws.ready s.world now command made.forms made.named (made.restores s.world) is.held (ready_later s.world now is.ready);
   }
 
   made_given : (s : Stage) (now : ℕ) (commands : List Command) → All IsMade commands → Ready s → FindsHeld s now commands × Ready (given s now commands)
@@ -114,7 +115,7 @@ module _ (laws : Laws) where
   unfolding given FindsHeld
   read_given s now [] read held = (tt, held)
   read_given s now (c ∷ cs) read held =
-      let rest = read_given (then_turn s (turn s.world now c)) now cs (All-tail IsRead c cs read) (laws.keep s.world now c (All-head IsRead c cs read).forms held (dumps_not c s.world (All-head IsRead c cs read).no_dump)) in
+      let rest = read_given (then_turn s (turn s.world now c)) now cs (All-tail IsRead c cs read) (laws.keep s.world now c (All-head IsRead c cs read).forms held (dumps_not c (at_moment s.world now) (All-head IsRead c cs read).no_dump)) in
       ((finds s.world now c held, rest.0), rest.1)
 
   read_played : (s : Stage) (batches : List Batch) → All (AreRead laws.tests) batches → HoldsWorld s.world → AllFindHeld s batches × HoldsWorld (played s batches).world

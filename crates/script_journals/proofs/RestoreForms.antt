@@ -28,7 +28,7 @@ use Rattle.restore_commands.specs.Answers.{Wanted, Manner, put_answer, found_ans
 use Rattle.backup_words.specs.declared.command.Command.{Command}
 use Rattle.backup_words.specs.declared.command.Command.TheVariants.{Volrestore, Diskrestore, Volsetrestore}
 use Rattle.backup_session.specs.Restores.{manner_at, restore_answer}
-use Rattle.dump_forms.specs.Forms.{IsVolumeForm}
+use Rattle.cell_core.specs.Forms.{IsVolumeForm}
 use Rattle.dump_commands.specs.Forms.{AreVolumes}
 use Rattle.cell_forms.specs.Forms.{IsCellForm}
 use Rattle.cell_forms.proofs.Calls.{put_restored_form}

@@ -40,7 +40,7 @@ module _ (w : World) (has : HasTapes w) (finds : Finds w) (ready : IsReady w) wh
     tapes = has;
     log = finds.holds.1.seen.changes;
     cell = ready.order.form;
-    contents = ready.order.volumes;
+    contents = ready.order.fit.volumes;
     time = ready.order.four;
     name = ready.name;
     ports = ready.ports;
@@ -53,11 +53,11 @@ module _ (w : World) (has : HasTapes w) (finds : Finds w) (ready : IsReady w) wh
     settled = finds.settled;
     short = has.records;
     cell = ready.order.form.list;
-    fair = ready.order.fair finds.holds.0 finds.holds.1.seen.kept.dumps;
+    fair = ready.order.fit.fair finds.holds.0 finds.holds.1.seen.kept.dumps;
     made = ready.order.made;
-    named = ready.order.named;
-    heads = ready.order.heads;
-    ends = ready.order.ends;
+    named = ready.order.fit.named;
+    heads = ready.order.fit.heads;
+    ends = ready.order.fit.ends;
   }
 
 -- ---- what a dump makes
@@ -91,13 +91,15 @@ module _ (laws : DumpLaws) (w : World) (has : HasTapes w) (finds : Finds w) (rea
       let then = archive_of (before_reply w (answered w (dump_answer (scene_of w) a))) in
       record {
         form = ready.order.form;
-        fair = λ records are. fair_to_any w.cell (dump_answer (scene_of w) a).time then behind.records records behind.asks.holds.seen.kept.dumps are.sound behind.asks.fair;
-        made = behind.asks.made;
-        named = behind.asks.named;
         four = behind.asks.form.time;
-        heads = behind.asks.heads;
-        ends = behind.asks.ends;
-        volumes = laws.volumes (scene_of w) a w.contents (scene_form w (ready_form w has finds ready)) ready.order.volumes;
+        made = behind.asks.made;
+        fit = record {
+          fair = λ records are. fair_to_any w.cell (dump_answer (scene_of w) a).time then behind.records records behind.asks.holds.seen.kept.dumps are.sound behind.asks.fair;
+          named = behind.asks.named;
+          heads = behind.asks.heads;
+          ends = behind.asks.ends;
+          volumes = laws.volumes (scene_of w) a w.contents (scene_form w (ready_form w has finds ready)) ready.order.fit.volumes;
+        };
       }
 
 -- ---- as a command says it

@@ -22,3 +22,4 @@ pub mod ReadyCells
 pub mod ReadyTurns
 pub mod ReadyScripts
 pub mod ReadyBlank
+pub mod Opened

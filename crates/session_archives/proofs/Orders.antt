@@ -24,7 +24,7 @@ use Rattle.archive_model.specs.Archives.{Archive, Refusal, listed_of, IsDump, Ar
 use Rattle.archive_model.specs.Sources.{firsts, dumped_of, dumped_by}
 use Rattle.archive_model.proofs.SlotLaws.{in_flat}
 use Rattle.archive_model.proofs.FairLaws.{of_flat}
-use Rattle.dump_forms.specs.Forms.{IsVolumeForm}
+use Rattle.cell_core.specs.Forms.{IsVolumeForm}
 use Rattle.session_archives.specs.Ready.{IsInOrder}
 use Rattle.session_archives.proofs.Bringing.{BringsNone}
 
@@ -34,22 +34,24 @@ made_later : (time now : ℕ) → time ≤ now → (i : Image) → IsNotMadeAfte
 made_later time now le (Good volume) is = omega (arith, le, is)
 made_later time now le (Bad at) is = tt
 
-none_made_later : (cell : List Stored) (time now : ℕ) → time ≤ now → NoneIsMadeAfter time cell → NoneIsMadeAfter now cell
+pub none_made_later : (cell : List Stored) (time now : ℕ) → time ≤ now → NoneIsMadeAfter time cell → NoneIsMadeAfter now cell
 none_made_later cell time now le all = All-weaker (λ (s : Stored). IsNotMadeAfter time s.image) (λ (s : Stored). IsNotMadeAfter now s.image) (λ s is. made_later time now le s.image is) cell all
 
 pub order_later : (cell : List Stored) (time now : ℕ) (a : Archive) → IsInOrder cell time a → time ≤ now → IsFour now → IsInOrder cell now a
 order_later cell time now a order le four = record {
   form = order.form;
-  fair = λ records are. fair_later cell (dumped_by a.contents records) time now (order.fair records are) le;
-  made = none_made_later cell time now le order.made;
-  named = order.named;
   four = four;
-  heads = λ k s n h at is. elim (order.heads k s n h at is) [
-    | inl low ↦ inl low
-    | inr early ↦ inr (omega (arith, early, le))
-  ];
-  ends = order.ends;
-  volumes = order.volumes;
+  made = none_made_later cell time now le order.made;
+  fit = record {
+    fair = λ records are. fair_later cell (dumped_by a.contents records) time now (order.fit.fair records are) le;
+    named = order.fit.named;
+    heads = λ k s n h at is. elim (order.fit.heads k s n h at is) [
+      | inl low ↦ inl low
+      | inr early ↦ inr (omega (arith, early, le))
+    ];
+    ends = order.fit.ends;
+    volumes = order.fit.volumes;
+  };
 }
 
 -- at a moment of the clock
@@ -76,20 +78,22 @@ fair_to_any cell time a records fewer are its fair = fair_fewer cell (dumped_by 
 pub order_brought : (cell : List Stored) (time : ℕ) (a b : Archive) (records : List DumpRecordFields) → AreDumps (listed_of a) a.slots records → b.contents ≡ a.contents → BringsNone a b → IsInOrder cell time a → IsInOrder cell time b
 order_brought cell time a b records are same brings order = record {
   form = order.form;
-  fair = λ fewer its.
-      subst (λ (c : ℕ → List ℕ → Result VolumeFields Refusal). Fair cell (dumped_by c fewer) time) (sym same)
-      (fair_to_any cell time a records fewer are (λ d there. brings.dumps d (its.sound d there)) (order.fair records are));
-  made = order.made;
-  named = order.named;
   four = order.four;
-  heads = λ k s n h at is.
-      (let old = brings.heads h (k, s, n, at, is) in
-      elim (order.heads old.0 old.1 old.2 h old.3 old.4) [
-        | inl low ↦ inl (omega (arith, low, brings.greatest))
-        | inr early ↦ inr early
-      ]);
-  ends = brings.ends order.ends;
-  volumes = λ id name volume is. order.volumes id name volume (ap (λ (c : ℕ → List ℕ → Result VolumeFields Refusal). c id name) (sym same) ∙ is);
+  made = order.made;
+  fit = record {
+    fair = λ fewer its.
+        subst (λ (c : ℕ → List ℕ → Result VolumeFields Refusal). Fair cell (dumped_by c fewer) time) (sym same)
+        (fair_to_any cell time a records fewer are (λ d there. brings.dumps d (its.sound d there)) (order.fit.fair records are));
+    named = order.fit.named;
+    heads = λ k s n h at is.
+        (let old = brings.heads h (k, s, n, at, is) in
+        elim (order.fit.heads old.0 old.1 old.2 h old.3 old.4) [
+          | inl low ↦ inl (omega (arith, low, brings.greatest))
+          | inr early ↦ inr early
+        ]);
+    ends = brings.ends order.fit.ends;
+    volumes = λ id name volume is. order.fit.volumes id name volume (ap (λ (c : ℕ → List ℕ → Result VolumeFields Refusal). c id name) (sym same) ∙ is);
+  };
 }
 
 -- ---- a cell that is kept in order
@@ -107,21 +111,23 @@ DumpedBy a dumped = (records : List DumpRecordFields) × AreDumps (listed_of a) 
 pub good_cell : (cell : List Stored) (time : ℕ) (a : Archive) → IsInOrder cell time a → CellIsGood (DumpedBy a) time cell
 good_cell cell time a order = record {
   form = order.form;
-  fair = λ dumped (records, are, is). subst (λ (d : List Dumped). Fair cell d time) (sym is) (order.fair records are);
+  fair = λ dumped (records, are, is). subst (λ (d : List Dumped). Fair cell d time) (sym is) (order.fit.fair records are);
   made = order.made;
-  named = order.named;
+  named = order.fit.named;
 }
 
 pub order_of : (cell new : List Stored) (time : ℕ) (a : Archive) → IsInOrder cell time a → CellIsGood (DumpedBy a) time new → IsInOrder new time a
 order_of cell new time a order good = record {
   form = good.form;
-  fair = λ records are. good.fair (dumped_by a.contents records) (records, are, refl);
-  made = good.made;
-  named = good.named;
   four = order.four;
-  heads = order.heads;
-  ends = order.ends;
-  volumes = order.volumes;
+  made = good.made;
+  fit = record {
+    fair = λ records are. good.fair (dumped_by a.contents records) (records, are, refl);
+    named = good.named;
+    heads = order.fit.heads;
+    ends = order.fit.ends;
+    volumes = order.fit.volumes;
+  };
 }
 
 module _ (Each : List Dumped → Type 0) (now : ℕ) (four : IsFour now) (cell : List Stored) (good : CellIsGood Each now cell) where

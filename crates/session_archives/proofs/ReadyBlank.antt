@@ -23,7 +23,7 @@ use Rattle.archive_model.specs.Archives.{listed_of, IsDump}
 use Rattle.archive_model.specs.Sources.{firsts, dumped_of, dumped_by}
 use Rattle.archive_model.proofs.FairLaws.{of_flat}
 use Rattle.archive_model.proofs.HeldLaws.{blank_holds}
-use Rattle.dump_forms.specs.Forms.{IsVolumeForm}
+use Rattle.cell_core.specs.Forms.{IsVolumeForm}
 use Rattle.backup_session.specs.Worlds.{World, archive_of}
 use Rattle.session_archives.specs.Ready.{IsReady}
 use Rattle.session_archives.proofs.Slots.{slot_told}
@@ -53,15 +53,17 @@ module _ (w : World) (empty : w.log ≡ []) (nothing : IsNothing (seen_in w.stat
   blank_ready form fair made named four volumes name ports = record {
     order = record {
       form = form;
-      fair = λ records are.
-          fair_fewer w.cell [] (dumped_by w.contents records) w.time fair
-          (λ x there. (let d = of_flat (λ (e : DumpRecordFields). map (dumped_of w.contents e) (firsts e.volumes)) records x there in absurd (no_dump d.0 (are.sound d.0 d.1))));
-      made = made;
-      named = named;
       four = four;
-      heads = λ k s n h at is. absurd (no_head_there n h s.items (bare k s at) is);
-      ends = λ d p k s there. absurd (nothing_in d (subst (λ (l : List DumpRecordFields). Contains l d) none_listed there));
-      volumes = volumes;
+      made = made;
+      fit = record {
+        fair = λ records are.
+            fair_fewer w.cell [] (dumped_by w.contents records) w.time fair
+            (λ x there. (let d = of_flat (λ (e : DumpRecordFields). map (dumped_of w.contents e) (firsts e.volumes)) records x there in absurd (no_dump d.0 (are.sound d.0 d.1))));
+        named = named;
+        heads = λ k s n h at is. absurd (no_head_there n h s.items (bare k s at) is);
+        ends = λ d p k s there. absurd (nothing_in d (subst (λ (l : List DumpRecordFields). Contains l d) none_listed there));
+        volumes = volumes;
+      };
     };
     name = name;
     ports = ports;

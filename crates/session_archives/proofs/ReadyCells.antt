@@ -84,20 +84,20 @@ module _ (tests : (text : List ℕ) → IsTrue (name_test text) ↔ IsName text)
       subst (λ (n : ℕ). CellIsGood (DumpedBy (archive_of w)) n (last_cell w.cell (all_answer (archive_of w) w.cell manner choices).cells)) is
       (let here : P w.cell = subst (λ (n : ℕ). CellIsGood (DumpedBy (archive_of w)) n w.cell) (sym is) good_here in
       last_good P w.cell (all_answer (archive_of w) w.cell manner choices).cells here
-      (all_good tests (archive_of w) order.volumes (DumpedBy (archive_of w)) manner (subst IsFour (sym is) order.four) w.cell choices here (set_well (after w.log).listed manner.extension forms entries (each_apart manner.extension choices all))))
+      (all_good tests (archive_of w) order.fit.volumes (DumpedBy (archive_of w)) manner (subst IsFour (sym is) order.four) w.cell choices here (set_well (after w.log).listed manner.extension forms entries (each_apart manner.extension choices all))))
 
   pub restored_in_order : (command : Command) → HasForms command → RestoresApart w command → GoodHere (last_cell w.cell (restore_answer (archive_of w) (after w.log).sets w.cell w.time command).cells)
   restored_in_order (Volrestore server partition volume extension date n) form apart =
       let manner = manner_at w.time extension n in
       last_good GoodHere w.cell _ good_here
-      (volume_good tests (archive_of w) order.volumes (DumpedBy (archive_of w)) manner order.four w.cell (record { name = volume; before = date; server = server; partition = partition }) good_here
+      (volume_good tests (archive_of w) order.fit.volumes (DumpedBy (archive_of w)) manner order.four w.cell (record { name = volume; before = date; server = server; partition = partition }) good_here
       (record { server = form.0; partition = form.1; target = All-head IsApart (target_text volume extension) [] apart }))
   restored_in_order (Diskrestore server partition newserver newpartition extension n) form apart =
       let manner = manner_at w.time extension n in
       let disk : Disk = record { server = server; partition = partition; new_server = newserver; new_partition = newpartition } in
       let choices = disk_choices (after w.log).listed disk in
       last_good GoodHere w.cell _ good_here
-      (all_good tests (archive_of w) order.volumes (DumpedBy (archive_of w)) manner order.four w.cell choices good_here
+      (all_good tests (archive_of w) order.fit.volumes (DumpedBy (archive_of w)) manner order.four w.cell choices good_here
       (disk_well (after w.log).listed extension disk form.0 form.1 form.2 form.3 (each_apart extension choices apart)))
   restored_in_order (Volsetrestore name extension n) form apart = entries_good (manner_at w.time extension n) refl name (entries_of name (after w.log).sets) apart
   restored_in_order command form apart = good_here

@@ -18,7 +18,7 @@ use Rattle.cell_core.specs.declared.fault.CellFault.{CellFault}
 use Rattle.cell_core.specs.declared.stored.Stored.{Stored}
 use Rattle.cell_core.specs.Fairness.{Dumped}
 use Rattle.command_forms.specs.NewNames.{IsApart}
-use Rattle.dump_forms.specs.Forms.{IsVolumeForm}
+use Rattle.cell_core.specs.Forms.{IsVolumeForm}
 use Rattle.tape_scan.proofs.ListLaws.{of_filter}
 use Rattle.archive_model.specs.Archives.{Archive, Refusal, Need, listed_of, looked_up_by, unless_missing}
 use Rattle.archive_model.proofs.FairLaws.{of_flat}

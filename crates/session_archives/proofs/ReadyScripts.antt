@@ -1,11 +1,13 @@
 -- A script keeps the archive, line by line, and leaves a ready world ready.
-use Rattle.std.proofs.Common.{◌≡◌, ℕ, ◌-◌, Bool, true, false, List, [], ◌∷◌, length, refl, ap}
+use Rattle.std.proofs.Common.{◌≡◌, ℕ, ◌-◌, ◌≤◌, arith, Bool, true, false, List, [], ◌∷◌, length, refl, ap}
 use Rattle.std.specs.Prelude.{◌&&◌, nat_lt, if◌then◌else◌, Result, Ok, Err}
 use Rattle.std.specs.List.{list_any}
 use Rattle.backup_words.specs.declared.command.Command.{Command}
 use Rattle.backup_words.specs.declared.faults.WordFault.{WordFault}
 use Rattle.backup_words.specs.Commands.{command_of}
-use Rattle.backup_session.specs.Worlds.{World, Contents, with_told}
+use Rattle.byte_formats.specs.Forms.{IsFour}
+use Rattle.media_core.specs.Later.{later}
+use Rattle.backup_session.specs.Worlds.{World, Contents, archive_of, with_told}
 use Rattle.backup_session.proofs.Carrying.{full_true, room_false}
 use Rattle.backup_script.specs.declared.item.Item.{Item}
 use Rattle.backup_script.specs.declared.item.Item.TheVariants.{Silent, Quit, Runs, Refused}
@@ -19,7 +21,8 @@ use Rattle.script_journals.specs.Dumping.{line_asks_dump}
 use Rattle.script_journals.proofs.Scripts.{ItemForms, item_forms}
 use Rattle.script_journals.proofs.DumpingScripts.{first_or, second_or}
 use Rattle.session_archives.specs.Held.{HoldsWorld, contents_on}
-use Rattle.session_archives.specs.Ready.{IsReady, RestoresApartOn, RestoresApartThroughout, IsReadyFor}
+use Rattle.session_archives.specs.Ready.{IsReady, RestoresApartOn, RestoresApartThroughout, left_behind, time_by, time_at_first, at_first, IsReadyFor}
+use Rattle.session_archives.proofs.Orders.{moment_four, order_later}
 use Rattle.session_archives.proofs.Leading.{Leads, leads_nowhere, leads_then}
 use Rattle.session_archives.proofs.TurnLeads.{Lower, finds_of}
 use Rattle.session_archives.proofs.Scripts.{ReadyForItem, line_leads, line_holds, line_finds}
@@ -71,30 +74,83 @@ further w s rest later false first second = first
 
 -- ---- lines
 
-told_ready : (w : World) (text : List ℕ) → IsReady w → IsReady (with_told w text)
-told_ready w text ready = record { order = ready.order; name = ready.name; ports = ready.ports }
+told_ready : (w : World) (text : List ℕ) (time : ℕ) → IsReady (record w { time = time }) → IsReady (record (with_told w text) { time = time })
+told_ready w text time ready = record { order = ready.order; name = ready.name; ports = ready.ports }
+
+ready_now : (w : World) → IsReady (record w { time = w.time }) → IsReady w
+ready_now w ready = record { order = ready.order; name = ready.name; ports = ready.ports }
+
+-- the time at the first command is no earlier, and has four bytes
+pub time_later : (time : ℕ) (ms : List ℕ) (lines : List (List ℕ)) → time ≤ time_at_first time ms lines
+unfolding time_at_first
+time_later time ms [] = omega arith
+time_later time ms (line ∷ lines) = by (item_of line) (time_later time (left_behind ms (item_of line)) lines)
+  where
+    by : (item : Item) → time ≤ time_at_first time (left_behind ms (item_of line)) lines → time ≤ time_by time ms item (time_at_first time (left_behind ms (item_of line)) lines)
+    by Silent further = further
+    by Quit further = omega arith
+    by (Refused text) further = further
+    by (Runs command) further = omega arith
+
+pub time_four : (time : ℕ) (ms : List ℕ) (lines : List (List ℕ)) → IsFour time → IsFour (time_at_first time ms lines)
+unfolding time_at_first
+time_four time ms [] four = four
+time_four time ms (line ∷ lines) four = by (item_of line) (time_four time (left_behind ms (item_of line)) lines four)
+  where
+    by : (item : Item) → IsFour (time_at_first time (left_behind ms (item_of line)) lines) → IsFour (time_by time ms item (time_at_first time (left_behind ms (item_of line)) lines))
+    by Silent further = further
+    by Quit further = four
+    by (Refused text) further = further
+    by (Runs command) further = moment_four time (first_of ms) four
+
+-- so a world that is ready is ready at the first command
+pub ready_at_first : (w : World) (ms : List ℕ) (lines : List (List ℕ)) → IsReady w → IsReady (at_first w ms lines)
+ready_at_first w ms lines ready = record {
+  order = order_later w.cell w.time (time_at_first w.time ms lines) (archive_of w) ready.order (time_later w.time ms lines) (time_four w.time ms lines ready.order.four);
+  name = ready.name;
+  ports = ready.ports;
+}
 
 module _ (laws : Lower) where
-  line_ready : (w : World) (ms : List ℕ) → HoldsWorld w → IsReady w → (item : Item) → ItemForms item → ItemApart item → RestoresApartOn w item → IsReady (one_line w ms item).world
-  line_ready w ms held ready Silent forms named apart = ready
-  line_ready w ms held ready Quit forms named apart = ready
-  line_ready w ms held ready (Refused text) forms named apart = told_ready w text ready
-  line_ready w ms held ready (Runs command) forms named apart = turn_ready laws w (first_of ms) held ready command forms named apart
+  -- what stands behind a line is ready at the first command of those after it
+  line_ready : (w : World) (ms : List ℕ) (lines : List (List ℕ)) → HoldsWorld w → (item : Item) → IsReady (record w { time = time_by w.time ms item (time_at_first w.time (left_behind ms item) lines) }) → ItemForms item → ItemApart item → RestoresApartOn w item
+      → let s = one_line w ms item in s.goes ≡ true → IsReady (at_first s.world s.moments lines)
+  line_ready w ms lines held Silent ready forms named apart goes = ready
+  line_ready w ms lines held Quit ready forms named apart goes = absurd cc
+  line_ready w ms lines held (Refused text) ready forms named apart goes = told_ready w text (time_at_first w.time (later ms) lines) ready
+  line_ready w ms lines held (Runs command) ready forms named apart goes =
+      let s = one_line w ms (Runs command) in
+      ready_at_first s.world s.moments lines (turn_ready laws w (first_of ms) held ready command forms named apart)
+
+  -- and ready where the script ends there
+  line_ends : (w : World) (ms : List ℕ) (further : ℕ) → HoldsWorld w → (item : Item) → IsReady (record w { time = time_by w.time ms item further }) → ItemForms item → ItemApart item → RestoresApartOn w item → let s = one_line w ms item in s.goes ≡ false → IsReady s.world
+  line_ends w ms further held Silent ready forms named apart ends = absurd cc
+  line_ends w ms further held Quit ready forms named apart ends = ready_now w ready
+  line_ends w ms further held (Refused text) ready forms named apart ends = absurd cc
+  line_ends w ms further held (Runs command) ready forms named apart ends = absurd cc
+
+  -- a line that dumps finds a world that is ready at its moment
+  line_finds_ready : (w : World) (ms : List ℕ) (further : ℕ) (item : Item) → IsReady (record w { time = time_by w.time ms item further }) → ReadyForItem w ms item
+  line_finds_ready w ms further Silent ready asks = absurd cc
+  line_finds_ready w ms further Quit ready asks = absurd cc
+  line_finds_ready w ms further (Refused text) ready asks = absurd cc
+  line_finds_ready w ms further (Runs command) ready asks = ready
 
   -- ---- what is asked of the world on the way
 
   module _ (w : World) (ms : List ℕ) (line : List ℕ) (lines : List (List ℕ)) (ready : IsReadyFor w ms (line ∷ lines)) where
     -- in front of the first line
-    ready_first : ReadyForItem w (item_of line)
-    ready_first asks = (ready (first_or (line_asks_dump line) (list_any line_asks_dump lines) asks)).0
+    ready_first : ReadyForItem w ms (item_of line)
+    unfolding time_at_first
+    ready_first asks = line_finds_ready w ms (time_at_first w.time (left_behind ms (item_of line)) lines) (item_of line) (ready (first_or (line_asks_dump line) (list_any line_asks_dump lines) asks)).0 asks
 
     -- and behind it
     ready_further : HoldsWorld w → let s = one_line w ms (item_of line) in s.goes ≡ true → IsReadyFor s.world s.moments lines
-    unfolding RestoresApartThroughout
+    unfolding RestoresApartThroughout time_at_first
     ready_further held goes asks =
         let s = one_line w ms (item_of line) in
         let both = ready (second_or (line_asks_dump line) (list_any line_asks_dump lines) asks) in
-        (line_ready w ms held both.0 (item_of line) (item_forms line) (item_apart line) both.1.0, if_it_goes s.goes (RestoresApartThroughout s.world s.moments lines) both.1.1 goes)
+        (line_ready w ms lines held (item_of line) both.0 (item_forms line) (item_apart line) both.1.0 goes, if_it_goes s.goes (RestoresApartThroughout s.world s.moments lines) both.1.1 goes)
 
   -- ---- scripts
 
@@ -129,15 +185,17 @@ module _ (laws : Lower) where
             (λ goes. script_finds s.world s.moments lines (line_holds laws w ms held (item_of line) (item_forms line) (ready_first w ms line lines ready)) (ready_further w ms line lines ready held goes)),
       )
 
-  further_ready : (s rest : Outcome) (b : Bool) → IsReady s.world → (b ≡ true → IsReady rest.world) → IsReady (if b then then_outcome s rest else s).world
+  further_ready : (s rest : Outcome) (b : Bool) → (b ≡ false → IsReady s.world) → (b ≡ true → IsReady rest.world) → IsReady (if b then then_outcome s rest else s).world
   further_ready s rest true first second = second refl
-  further_ready s rest false first second = first
+  further_ready s rest false first second = first refl
 
-  pub script_ready : (w : World) (ms : List ℕ) (lines : List (List ℕ)) → RestoresApartThroughout w ms lines → HoldsWorld w → IsReady w → IsReady (script w ms lines).world
-  unfolding script RestoresApartThroughout
-  script_ready w ms [] apart held ready = ready
+  pub script_ready : (w : World) (ms : List ℕ) (lines : List (List ℕ)) → RestoresApartThroughout w ms lines → HoldsWorld w → IsReady (at_first w ms lines) → IsReady (script w ms lines).world
+  unfolding script RestoresApartThroughout time_at_first
+  script_ready w ms [] apart held ready = ready_now w ready
   script_ready w ms (line ∷ lines) apart held ready =
       let s = one_line w ms (item_of line) in
-      let first = line_ready w ms held ready (item_of line) (item_forms line) (item_apart line) apart.0 in
-      further_ready s (script s.world s.moments lines) s.goes first
-      (λ goes. script_ready s.world s.moments lines (if_it_goes s.goes (RestoresApartThroughout s.world s.moments lines) apart.1 goes) (line_holds laws w ms held (item_of line) (item_forms line) (λ asks. ready)) first)
+      let later_on = time_at_first w.time (left_behind ms (item_of line)) lines in
+      further_ready s (script s.world s.moments lines) s.goes
+      (λ ends. line_ends w ms later_on held (item_of line) ready (item_forms line) (item_apart line) apart.0 ends)
+      (λ goes. script_ready s.world s.moments lines (if_it_goes s.goes (RestoresApartThroughout s.world s.moments lines) apart.1 goes) (line_holds laws w ms held (item_of line) (item_forms line) (line_finds_ready w ms later_on (item_of line) ready))
+      (line_ready w ms lines held (item_of line) ready (item_forms line) (item_apart line) apart.0 goes))

@@ -29,7 +29,7 @@ use Rattle.session_archives.proofs.ReadyTapes.{KeepsOrder, said_orders, either_o
 use Rattle.session_archives.proofs.ReadyScans.{scan_orders}
 use Rattle.session_archives.proofs.ReadyCells.{command_good, restored_in_order}
 use Rattle.session_archives.proofs.DumpTurns.{dump_order}
-use Rattle.session_archives.proofs.TurnLeads.{Lower, finds_of, has_later, finds_later, ready_later}
+use Rattle.session_archives.proofs.TurnLeads.{Lower, finds_of, has_later, finds_later}
 
 -- behind a turn, before its reply is told, the cell is in order
 abbrev pub LeavesOrder : World → Turn → Type 0
@@ -82,10 +82,10 @@ module _ (laws : Lower) (w : World) (has : HasTapes w) (finds : Finds w) (ready 
 
 -- ---- at a moment of the clock
 
-module _ (laws : Lower) (w : World) (now : ℕ) (held : HoldsWorld w) (ready : IsReady w) where
+module _ (laws : Lower) (w : World) (now : ℕ) (held : HoldsWorld w) (ready : IsReady (at_moment w now)) where
   turn_leaves : (command : Command) → HasForms command → NamesApart command → RestoresApart w command → LeavesOrder w (turn w now command)
   unfolding turn
-  turn_leaves command form named apart = done_leaves laws (at_moment w now) (has_later w now held.tapes) (finds_later w now (finds_of w held)) (ready_later w now ready) command form named apart
+  turn_leaves command form named apart = done_leaves laws (at_moment w now) (has_later w now held.tapes) (finds_later w now (finds_of w held)) ready command form named apart
 
   pub turn_ready : (command : Command) → HasForms command → NamesApart command → RestoresApart w command → IsReady (after_turn w (turn w now command))
   turn_ready command form named apart = record { order = turn_leaves command form named apart; name = ready.name; ports = ready.ports }

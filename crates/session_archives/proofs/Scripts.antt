@@ -20,25 +20,25 @@ use Rattle.session_archives.proofs.TurnLeads.{Lower, finds_of, world_of, finds_l
 
 -- ---- lines
 
--- a line that dumps finds a world that is ready
-abbrev pub ReadyForItem : World → Item → Type 0
-ReadyForItem w item = item_asks_dump item ≡ true → IsReady w
+-- a line that dumps finds a world that is ready at its moment
+abbrev pub ReadyForItem : World → List ℕ → Item → Type 0
+ReadyForItem w ms item = item_asks_dump item ≡ true → IsReady (at_moment w (first_of ms))
 
 module _ (laws : Lower) (w : World) (ms : List ℕ) (held : HoldsWorld w) where
-  pub line_leads : (item : Item) → ItemForms item → ReadyForItem w item → Leads w (λ count. (one_line w ms item).world.contents) (one_line w ms item).effects (one_line w ms item).world
+  pub line_leads : (item : Item) → ItemForms item → ReadyForItem w ms item → Leads w (λ count. (one_line w ms item).world.contents) (one_line w ms item).effects (one_line w ms item).world
   line_leads Silent forms ready = leads_nowhere w (finds_of w held)
   line_leads Quit forms ready = leads_nowhere w (finds_of w held)
   line_leads (Refused text) forms ready = leads_told w text (finds_of w held)
   line_leads (Runs command) forms ready = leads_replied w (turn w (first_of ms) command) (turn_leads laws w (first_of ms) held command forms ready)
 
-  line_tapes : (item : Item) → ItemForms item → ReadyForItem w item → HasTapes (one_line w ms item).world
+  line_tapes : (item : Item) → ItemForms item → ReadyForItem w ms item → HasTapes (one_line w ms item).world
   line_tapes Silent forms ready = held.tapes
   line_tapes Quit forms ready = held.tapes
   line_tapes (Refused text) forms ready = told_has_tapes w text held.tapes
   line_tapes (Runs command) forms ready = turn_tapes laws w (first_of ms) held command forms ready
 
   -- so the world behind it is held
-  pub line_holds : (item : Item) → ItemForms item → ReadyForItem w item → HoldsWorld (one_line w ms item).world
+  pub line_holds : (item : Item) → ItemForms item → ReadyForItem w ms item → HoldsWorld (one_line w ms item).world
   line_holds item forms ready = world_of (one_line w ms item).world (line_tapes item forms ready) (line_leads item forms ready).finds
 
 -- ---- what a line finds

@@ -68,13 +68,13 @@ module _ (laws : Lower) where
       (picked w (asks_dump command) (dump_turn w command) (on_plant w command) (dump_leads laws.dumps w has finds command form ready)
       (leads_turn w (on_plant w command) finds (plant_keeps laws.reads laws.assembles laws.same w has finds command form))))
 
-  pub turn_leads : (w : World) (now : ℕ) → HoldsWorld w → (command : Command) → HasForms command → IsReadyForCommand w command → LeadsTurn w (turn w now command)
+  pub turn_leads : (w : World) (now : ℕ) → HoldsWorld w → (command : Command) → HasForms command → IsReadyForCommand (at_moment w now) command → LeadsTurn w (turn w now command)
   unfolding turn
   turn_leads w now held command form ready =
       leads_later w now (done (at_moment w now) command)
-      (done_leads (at_moment w now) (has_later w now held.tapes) (finds_later w now (finds_of w held)) command form (λ asks. ready_later w now (ready asks)))
+      (done_leads (at_moment w now) (has_later w now held.tapes) (finds_later w now (finds_of w held)) command form ready)
 
-  pub turn_tapes : (w : World) (now : ℕ) → HoldsWorld w → (command : Command) → HasForms command → IsReadyForCommand w command → HasTapes (after_turn w (turn w now command))
+  pub turn_tapes : (w : World) (now : ℕ) → HoldsWorld w → (command : Command) → HasForms command → IsReadyForCommand (at_moment w now) command → HasTapes (after_turn w (turn w now command))
   turn_tapes w now held command form ready =
       turn_has_tapes w now command held.tapes
-      (dump_short laws.dumps (at_moment w now) (has_later w now held.tapes) (finds_later w now (finds_of w held)) command form (λ asks. ready_later w now (ready asks)))
+      (dump_short laws.dumps (at_moment w now) (has_later w now held.tapes) (finds_later w now (finds_of w held)) command form ready)

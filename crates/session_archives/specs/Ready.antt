@@ -1,9 +1,9 @@
 -- WHAT DUMPS ASK OF A WORLD beside the archive that its plant holds.
-use Rattle.std.specs.Prelude.{◌≡◌, ℕ, ◌≤◌, true, List, [], ◌∷◌, map, Option, Some, None, Ok, All}
+use Rattle.std.specs.Prelude.{◌≡◌, ℕ, ◌≤◌, true, List, [], ◌∷◌, map, min, max, Option, Some, None, All}
 use Rattle.std.specs.List.{list_any}
+use Rattle.media_core.specs.Later.{later}
 use Rattle.bk_text.specs.Alphabets.{IsHost}
 use Rattle.byte_formats.specs.Forms.{IsFour, IsMaybe}
-use Rattle.vnode_model.specs.declared.volumes.VolumeFields.{VolumeFields}
 use Rattle.cell_core.specs.declared.stored.Stored.{Stored}
 use Rattle.cell_core.specs.Fairness.{Fair, NoneIsMadeAfter, NoSourceHasBackupName}
 use Rattle.cell_forms.specs.Forms.{IsCellForm}
@@ -13,7 +13,7 @@ use Rattle.budb_changes.specs.declared.records.DumpRecordFields.{DumpRecordField
 use Rattle.budb_fold.specs.Database.{after}
 use Rattle.archive_model.specs.Archives.{Archive, listed_of, AreDumps}
 use Rattle.archive_model.specs.Sources.{dumped_by}
-use Rattle.dump_forms.specs.Forms.{IsVolumeForm}
+use Rattle.dump_commands.specs.Forms.{AreVolumes}
 use Rattle.dump_laws.specs.Beginning.{HeadsAreBelow, EndOnLastTapes}
 use Rattle.volume_sets.specs.declared.sets.SetEntry.{SetEntry}
 use Rattle.volume_sets.specs.Sets.{entries_of}
@@ -28,22 +28,30 @@ use Rattle.backup_session.specs.Worlds.{World, archive_of}
 use Rattle.backup_script.specs.declared.item.Item.{Item}
 use Rattle.backup_script.specs.declared.item.Item.TheVariants.{Silent, Quit, Runs, Refused}
 use Rattle.backup_script.specs.Items.{item_of}
-use Rattle.backup_script.specs.Scripts.{one_line}
+use Rattle.backup_script.specs.Scripts.{first_of, one_line}
 use Rattle.backup_script.specs.Held.{IfItGoes}
 use Rattle.script_journals.specs.Dumping.{line_asks_dump}
 
--- A cell is in order at a time, beside an archive: its list has its form; it is fair to what the archive's dumps have, no volume is made
--- later, and no read/write volume has the name of a backup volume; the time has four bytes; no id on a tape is above both the time and the
--- greatest id that was begun or recorded; listed dumps end on their last tapes; and what dumps have of volumes are volumes of the types.
-pub record IsInOrder (cell : List Stored) (time : ℕ) (a : Archive) : Type 0 where
-  pub form : IsCellForm cell
+-- A cell is fit for dumps at a time, beside an archive: it is fair to what the archive's dumps have, and no read/write volume has the name of
+-- a backup volume; no id on a tape is above both the greatest id that was begun or recorded and the time; listed dumps end on their last
+-- tapes; and what dumps have of volumes are volumes of the types.
+pub record IsFit (cell : List Stored) (time : ℕ) (a : Archive) : Type 0 where
   pub fair : (records : List DumpRecordFields) → AreDumps (listed_of a) a.slots records → Fair cell (dumped_by a.contents records) time
-  pub made : NoneIsMadeAfter time cell
   pub named : NoSourceHasBackupName cell
-  pub four : IsFour time
   pub heads : HeadsAreBelow a.slots time (after a.log).greatest
   pub ends : EndOnLastTapes (listed_of a) a.slots
-  pub volumes : (id : ℕ) (name : List ℕ) (volume : VolumeFields) → a.contents id name ≡ Ok volume → IsVolumeForm volume
+  pub volumes : AreVolumes a.contents
+
+-- It is in order where moreover its list has its form, the time has four bytes, and no volume is made later.
+pub record IsInOrder (cell : List Stored) (time : ℕ) (a : Archive) : Type 0 where
+  pub form : IsCellForm cell
+  pub four : IsFour time
+  pub made : NoneIsMadeAfter time cell
+  pub fit : IsFit cell time a
+
+-- a world whose cell is fit for dumps beside its archive
+abbrev pub IsFitWorld : World → Type 0
+IsFitWorld w = IsFit w.cell w.time (archive_of w)
 
 -- A world is ready for dumps: its cell is in order beside its archive, the cell's name is one of a host or left out, and tapes of a port take
 -- at most 4,000,000,000 bytes.
@@ -93,7 +101,39 @@ RestoresApartThroughout w ms (line ∷ lines) =
 abbrev pub IsReadyForCommand : World → Command → Type 0
 IsReadyForCommand w command = asks_dump command ≡ true → IsReady w
 
--- Of a script one of whose lines dumps: the world is ready, and no line that is run restores a volume under a name that ends in `.backup`. Of
--- a script without dumps nothing is asked.
+-- the moments that are left behind a line
+abbrev pub left_behind : List ℕ → Item → List ℕ
+left_behind ms Silent = ms
+left_behind ms Quit = ms
+left_behind ms (Refused text) = later ms
+left_behind ms (Runs command) = later ms
+
+-- the time at a line where it is a command, or the end; else that of those after it
+abbrev pub time_by : ℕ → List ℕ → Item → ℕ → ℕ
+time_by time ms Silent further = further
+time_by time ms Quit further = time
+time_by time ms (Refused text) further = further
+time_by time ms (Runs command) further = max time (min (first_of ms) 4294967295)
+
+-- The session's time at the first command of a script: the greatest of its time before and of that command's moment. A line that is refused for
+-- its words uses a moment, and leaves the time.
+unfoldable pub time_at_first : ℕ → List ℕ → List (List ℕ) → ℕ
+time_at_first time ms [] = time
+time_at_first time ms (line ∷ lines) = time_by time ms (item_of line) (time_at_first time (left_behind ms (item_of line)) lines)
+
+-- a world at the first command of a script
+abbrev pub at_first : World → List ℕ → List (List ℕ) → World
+at_first w ms lines = record w { time = time_at_first w.time ms lines }
+
+-- Of a script one of whose lines dumps: at its first command the world is ready, and no line that is run restores a volume under a name that
+-- ends in `.backup`. Of a script without dumps nothing is asked.
 abbrev pub IsReadyFor : World → List ℕ → List (List ℕ) → Type 0
-IsReadyFor w ms lines = list_any line_asks_dump lines ≡ true → IsReady w × RestoresApartThroughout w ms lines
+IsReadyFor w ms lines = list_any line_asks_dump lines ≡ true → IsReady (at_first w ms lines) × RestoresApartThroughout w ms lines
+
+-- The same of a world that is fit: what such a script asks beside the forms of the world, which no script asks for.
+abbrev pub IsFitFor : World → List ℕ → List (List ℕ) → Type 0
+IsFitFor w ms lines = list_any line_asks_dump lines ≡ true → IsFitWorld (at_first w ms lines) × RestoresApartThroughout w ms lines
+
+-- Where one of the lines dumps, what dumps have of volumes are volumes of the types.
+abbrev pub AreVolumesFor : World → List (List ℕ) → Type 0
+AreVolumesFor w lines = list_any line_asks_dump lines ≡ true → AreVolumes w.contents

@@ -6,18 +6,20 @@ ghost use Rattle.byte_formats.specs.Forms.{IsFour, IsMaybe};
 ghost use Rattle.vnode_model.specs.declared.volumes.VolumeFields.{VolumeFields};
 ghost use Rattle.cell_core.specs.Fairness.{Fair, NoneIsMadeAfter, NoSourceHasBackupName};
 ghost use Rattle.cell_forms.specs.Forms.{IsCellForm};
-ghost use Rattle.dump_forms.specs.Forms.{IsVolumeForm};
+ghost use Rattle.cell_core.specs.Forms.{IsVolumeForm};
 ghost use Rattle.tape_config.specs.declared.port.PortFields.{PortFields};
-ghost use Rattle.tape_config.specs.Configs.{port_in, name_or_nothing};
+ghost use Rattle.tape_config.specs.Configs.{config_of, port_in, name_or_nothing};
 ghost use Rattle.plant_core.specs.Crashes.{seen_in, IsSettled, LeftIn};
 ghost use Rattle.plant_core.specs.Effects.{Effect, tells, come, Joint};
 ghost use Rattle.plant_core.specs.Stock.{Stock, IsNothing};
 ghost use Rattle.budb_changes.specs.declared.records.DumpRecordFields.{DumpRecordFields};
+ghost use Rattle.budb_changes.specs.Forms.{AreChanges};
 ghost use Rattle.archive_model.specs.Archives.{Holds};
 ghost use Rattle.backup_words.specs.declared.command.Command.{Command};
-ghost use Rattle.backup_session.specs.Worlds.{World, Contents, archive_of, after_turn};
+ghost use Rattle.backup_session.specs.Worlds.{World, Contents, archive_of, after_turn, at_moment};
 ghost use Rattle.backup_session.specs.Bounded.{HasTapes};
 ghost use Rattle.backup_session.specs.Machine.{turn};
+ghost use Rattle.backup_session.specs.Opening.{first_time};
 ghost use Rattle.backup_script.specs.Scripts.{script};
 ghost use Rattle.backup_script.specs.Held.{IsHeldThroughout};
 ghost use Rattle.command_forms.specs.Forms.{HasForms};
@@ -25,7 +27,7 @@ ghost use Rattle.command_forms.specs.NewNames.{NamesApart};
 ghost use Rattle.script_journals.specs.Worlds.{IsWorldForm};
 ghost use Rattle.script_journals.specs.Dumping.{IsFormedFor};
 ghost use Rattle.session_archives.specs.Held.{HoldsWorld, HoldsAfter, HoldsOnTheWay, contents_on, EachKeepsListed, HoldsImage};
-ghost use Rattle.session_archives.specs.Ready.{IsReady, RestoresApart, RestoresApartThroughout, IsReadyForCommand, IsReadyFor};
+ghost use Rattle.session_archives.specs.Ready.{IsFitWorld, IsReady, at_first, RestoresApart, RestoresApartThroughout, IsReadyForCommand, IsReadyFor, AreVolumesFor};
 
 use bk_text::form_tests;
 use budb_fold::checkpoint_makes_the_same_database;
@@ -34,15 +36,16 @@ use dump_commands::{what_a_dump_commits_has_bytes, what_a_dump_leaves_has_forms}
 use tape_answers::{
     a_block_is_read, a_tape_is_read, the_slots_are_scanned, the_tapes_are_assembled,
 };
+use tape_config::a_configuration_has_its_forms;
 use tape_frames::one_frame;
 
 /// A command whose fields have their forms keeps the archive that the plant holds: behind it, with its reply told, and behind each of its
 /// effects on the way, already with what the dumps have behind it. None of them takes a tape from a dump that is listed behind it. A dump finds
-/// a world that is ready; of other commands nothing is asked.
+/// a world that is ready at its moment; of other commands nothing is asked.
 pub fn commands_keep_the_archive()
-    ensures behind { (w : World) (now : ℕ) (command : Command) → HasForms command → HoldsWorld w → IsReadyForCommand w command → HoldsWorld (after_turn w (turn w now command)) }
-    ensures on_the_way { (w : World) (now : ℕ) (command : Command) → HasForms command → HoldsWorld w → IsReadyForCommand w command → let t = turn w now command in HoldsOnTheWay w (λ count. t.contents) (t.effects ++ tells t.reply ∷ []) }
-    ensures listed { (w : World) (now : ℕ) (command : Command) → HasForms command → HoldsWorld w → IsReadyForCommand w command → let t = turn w now command in EachKeepsListed w (t.effects ++ tells t.reply ∷ []) }
+    ensures behind { (w : World) (now : ℕ) (command : Command) → HasForms command → HoldsWorld w → IsReadyForCommand (at_moment w now) command → HoldsWorld (after_turn w (turn w now command)) }
+    ensures on_the_way { (w : World) (now : ℕ) (command : Command) → HasForms command → HoldsWorld w → IsReadyForCommand (at_moment w now) command → let t = turn w now command in HoldsOnTheWay w (λ count. t.contents) (t.effects ++ tells t.reply ∷ []) }
+    ensures listed { (w : World) (now : ℕ) (command : Command) → HasForms command → HoldsWorld w → IsReadyForCommand (at_moment w now) command → let t = turn w now command in EachKeepsListed w (t.effects ++ tells t.reply ∷ []) }
 {
     form_tests();
     one_frame();
@@ -59,7 +62,7 @@ pub fn commands_keep_the_archive()
 
 /// A script keeps the archive that the plant holds at its start: behind all of its lines, with what the dumps have then, and behind each effect
 /// on the way, with what they have behind its line. None of them takes a tape from a dump that is listed behind it. So each of its commands that
-/// asks the archive finds it. A script with a dump finds a world that is ready, and restores no volume under a name that ends in `.backup`; of
+/// asks the archive finds it. A script with a dump finds a world that is ready at its first command, and restores no volume under a name that ends in `.backup`; of
 /// other scripts nothing is asked.
 pub fn scripts_keep_the_archive()
     ensures behind { (w : World) (moments : AnyList ℕ) (lines : AnyList (AnyList ℕ)) → HoldsWorld w → IsReadyFor w moments lines → HoldsWorld (script w moments lines).world }
@@ -107,10 +110,10 @@ pub fn blank_worlds_hold_no_dump()
     ensures { (w : World) → w.log ≡ [] → IsNothing (seen_in w.state) → IsSettled w.state → ((k : ℕ) → IsTrue (w.setting.present k) → k < w.setting.slots) → HasTapes w → HoldsWorld w }
 {}
 
-/// Each command leaves a world ready that is ready for dumps, where its fields have their forms and it makes no read/write volume whose name
-/// ends in `.backup`.
+/// Each command leaves a world ready that is ready for dumps at its moment, where its fields have their forms and it makes no read/write volume
+/// whose name ends in `.backup`.
 pub fn commands_leave_a_ready_world_ready()
-    ensures { (w : World) (now : ℕ) (command : Command) → HasForms command → NamesApart command → RestoresApart w command → HoldsWorld w → IsReady w → IsReady (after_turn w (turn w now command)) }
+    ensures { (w : World) (now : ℕ) (command : Command) → HasForms command → NamesApart command → RestoresApart w command → HoldsWorld w → IsReady (at_moment w now) → IsReady (after_turn w (turn w now command)) }
 {
     form_tests();
     one_frame();
@@ -125,9 +128,9 @@ pub fn commands_leave_a_ready_world_ready()
     what_a_dump_asks_is_so_behind_it();
 }
 
-/// So does a script, none of whose lines restores a volume under such a name.
+/// So does a script of one that is ready at its first command, none of whose lines restores a volume under such a name.
 pub fn scripts_leave_a_ready_world_ready()
-    ensures { (w : World) (moments : AnyList ℕ) (lines : AnyList (AnyList ℕ)) → RestoresApartThroughout w moments lines → HoldsWorld w → IsReady w → IsReady (script w moments lines).world }
+    ensures { (w : World) (moments : AnyList ℕ) (lines : AnyList (AnyList ℕ)) → RestoresApartThroughout w moments lines → HoldsWorld w → IsReady (at_first w moments lines) → IsReady (script w moments lines).world }
 {
     form_tests();
     one_frame();
@@ -147,6 +150,16 @@ pub fn ready_worlds_have_forms()
     ensures world { (w : World) → HoldsWorld w → IsReady w → IsWorldForm w }
     ensures lines { (w : World) (moments : AnyList ℕ) (lines : AnyList (AnyList ℕ)) → HoldsWorld w → IsReadyFor w moments lines → IsFormedFor w lines }
 {}
+
+/// A world in which a session begins has its forms, by those of its configuration, its journal and its cell, where what dumps have of volumes are
+/// volumes; and at the first command of a script it is ready where it is fit for dumps then. A world that is ready is fit.
+pub fn opened_worlds_have_their_forms()
+    ensures lines { (w : World) (bytes : AnyList ℕ) (lines : AnyList (AnyList ℕ)) → config_of bytes ≡ Ok w.setting.config → HasTapes w → AreChanges w.log → IsCellForm w.cell → w.time ≡ first_time w.log w.cell → AreVolumesFor w lines → IsFormedFor w lines }
+    ensures ready { (w : World) (bytes moments : AnyList ℕ) (lines : AnyList (AnyList ℕ)) → config_of bytes ≡ Ok w.setting.config → AreChanges w.log → IsCellForm w.cell → w.time ≡ first_time w.log w.cell → IsFitWorld (at_first w moments lines) → IsReady (at_first w moments lines) }
+    ensures fit { (w : World) → IsReady w → IsFitWorld w }
+{
+    a_configuration_has_its_forms();
+}
 
 /// Beside blank tapes under an empty journal a world is ready whose cell has its form and is in order by itself, at a time of four bytes, in a
 /// setting whose ports take no more than they may.

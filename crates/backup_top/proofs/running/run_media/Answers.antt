@@ -13,17 +13,17 @@ use Rattle.backup_script.specs.Scripts.{between, script, IsStage}
 use Rattle.backup_script.specs.Held.{IsHeldThroughout}
 use Rattle.backup_script.proofs.StageLaws.{stage_front}
 use Rattle.session_archives.specs.Held.{HoldsWorld, HoldsAfter}
-use Rattle.session_archives.specs.Ready.{IsReady, RestoresApartThroughout, IsReadyFor}
+use Rattle.session_archives.specs.Ready.{IsReady, RestoresApartThroughout, at_first, IsReadyFor}
 use Rattle.backup_top.specs.declared.status.Status.{Status}
 use Rattle.backup_top.specs.declared.status.Status.TheVariants.{MediaFault}
 use Rattle.backup_top.specs.Courses.{Course, course, outcome, at_rest, Runs, RefusesJournal, HasCauseAs}
 use Rattle.backup_top.proofs.Lowering.{opened_rests, shown_log, settled_whole, journal_damaged, still_left, nothing_since, images_left, images_later, alike_same, none_some}
 use Rattle.backup_top.proofs.TapeCounts.{has_tapes}
-use Rattle.backup_top.proofs.CourseLaws.{leaves_media, runs_of, runs_not_opened, bad_log_answer, refuses_journal, opening_bad, opening_cause, bad_journal, damaged_journal, journaled, images_of, ends_at, left_whole}
+use Rattle.backup_top.proofs.CourseLaws.{OpenedForms, has_forms, ready_for, leaves_media, runs_of, runs_not_opened, bad_log_answer, refuses_journal, opening_bad, opening_cause, bad_journal, damaged_journal, journaled, images_of, ends_at, left_whole}
 use Rattle.backup_top.proofs.running.run_media.Goals as goal
 
 pub returns-in-Ok-clause-runs : goal.returns-in-Ok-clause-runs
-returns-in-Ok-clause-runs g c = λ told tells_cell tells_clock source journal contents held.
+returns-in-Ok-clause-runs g c = λ told tells_cell tells_clock source named says journal contents held.
     let M = g.M.Media in
     let media = c.args.media in
     let plant = c.in-Ok.plant in
@@ -35,6 +35,9 @@ returns-in-Ok-clause-runs g c = λ told tells_cell tells_clock source journal co
     let log_is : shown.log ≡ encoded journal.log = shown_log (encoded journal.log) stock shown (e.stock told) journal.is in
     let rests : at_rest (encoded journal.log) stock ≡ shown = opened_rests (encoded journal.log) stock shown (e.stock told) journal.is (e.settled told) in
     let k : Course = course M.seen M.count M.present c.args.config journal.log contents media c.into_media.result (g.C.Cell.list c.args.cell.now) (g.C.Cell.list n.cell) (g.K.Clock.moments c.args.clock.now) (g.K.Clock.moments n.clock) (g.S.Source.left c.args.source.now) (g.S.Source.left n.source) in
+    let has = has_tapes k.world (M.present media) (M.seen media) (M.count media) refl refl (g.met.M.Media.here_below media) (g.met.M.Media.few_files media) in
+    let laws : OpenedForms = record { lines = c.opened_worlds_have_their_forms.ensures.lines; ready = c.opened_worlds_have_their_forms.ensures.ready; fit = c.opened_worlds_have_their_forms.ensures.fit } in
+    let forms = has_forms laws k named says has journal.form (g.met.C.Cell.is_cell c.args.cell.now tells_cell) (c.listed_is_allowed.ensures tells_cell) refl in
     let same : opened (record { config = c.args.config; slots = M.count plant.media - 1; present = slots_here (M.present plant.media) }) journal.log (g.C.Cell.list c.args.cell.now) contents shown ≡ k.world
     = λ i. opened (record { config = c.args.config; slots = e.count i - 1; present = slots_here (e.present i) }) journal.log (g.C.Cell.list c.args.cell.now) contents (sym rests i) in
     let found = subst (λ (w : World). IsHeldThroughout w k.moments (lines k.input)) (sym same) held in
@@ -44,14 +47,14 @@ returns-in-Ok-clause-runs g c = λ told tells_cell tells_clock source journal co
     (λ these ends. leaves_media k these (script first k.moments these) shown (shown_of M.seen n.plant) rests refl refl (c.into_media.ensures.stock told ends.done.sound) (ends.done.state told) ends.state ends.form ends.log ends.cell ends.moments
     c.images_hold_the_archive.ensures.behind
     (λ at_entry asked. subst (λ (w : World). HoldsAfter w (script first k.moments these).world.contents (script first k.moments these).effects) same
-    (c.scripts_keep_the_archive.ensures.whole first k.moments these (subst HoldsWorld (sym same) at_entry) (subst (λ (w : World). IsReadyFor w k.moments these) (sym same) asked)))
-    (λ at_entry asked. c.scripts_keep_the_archive.ensures.behind first k.moments these (subst HoldsWorld (sym same) at_entry) (subst (λ (w : World). IsReadyFor w k.moments these) (sym same) asked))
-    (λ at_entry ready apart. c.scripts_leave_a_ready_world_ready.ensures first k.moments these (subst (λ (w : World). RestoresApartThroughout w k.moments these) (sym same) apart) (subst HoldsWorld (sym same) at_entry) (subst IsReady (sym same) ready)))
+    (c.scripts_keep_the_archive.ensures.whole first k.moments these (subst HoldsWorld (sym same) at_entry) (subst (λ (w : World). IsReadyFor w k.moments these) (sym same) (ready_for k forms these asked))))
+    (λ at_entry asked. c.scripts_keep_the_archive.ensures.behind first k.moments these (subst HoldsWorld (sym same) at_entry) (subst (λ (w : World). IsReadyFor w k.moments these) (sym same) (ready_for k forms these asked)))
+    (λ at_entry fit apart. laws.fit (script first k.moments these).world (c.scripts_leave_a_ready_world_ready.ensures first k.moments these (subst (λ (w : World). RestoresApartThroughout w k.moments these) (sym same) apart) (subst HoldsWorld (sym same) at_entry) (subst (λ (w : World). IsReady (at_first w k.moments these)) (sym same) (forms.ready these fit)))))
     c.run_on-answer.result (r.ran told tells_cell tells_clock source (e.settled told) journal.log journal.form log_is contents found) (r.read_short told tells_cell tells_clock source (e.settled told) journal.log journal.form log_is contents found) (r.long_short told tells_cell tells_clock source (e.settled told) journal.log journal.form log_is contents found)
     (λ at bad. (r.bad_log told at bad).not_whole (journal.log, journal.form, log_is)))
 
 pub returns-in-Ok-clause-images : goal.returns-in-Ok-clause-images
-returns-in-Ok-clause-images g c = λ told tells_cell tells_clock source still journal contents held.
+returns-in-Ok-clause-images g c = λ told tells_cell tells_clock source still named says journal contents held.
     let M = g.M.Media in
     let media = c.args.media in
     let plant = c.in-Ok.plant in
@@ -64,17 +67,20 @@ returns-in-Ok-clause-images g c = λ told tells_cell tells_clock source still jo
     let log_is : shown.log ≡ bytes = shown_log bytes stock shown (e.stock told) journal.is in
     let rests : at_rest bytes stock ≡ shown = opened_rests bytes stock shown (e.stock told) journal.is (e.settled told) in
     let k : Course = course M.seen M.count M.present c.args.config journal.log contents media c.into_media.result (g.C.Cell.list c.args.cell.now) (g.C.Cell.list n.cell) (g.K.Clock.moments c.args.clock.now) (g.K.Clock.moments n.clock) (g.S.Source.left c.args.source.now) (g.S.Source.left n.source) in
+    let has = has_tapes k.world (M.present media) (M.seen media) (M.count media) refl refl (g.met.M.Media.here_below media) (g.met.M.Media.few_files media) in
+    let laws : OpenedForms = record { lines = c.opened_worlds_have_their_forms.ensures.lines; ready = c.opened_worlds_have_their_forms.ensures.ready; fit = c.opened_worlds_have_their_forms.ensures.fit } in
+    let forms = has_forms laws k named says has journal.form (g.met.C.Cell.is_cell c.args.cell.now tells_cell) (c.listed_is_allowed.ensures tells_cell) refl in
     let same : opened (record { config = c.args.config; slots = M.count plant.media - 1; present = slots_here (M.present plant.media) }) journal.log (g.C.Cell.list c.args.cell.now) contents shown ≡ k.world
     = λ i. opened (record { config = c.args.config; slots = e.count i - 1; present = slots_here (e.present i) }) journal.log (g.C.Cell.list c.args.cell.now) contents (sym rests i) in
     let found = subst (λ (w : World). IsHeldThroughout w k.moments (lines k.input)) (sym same) held in
     let left = r.left told tells_cell tells_clock source (e.settled told) journal.log journal.form log_is contents found in
     let leaves = left_whole _ g.C.Cell _ k.world k.moments (lines k.input) plant n.plant n.cell same left in
-    images_of M.time media c.into_media.result k (outcome k).effects (journaled c.journals_of_scripts.ensures c.scripts_keep_the_archive.ensures.on_the_way c.images_hold_the_archive.ensures.behind k (has_tapes k.world (M.present media) (M.seen media) (M.count media) refl refl (g.met.M.Media.here_below media) (g.met.M.Media.few_files media)) refl journal.form refl)
+    images_of M.time media c.into_media.result k (outcome k).effects (journaled c.journals_of_scripts.ensures c.scripts_keep_the_archive.ensures.on_the_way c.scripts_keep_the_archive.ensures.listed c.images_hold_the_archive.ensures.behind k forms has refl journal.form refl)
     (images_left M.time M.seen media bytes c.into_media.result (outcome k).effects (still_left M.time M.seen media bytes still (λ image was. g.met.M.Media.told_left media image told was) journal.is)
     shown plant n.plant c.into_media.ensures.media rests (e.crash told) (leaves.crash told (e.survives told still)))
 
 pub returns-in-Ok-clause-ends : goal.returns-in-Ok-clause-ends
-returns-in-Ok-clause-ends g c = λ told tells_cell tells_clock source still journal contents held.
+returns-in-Ok-clause-ends g c = λ told tells_cell tells_clock source still named says journal contents held.
     let M = g.M.Media in
     let media = c.args.media in
     let plant = c.in-Ok.plant in
@@ -88,13 +94,16 @@ returns-in-Ok-clause-ends g c = λ told tells_cell tells_clock source still jour
     let log_is : shown.log ≡ bytes = shown_log bytes stock shown (e.stock told) journal.is in
     let rests : at_rest bytes stock ≡ shown = opened_rests bytes stock shown (e.stock told) journal.is (e.settled told) in
     let k : Course = course M.seen M.count M.present c.args.config journal.log contents media back (g.C.Cell.list c.args.cell.now) (g.C.Cell.list n.cell) (g.K.Clock.moments c.args.clock.now) (g.K.Clock.moments n.clock) (g.S.Source.left c.args.source.now) (g.S.Source.left n.source) in
+    let has = has_tapes k.world (M.present media) (M.seen media) (M.count media) refl refl (g.met.M.Media.here_below media) (g.met.M.Media.few_files media) in
+    let laws : OpenedForms = record { lines = c.opened_worlds_have_their_forms.ensures.lines; ready = c.opened_worlds_have_their_forms.ensures.ready; fit = c.opened_worlds_have_their_forms.ensures.fit } in
+    let forms = has_forms laws k named says has journal.form (g.met.C.Cell.is_cell c.args.cell.now tells_cell) (c.listed_is_allowed.ensures tells_cell) refl in
     let same : opened (record { config = c.args.config; slots = M.count plant.media - 1; present = slots_here (M.present plant.media) }) journal.log (g.C.Cell.list c.args.cell.now) contents shown ≡ k.world
     = λ i. opened (record { config = c.args.config; slots = e.count i - 1; present = slots_here (e.present i) }) journal.log (g.C.Cell.list c.args.cell.now) contents (sym rests i) in
     let found = subst (λ (w : World). IsHeldThroughout w k.moments (lines k.input)) (sym same) held in
     let left = r.left told tells_cell tells_clock source (e.settled told) journal.log journal.form log_is contents found in
     let fits = still_left M.time M.seen media bytes still (λ image was. g.met.M.Media.told_left media image told was) journal.is in
     let crash = left.leaves.crash told (e.survives told still) in
-    ends_at M.time M.seen media back k left.stage (subst (λ (w : World). IsStage [] w k.moments (lines k.input) left.stage) same left.on_the_way) left.cell (journaled c.journals_of_scripts.ensures c.scripts_keep_the_archive.ensures.on_the_way c.images_hold_the_archive.ensures.behind k (has_tapes k.world (M.present media) (M.seen media) (M.count media) refl refl (g.met.M.Media.here_below media) (g.met.M.Media.few_files media)) refl journal.form refl)
+    ends_at M.time M.seen media back k left.stage (subst (λ (w : World). IsStage [] w k.moments (lines k.input) left.stage) same left.on_the_way) left.cell (journaled c.journals_of_scripts.ensures c.scripts_keep_the_archive.ensures.on_the_way c.scripts_keep_the_archive.ensures.listed c.images_hold_the_archive.ensures.behind k forms has refl journal.form refl)
     (images_later M.time M.seen media bytes back left.stage.effects fits shown plant n.plant c.into_media.ensures.media rests (e.crash told) crash)
     (g.met.M.Media.seen_may_be_left back told)
     (images_left M.time M.seen media bytes back left.stage.effects fits shown plant n.plant c.into_media.ensures.media rests (e.crash told) crash)
@@ -122,7 +131,7 @@ returns-in-Ok-clause-bad_log_media g c = λ told at is.
     c.into_media.ensures.stock told done.sound ∙ ap settled_part (sym (alike_same shown (shown_of M.seen c.run_on-answer.new.plant) (done.state told))) ∙ settled_whole shown (e.settled told) ∙ sym (e.stock told)
 
 pub returns-in-Err-clause-runs : goal.returns-in-Err-clause-runs
-returns-in-Err-clause-runs g c = λ told tells_cell tells_clock source journal contents held.
+returns-in-Err-clause-runs g c = λ told tells_cell tells_clock source named says journal contents held.
     let M = g.M.Media in
     let media = c.args.media in
     let file = (M.seen media).file 0 in
@@ -131,22 +140,28 @@ returns-in-Err-clause-runs g c = λ told tells_cell tells_clock source journal c
     (runs_not_opened k M.tells (is_damaged file) (M.faults media) (M.faults c.in-Err.unopened.media) c.in-Err.unopened.fault c.in-Err.ensures.fault (λ damaged. none_some (encoded journal.log) (sym (journal_damaged file damaged) ∙ journal.is)) told)
 
 pub returns-in-Err-clause-images : goal.returns-in-Err-clause-images
-returns-in-Err-clause-images g c = λ told tells_cell tells_clock source still journal contents held.
+returns-in-Err-clause-images g c = λ told tells_cell tells_clock source still named says journal contents held.
     let M = g.M.Media in
     let media = c.args.media in
     let bytes = encoded journal.log in
     let k : Course = course M.seen M.count M.present c.args.config journal.log contents media c.in-Err.unopened.media (g.C.Cell.list c.args.cell.now) (g.C.Cell.list c.args.cell.now) (g.K.Clock.moments c.args.clock.now) (g.K.Clock.moments c.args.clock.now) (g.S.Source.left c.args.source.now) (g.S.Source.left c.args.source.now) in
-    images_of M.time media c.in-Err.unopened.media k (outcome k).effects (journaled c.journals_of_scripts.ensures c.scripts_keep_the_archive.ensures.on_the_way c.images_hold_the_archive.ensures.behind k (has_tapes k.world (M.present media) (M.seen media) (M.count media) refl refl (g.met.M.Media.here_below media) (g.met.M.Media.few_files media)) refl journal.form refl)
+    let has = has_tapes k.world (M.present media) (M.seen media) (M.count media) refl refl (g.met.M.Media.here_below media) (g.met.M.Media.few_files media) in
+    let laws : OpenedForms = record { lines = c.opened_worlds_have_their_forms.ensures.lines; ready = c.opened_worlds_have_their_forms.ensures.ready; fit = c.opened_worlds_have_their_forms.ensures.fit } in
+    let forms = has_forms laws k named says has journal.form (g.met.C.Cell.is_cell c.args.cell.now tells_cell) (c.listed_is_allowed.ensures tells_cell) refl in
+    images_of M.time media c.in-Err.unopened.media k (outcome k).effects (journaled c.journals_of_scripts.ensures c.scripts_keep_the_archive.ensures.on_the_way c.scripts_keep_the_archive.ensures.listed c.images_hold_the_archive.ensures.behind k forms has refl journal.form refl)
     (nothing_since M.time M.seen media bytes c.in-Err.unopened.media (outcome k).effects (still_left M.time M.seen media bytes still (λ image was. g.met.M.Media.told_left media image told was) journal.is) (c.in-Err.ensures.crash told))
 
 pub returns-in-Err-clause-ends : goal.returns-in-Err-clause-ends
-returns-in-Err-clause-ends g c = λ told tells_cell tells_clock source still journal contents held.
+returns-in-Err-clause-ends g c = λ told tells_cell tells_clock source still named says journal contents held.
     let M = g.M.Media in
     let media = c.args.media in
     let back = c.in-Err.unopened.media in
     let bytes = encoded journal.log in
     let k : Course = course M.seen M.count M.present c.args.config journal.log contents media back (g.C.Cell.list c.args.cell.now) (g.C.Cell.list c.args.cell.now) (g.K.Clock.moments c.args.clock.now) (g.K.Clock.moments c.args.clock.now) (g.S.Source.left c.args.source.now) (g.S.Source.left c.args.source.now) in
-    ends_at M.time M.seen media back k (between [] k.world) (stage_front [] k.world k.moments (lines k.input)) refl (journaled c.journals_of_scripts.ensures c.scripts_keep_the_archive.ensures.on_the_way c.images_hold_the_archive.ensures.behind k (has_tapes k.world (M.present media) (M.seen media) (M.count media) refl refl (g.met.M.Media.here_below media) (g.met.M.Media.few_files media)) refl journal.form refl) (c.in-Err.ensures.crash told).later (g.met.M.Media.seen_may_be_left back told)
+    let has = has_tapes k.world (M.present media) (M.seen media) (M.count media) refl refl (g.met.M.Media.here_below media) (g.met.M.Media.few_files media) in
+    let laws : OpenedForms = record { lines = c.opened_worlds_have_their_forms.ensures.lines; ready = c.opened_worlds_have_their_forms.ensures.ready; fit = c.opened_worlds_have_their_forms.ensures.fit } in
+    let forms = has_forms laws k named says has journal.form (g.met.C.Cell.is_cell c.args.cell.now tells_cell) (c.listed_is_allowed.ensures tells_cell) refl in
+    ends_at M.time M.seen media back k (between [] k.world) (stage_front [] k.world k.moments (lines k.input)) refl (journaled c.journals_of_scripts.ensures c.scripts_keep_the_archive.ensures.on_the_way c.scripts_keep_the_archive.ensures.listed c.images_hold_the_archive.ensures.behind k forms has refl journal.form refl) (c.in-Err.ensures.crash told).later (g.met.M.Media.seen_may_be_left back told)
     (nothing_since M.time M.seen media bytes back [] (still_left M.time M.seen media bytes still (λ image was. g.met.M.Media.told_left media image told was) journal.is) (c.in-Err.ensures.crash told))
 
 pub returns-in-Err-clause-bad_log : goal.returns-in-Err-clause-bad_log
@@ -163,3 +178,32 @@ returns-in-Err-clause-media_cause g c =
     let media = c.args.media in
     subst (λ (s : Status). HasCauseAs MediaFault (M.faults media) (M.faults c.in-Err.unopened.media) s) (sym c.of_opening.ensures)
     (opening_cause M.tells (is_damaged ((M.seen media).file 0)) (M.faults media) (M.faults c.in-Err.unopened.media) c.in-Err.unopened.fault c.in-Err.ensures.fault)
+
+pub returns-in-Ok-clause-cell_at_end : goal.returns-in-Ok-clause-cell_at_end
+returns-in-Ok-clause-cell_at_end g c = λ told tells_cell tells_clock source journal contents held.
+    let M = g.M.Media in
+    let media = c.args.media in
+    let plant = c.in-Ok.plant in
+    let n = c.run_on-answer.new in
+    let r = c.run_on-answer.ensures in
+    let e = c.in-Ok.ensures in
+    let bytes = encoded journal.log in
+    let stock = stock_of (M.seen media) in
+    let shown = shown_of M.seen plant in
+    let back = c.into_media.result in
+    let log_is : shown.log ≡ bytes = shown_log bytes stock shown (e.stock told) journal.is in
+    let rests : at_rest bytes stock ≡ shown = opened_rests bytes stock shown (e.stock told) journal.is (e.settled told) in
+    let k : Course = course M.seen M.count M.present c.args.config journal.log contents media back (g.C.Cell.list c.args.cell.now) (g.C.Cell.list n.cell) (g.K.Clock.moments c.args.clock.now) (g.K.Clock.moments n.clock) (g.S.Source.left c.args.source.now) (g.S.Source.left n.source) in
+    let same : opened (record { config = c.args.config; slots = M.count plant.media - 1; present = slots_here (M.present plant.media) }) journal.log (g.C.Cell.list c.args.cell.now) contents shown ≡ k.world
+    = λ i. opened (record { config = c.args.config; slots = e.count i - 1; present = slots_here (e.present i) }) journal.log (g.C.Cell.list c.args.cell.now) contents (sym rests i) in
+    let found = subst (λ (w : World). IsHeldThroughout w k.moments (lines k.input)) (sym same) held in
+    let left = r.left told tells_cell tells_clock source (e.settled told) journal.log journal.form log_is contents found in
+    record { stage = left.stage; on_the_way = subst (λ (w : World). IsStage [] w k.moments (lines k.input) left.stage) same left.on_the_way; is = left.cell }
+
+pub returns-in-Err-clause-cell_at_end : goal.returns-in-Err-clause-cell_at_end
+returns-in-Err-clause-cell_at_end g c = λ told tells_cell tells_clock source journal contents held.
+    let M = g.M.Media in
+    let media = c.args.media in
+    let back = c.in-Err.unopened.media in
+    let k : Course = course M.seen M.count M.present c.args.config journal.log contents media back (g.C.Cell.list c.args.cell.now) (g.C.Cell.list c.args.cell.now) (g.K.Clock.moments c.args.clock.now) (g.K.Clock.moments c.args.clock.now) (g.S.Source.left c.args.source.now) (g.S.Source.left c.args.source.now) in
+    record { stage = between [] k.world; on_the_way = stage_front [] k.world k.moments (lines k.input); is = refl }

@@ -10,7 +10,7 @@ use Rattle.backup_top.proofs.Lowering.{still_left, nothing_since}
 use Rattle.plant_media.specs.Laws.{below}
 use Rattle.backup_top.proofs.TapeCounts.{has_tapes}
 use Rattle.backup_top.proofs.ArchiveLaws.{holds_world}
-use Rattle.backup_top.proofs.CourseLaws.{journaled, images_of, ends_at, never_refused, never_bad_log, complete_by}
+use Rattle.backup_top.proofs.CourseLaws.{OpenedForms, has_forms, ready_for, journaled, images_of, ends_at, never_refused, never_bad_log, complete_by}
 use Rattle.backup_top.proofs.top.run.Goals as goal
 
 pub returns-in-Err-clause-images : goal.returns-in-Err-clause-images
@@ -19,7 +19,10 @@ returns-in-Err-clause-images g c = λ runs told tells_cell tells_clock source st
     let media = c.args.media in
     let bytes = encoded entry.journal.log in
     let k : Course = course_of M.seen M.count M.present contents media entry media (g.C.Cell.list c.args.cell.now) (g.C.Cell.list c.args.cell.now) (g.K.Clock.moments c.args.clock.now) (g.K.Clock.moments c.args.clock.now) (g.S.Source.left c.args.source.now) (g.S.Source.left c.args.source.now) in
-    images_of M.time media media k (outcome k).effects (journaled c.journals_of_scripts.ensures c.scripts_keep_the_archive.ensures.on_the_way c.images_hold_the_archive.ensures.behind k (has_tapes k.world (M.present media) (M.seen media) (M.count media) refl refl (g.met.M.Media.here_below media) (g.met.M.Media.few_files media)) refl entry.journal.form refl)
+    let has = has_tapes k.world (M.present media) (M.seen media) (M.count media) refl refl (g.met.M.Media.here_below media) (g.met.M.Media.few_files media) in
+    let laws : OpenedForms = record { lines = c.opened_worlds_have_their_forms.ensures.lines; ready = c.opened_worlds_have_their_forms.ensures.ready; fit = c.opened_worlds_have_their_forms.ensures.fit } in
+    let forms = has_forms laws k c.args.config.now entry.says has entry.journal.form (g.met.C.Cell.is_cell c.args.cell.now tells_cell) (c.listed_is_allowed.ensures tells_cell) refl in
+    images_of M.time media media k (outcome k).effects (journaled c.journals_of_scripts.ensures c.scripts_keep_the_archive.ensures.on_the_way c.scripts_keep_the_archive.ensures.listed c.images_hold_the_archive.ensures.behind k forms has refl entry.journal.form refl)
     (nothing_since M.time M.seen media bytes media (outcome k).effects (still_left M.time M.seen media bytes still (λ image was. g.met.M.Media.told_left media image told was) entry.journal.is) (stays M.time media))
 
 pub returns-in-Err-clause-ends : goal.returns-in-Err-clause-ends
@@ -28,27 +31,34 @@ returns-in-Err-clause-ends g c = λ runs told tells_cell tells_clock source stil
     let media = c.args.media in
     let bytes = encoded entry.journal.log in
     let k : Course = course_of M.seen M.count M.present contents media entry media (g.C.Cell.list c.args.cell.now) (g.C.Cell.list c.args.cell.now) (g.K.Clock.moments c.args.clock.now) (g.K.Clock.moments c.args.clock.now) (g.S.Source.left c.args.source.now) (g.S.Source.left c.args.source.now) in
-    ends_at M.time M.seen media media k (between [] k.world) (stage_front [] k.world k.moments (lines k.input)) refl (journaled c.journals_of_scripts.ensures c.scripts_keep_the_archive.ensures.on_the_way c.images_hold_the_archive.ensures.behind k (has_tapes k.world (M.present media) (M.seen media) (M.count media) refl refl (g.met.M.Media.here_below media) (g.met.M.Media.few_files media)) refl entry.journal.form refl) (stays M.time media).later (g.met.M.Media.seen_may_be_left media told)
+    let has = has_tapes k.world (M.present media) (M.seen media) (M.count media) refl refl (g.met.M.Media.here_below media) (g.met.M.Media.few_files media) in
+    let laws : OpenedForms = record { lines = c.opened_worlds_have_their_forms.ensures.lines; ready = c.opened_worlds_have_their_forms.ensures.ready; fit = c.opened_worlds_have_their_forms.ensures.fit } in
+    let forms = has_forms laws k c.args.config.now entry.says has entry.journal.form (g.met.C.Cell.is_cell c.args.cell.now tells_cell) (c.listed_is_allowed.ensures tells_cell) refl in
+    ends_at M.time M.seen media media k (between [] k.world) (stage_front [] k.world k.moments (lines k.input)) refl (journaled c.journals_of_scripts.ensures c.scripts_keep_the_archive.ensures.on_the_way c.scripts_keep_the_archive.ensures.listed c.images_hold_the_archive.ensures.behind k forms has refl entry.journal.form refl) (stays M.time media).later (g.met.M.Media.seen_may_be_left media told)
     (nothing_since M.time M.seen media bytes media [] (still_left M.time M.seen media bytes still (λ image was. g.met.M.Media.told_left media image told was) entry.journal.is) (stays M.time media))
 
 pub returns-in-Err-clause-finds : goal.returns-in-Err-clause-finds
-returns-in-Err-clause-finds g c = λ runs entry contents held asked.
+returns-in-Err-clause-finds g c = λ runs tells_cell entry contents held asked.
     let M = g.M.Media in
     let media = c.args.media in
     let k : Course = course_of M.seen M.count M.present contents media entry media (g.C.Cell.list c.args.cell.now) (g.C.Cell.list c.args.cell.now) (g.K.Clock.moments c.args.clock.now) (g.K.Clock.moments c.args.clock.now) (g.S.Source.left c.args.source.now) (g.S.Source.left c.args.source.now) in
     let has = has_tapes k.world (M.present media) (M.seen media) (M.count media) refl refl (g.met.M.Media.here_below media) (g.met.M.Media.few_files media) in
+    let laws : OpenedForms = record { lines = c.opened_worlds_have_their_forms.ensures.lines; ready = c.opened_worlds_have_their_forms.ensures.ready; fit = c.opened_worlds_have_their_forms.ensures.fit } in
+    let forms = has_forms laws k c.args.config.now entry.says has entry.journal.form (g.met.C.Cell.is_cell c.args.cell.now tells_cell) (c.listed_is_allowed.ensures tells_cell) refl in
     let holds = holds_world k.world has (λ s is. below (M.present media) (M.count media) s (g.met.M.Media.here_below media) is) (record { log = refl; tapes = λ s. refl }) held in
-    (holds, c.scripts_keep_the_archive.ensures.throughout k.world k.moments (lines k.input) holds asked, c.ready_worlds_have_forms.ensures.lines k.world k.moments (lines k.input) holds asked)
+    (holds, c.scripts_keep_the_archive.ensures.throughout k.world k.moments (lines k.input) holds (ready_for k forms (lines k.input) asked), λ dumps. (asked dumps).0.volumes)
 
 pub returns-in-Ok-Run-clause-finds : goal.returns-in-Ok-Run-clause-finds
-returns-in-Ok-Run-clause-finds g c = λ runs entry contents held asked.
+returns-in-Ok-Run-clause-finds g c = λ runs tells_cell entry contents held asked.
     let M = g.M.Media in
     let media = c.args.media in
     let n = c.run_mode.new in
     let k : Course = course_of M.seen M.count M.present contents media entry c.run_mode.result.1 (g.C.Cell.list c.args.cell.now) (g.C.Cell.list n.cell) (g.K.Clock.moments c.args.clock.now) (g.K.Clock.moments n.clock) (g.S.Source.left c.args.source.now) (g.S.Source.left n.source) in
     let has = has_tapes k.world (M.present media) (M.seen media) (M.count media) refl refl (g.met.M.Media.here_below media) (g.met.M.Media.few_files media) in
+    let laws : OpenedForms = record { lines = c.opened_worlds_have_their_forms.ensures.lines; ready = c.opened_worlds_have_their_forms.ensures.ready; fit = c.opened_worlds_have_their_forms.ensures.fit } in
+    let forms = has_forms laws k c.args.config.now entry.says has entry.journal.form (g.met.C.Cell.is_cell c.args.cell.now tells_cell) (c.listed_is_allowed.ensures tells_cell) refl in
     let holds = holds_world k.world has (λ s is. below (M.present media) (M.count media) s (g.met.M.Media.here_below media) is) (record { log = refl; tapes = λ s. refl }) held in
-    (holds, c.scripts_keep_the_archive.ensures.throughout k.world k.moments (lines k.input) holds asked, c.ready_worlds_have_forms.ensures.lines k.world k.moments (lines k.input) holds asked)
+    (holds, c.scripts_keep_the_archive.ensures.throughout k.world k.moments (lines k.input) holds (ready_for k forms (lines k.input) asked), λ dumps. (asked dumps).0.volumes)
 
 pub returns-in-Ok-Run-clause-complete : goal.returns-in-Ok-Run-clause-complete
 returns-in-Ok-Run-clause-complete g c = λ runs told tells_cell tells_clock source entry within media_rose cell_rose output_rose read_rose.
@@ -57,3 +67,10 @@ returns-in-Ok-Run-clause-complete g c = λ runs told tells_cell tells_clock sour
     complete_by (g.S.Source.left c.args.source.now) (g.S.Source.left c.run_mode.new.source) c.run_mode.result.0 (e.takes source) within
     e.usage (λ line is. never_refused c.args.config.now entry.settings line entry.says (e.bad_config line is)) (λ at is. never_bad_log (stock_of (M.seen c.args.media)) at entry.journal (e.bad_log told at is))
     (λ is. media_rose (e.media_cause.failed is)) (λ is. cell_rose (e.cell_cause.failed is)) (λ is. output_rose (e.output_cause.failed is)) (λ is. read_rose (e.read_cause.failed is))
+
+pub returns-in-Err-clause-cell_at_end : goal.returns-in-Err-clause-cell_at_end
+returns-in-Err-clause-cell_at_end g c = λ runs told tells_cell tells_clock source entry contents held.
+    let M = g.M.Media in
+    let media = c.args.media in
+    let k : Course = course_of M.seen M.count M.present contents media entry media (g.C.Cell.list c.args.cell.now) (g.C.Cell.list c.args.cell.now) (g.K.Clock.moments c.args.clock.now) (g.K.Clock.moments c.args.clock.now) (g.S.Source.left c.args.source.now) (g.S.Source.left c.args.source.now) in
+    record { stage = between [] k.world; on_the_way = stage_front [] k.world k.moments (lines k.input); is = refl }
