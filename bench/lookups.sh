@@ -2,12 +2,8 @@
 # Times `volinfo`, `dumpinfo -id` and the plan of a restore (`volrestore -n`) by `afsbackup run` over a database of 100 dumps and one of
 # 100,000, in one run, in microseconds a line behind the opening, and the opening of both journals. The first argument is the program.
 # The folders are made in the one that TMPDIR names.
-set -eu
-program=$(realpath "${1:-./afsbackup}")
-here=$(cd "$(dirname "$0")" && pwd)
-folder=$(mktemp -d)
-trap 'rm -rf "$folder"' EXIT
-PYTHONPATH="$here" PYTHONDONTWRITEBYTECODE=1 python3 - "$program" "$folder" <<'P'
+. "$(dirname "$0")/in_folder.sh"
+measure <<'P'
 import os, re, struct, subprocess, sys, time
 from folder import image, new_folder, number, run, write_volume
 

@@ -2,12 +2,8 @@
 # Times the restore of 1 GiB in four volumes from one tape by `afsbackup run` in a folder, beside `cp` of the same bytes with as many
 # syncs, in one run, in MB/s, and tells the peak memory; and a restore along a chain of ten increments beside one of the full dump
 # alone. The first argument is the program. The folders are made in the one that TMPDIR names.
-set -eu
-program=$(realpath "${1:-./afsbackup}")
-here=$(cd "$(dirname "$0")" && pwd)
-folder=$(mktemp -d)
-trap 'rm -rf "$folder"' EXIT
-PYTHONPATH="$here" PYTHONDONTWRITEBYTECODE=1 python3 - "$program" "$folder" <<'P'
+. "$(dirname "$0")/in_folder.sh"
+measure <<'P'
 import os, shutil, subprocess, sys, time
 from folder import DUMP, FILES, PREPARED, VOLUMES, gigabyte, image, new_folder, run, sync, write_volume
 

@@ -1,12 +1,8 @@
 #!/usr/bin/env bash
 # Times `scantape` of a tape of 1 GiB by `afsbackup run` in a folder beside `cat FILE | wc -c`, and the opening of a journal of
 # 100 MiB and its checkpoint, in one run, in MB/s. The first argument is the program. The folders are made in the one that TMPDIR names.
-set -eu
-program=$(realpath "${1:-./afsbackup}")
-here=$(cd "$(dirname "$0")" && pwd)
-folder=$(mktemp -d)
-trap 'rm -rf "$folder"' EXIT
-PYTHONPATH="$here" PYTHONDONTWRITEBYTECODE=1 python3 - "$program" "$folder" <<'P'
+. "$(dirname "$0")/in_folder.sh"
+measure <<'P'
 import os, shutil, subprocess, sys, time
 from folder import DUMP, gigabyte, new_folder, run
 
