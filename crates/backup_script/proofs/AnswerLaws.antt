@@ -41,17 +41,17 @@ took_line old new line taken (Err stop) took goes no_read no_long = (
 
 module _ {D E : Type 0} (P : Plant D) (C : Cell E) (w : World) (ms input rest line read : List ℕ) (old new : D) (site : E) (session : SessionView) (left : List ℕ) (took : TookPiece input (10 ∷ rest) line) (is : read ≡ strip_carriage_return line) where
   abbrev Ran : Passed → Type 0
-  Ran passed = LineRan P C (one_line w ms (item_of read)) old new site session left passed.goes passed.refused
+  Ran passed = LineRan P C (one_line w ms (item_of read)) old new site session left passed.goes
 
-  ran_stripped : (passed : Passed) → Ran passed → LineRan P C (one_line w ms (item_of (strip_carriage_return line))) old new site session left passed.goes passed.refused
-  ran_stripped passed = subst (λ (l : List ℕ). LineRan P C (one_line w ms (item_of l)) old new site session left passed.goes passed.refused) is
+  ran_stripped : (passed : Passed) → Ran passed → LineRan P C (one_line w ms (item_of (strip_carriage_return line))) old new site session left passed.goes
+  ran_stripped passed = subst (λ (l : List ℕ). LineRan P C (one_line w ms (item_of l)) old new site session left passed.goes) is
 
-  pub passed_line : (r : Result Passed ServeStop) → IfOk r Ran → IfOk r (λ passed. passed.goes ≡ not (is_quit read)) → IfOk r (λ passed. passed.goes ≡ true → LinePassed P C w ms input rest old new site session left passed.refused)
-  passed_line (Ok passed) ran goes = λ on. line_passed P C w ms input rest line old new site took session left passed.goes passed.refused (ap is_quit (sym is) ∙ flip passed.goes (is_quit read) goes on) on (ran_stripped passed ran)
+  pub passed_line : (r : Result Passed ServeStop) → IfOk r Ran → IfOk r (λ passed. passed.goes ≡ not (is_quit read)) → IfOk r (λ passed. passed.goes ≡ true → LinePassed P C w ms input rest old new site session left)
+  passed_line (Ok passed) ran goes = λ on. line_passed P C w ms input rest line old new site took session left passed.goes (ap is_quit (sym is) ∙ flip passed.goes (is_quit read) goes on) on (ran_stripped passed ran)
   passed_line (Err stop) ran goes = tt
 
-  pub ended_line : (r : Result Passed ServeStop) → IfOk r Ran → IfOk r (λ passed. passed.goes ≡ false → ScriptRan P C (script w ms (lines input)) old new site session left passed.refused)
-  ended_line (Ok passed) ran = λ off. line_ended P C w ms input rest line old new site took session left passed.goes passed.refused off (ran_stripped passed ran)
+  pub ended_line : (r : Result Passed ServeStop) → IfOk r Ran → IfOk r (λ passed. passed.goes ≡ false → ScriptRan P C (script w ms (lines input)) old new site session left)
+  ended_line (Ok passed) ran = λ off. line_ended P C w ms input rest line old new site took session left passed.goes off (ran_stripped passed ran)
   ended_line (Err stop) ran = tt
 
   pub left_line : (r : Result Passed ServeStop) → OnErr r (LineLeft P C w ms (item_of read) old new site) → OnErr r (Left P C w ms (lines input) old new site)
@@ -59,8 +59,8 @@ module _ {D E : Type 0} (P : Plant D) (C : Cell E) (w : World) (ms input rest li
   left_line (Err stop) begun = line_left P C w ms input rest line old new site took (subst (λ (l : List ℕ). LineLeft P C w ms (item_of l) old new site) is begun)
 
 module _ {D E : Type 0} (P : Plant D) (C : Cell E) (w : World) (ms input line read : List ℕ) (old new : D) (site : E) (session : SessionView) (left : List ℕ) (took : TookPiece input [] line) (some : 0 < length line) (is : read ≡ line) where
-  pub ended_last : (r : Result Passed ServeStop) → IfOk r (λ passed. ScriptRan P C (script w ms (read ∷ [])) old new site session left passed.refused) → IfOk r (λ passed. passed.goes ≡ false → ScriptRan P C (script w ms (lines input)) old new site session left passed.refused)
-  ended_last (Ok passed) ran = λ off. last_ran P C w ms input line old new site session left passed.refused took some (subst (λ (l : List ℕ). ScriptRan P C (script w ms (l ∷ [])) old new site session left passed.refused) is ran)
+  pub ended_last : (r : Result Passed ServeStop) → IfOk r (λ passed. ScriptRan P C (script w ms (read ∷ [])) old new site session left) → IfOk r (λ passed. passed.goes ≡ false → ScriptRan P C (script w ms (lines input)) old new site session left)
+  ended_last (Ok passed) ran = λ off. last_ran P C w ms input line old new site session left took some (subst (λ (l : List ℕ). ScriptRan P C (script w ms (l ∷ [])) old new site session left) is ran)
   ended_last (Err stop) ran = tt
 
   pub left_last : (r : Result Passed ServeStop) → OnErr r (LineLeft P C w ms (item_of read) old new site) → OnErr r (Left P C w ms (lines input) old new site)

@@ -1,5 +1,5 @@
 -- What items do to a script.
-use Rattle.std.proofs.Common.{◌≡◌, inr, ℕ, Bool, true, false, not, List, [], ◌∷◌, Some, slice_get, refl, OnErr}
+use Rattle.std.proofs.Common.{◌≡◌, inr, ℕ, Bool, true, false, not, List, [], ◌∷◌, Some, slice_get, refl, OnOk, OnErr}
 use Rattle.std.specs.Prelude.{if◌then◌else◌, Result, Ok, Err}
 use Rattle.plant_core.specs.declared.plant.Plant.{Ghosts as Plant}
 use Rattle.plant_core.specs.Effects.{tells}
@@ -58,3 +58,8 @@ runs_left P C w ms command old new site begun = record {
 pub in_err : {T F : Type 0} (r : Result T F) (A B : Type 0) → (A → B) → OnErr r A → OnErr r B
 in_err (Ok x) A B map is = tt
 in_err (Err e) A B map is = map is
+
+-- in an Ok
+pub on_ok : {T F : Type 0} (r : Result T F) (A B C D : Type 0) → (A → B → C → D) → OnOk r A → OnOk r B → OnOk r C → OnOk r D
+on_ok (Ok x) A B C D map a b c = map a b c
+on_ok (Err e) A B C D map a b c = tt

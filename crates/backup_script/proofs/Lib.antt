@@ -3,6 +3,7 @@ pub mod ScriptLaws
 pub mod HeldLaws
 pub mod StageLaws
 pub mod ItemLaws
+pub mod WatchLaws
 pub mod TellingLaws
 pub mod ServingLaws
 pub mod AnswerLaws

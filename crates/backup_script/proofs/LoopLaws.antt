@@ -1,6 +1,5 @@
 -- The loop over a script: what is known between two lines, and what comes of it at each end.
-use Rattle.std.proofs.Common.{◌≡◌, ◌⊎◌, inl, inr, ℕ, ◌+◌, ◌≤◌, Bool, true, false, List, [], ◌∷◌, ◌++◌, length, All, refl, sym, ◌∙◌, ap, subst, arith, append_assoc, length-append, Err}
-use Rattle.std.specs.Prelude.{◌||◌}
+use Rattle.std.proofs.Common.{◌≡◌, ◌⊎◌, inl, inr, ℕ, ◌+◌, ◌≤◌, Bool, true, false, ◌||◌, List, [], ◌∷◌, ◌++◌, length, All, refl, sym, ◌∙◌, ap, subst, arith, append_assoc, length-append, Err}
 use Rattle.std.specs.Str.Lines.{lines, strip_carriage_return}
 use Rattle.std.proofs.lemmas.List.{append-nil}
 use Rattle.std.proofs.lemmas.List.Folds.{list_any-append}
@@ -18,7 +17,7 @@ use Rattle.backup_script.specs.Held.{IsHeldThroughout}
 use Rattle.backup_script.specs.Running.{Went, Left, ScriptRan, LinePassed, Took, TookAll, TookToQuit, TookTooMany, WentShort, TookEnd, TakesNext, Takes}
 use Rattle.backup_script.specs.declared.serving.ServeStop.{ServeStop}
 use Rattle.backup_script.specs.declared.serving.ServeStop.TheVariants.{Read, Plant as PlantStop, Cell as CellStop, Output, TooLong, Memory}
-use Rattle.backup_script.proofs.LineLaws.{AreLines, no_lines, one_line_more, lines_cut, line_first}
+use Rattle.backup_script.proofs.LineLaws.{AreLines, no_lines, one_line_more, lines_cut, line_first, ended_first}
 use Rattle.backup_script.proofs.ScriptLaws.{script_more}
 use Rattle.backup_script.proofs.HeldLaws.{held_behind}
 use Rattle.backup_script.proofs.StageLaws.{behind, stage_behind, stage_later, stage_last}
@@ -83,6 +82,7 @@ module _ (input rest : List ℕ) (ran : List (List ℕ)) (so : Reading input res
     | inl (none, most) ↦ inl (record { none_left = none; few = omega (arith, count, ap length none, most) })
     | inr (line, took, quits) ↦ inr (record {
       took = took_more new (line ++ 10 ∷ []) n (took.is ∙ sym (append_assoc line (10 ∷ []) new)) count few;
+      whole = so.are.ended (line ++ 10 ∷ []) ∙ ap (λ (l : List ℕ). so.bytes ++ l) (ended_first line []);
       quit = record {
         before = ran;
         line = strip_carriage_return line;
@@ -96,20 +96,19 @@ module _ (input rest : List ℕ) (ran : List (List ℕ)) (so : Reading input res
 -- ---- lines
 
 module _ {D E : Type 0} (P : Plant D) (C : Cell E) where
-  module _ (w : World) (ms : List ℕ) (ran more : List (List ℕ)) (old mid new : D) (site : E) (session : SessionView) (left : List ℕ) (refused : Bool) (so : ScriptRan P C (script w ms ran) old mid site session left refused) (goes : (script w ms ran).goes ≡ true) where
+  module _ (w : World) (ms : List ℕ) (ran more : List (List ℕ)) (old mid new : D) (site : E) (session : SessionView) (left : List ℕ) (so : ScriptRan P C (script w ms ran) old mid site session left) (goes : (script w ms ran).goes ≡ true) where
     abbrev s : Outcome
     s = script w ms ran
 
     -- lines run behind these
-    pub ran_behind : (site2 : E) (session2 : SessionView) (left2 : List ℕ) (refused2 : Bool) → ScriptRan P C (script s.world left more) mid new site2 session2 left2 refused2
-        → ScriptRan P C (script w ms (ran ++ more)) old new site2 session2 left2 (refused || refused2)
-    ran_behind site2 session2 left2 refused2 next = subst (λ (o : Outcome). ScriptRan P C o old new site2 session2 left2 (refused || refused2)) (sym (script_more ran more w ms goes)) (joined (subst (λ (m : List ℕ). ScriptRan P C (script s.world m more) mid new site2 session2 left2 refused2) so.went.moments next))
+    pub ran_behind : (site2 : E) (session2 : SessionView) (left2 : List ℕ) → ScriptRan P C (script s.world left more) mid new site2 session2 left2
+        → ScriptRan P C (script w ms (ran ++ more)) old new site2 session2 left2
+    ran_behind site2 session2 left2 next = subst (λ (o : Outcome). ScriptRan P C o old new site2 session2 left2) (sym (script_more ran more w ms goes)) (joined (subst (λ (m : List ℕ). ScriptRan P C (script s.world m more) mid new site2 session2 left2) so.went.moments next))
       where
-        joined : ScriptRan P C (script s.world s.moments more) mid new site2 session2 left2 refused2 → ScriptRan P C (then_outcome s (script s.world s.moments more)) old new site2 session2 left2 (refused || refused2)
+        joined : ScriptRan P C (script s.world s.moments more) mid new site2 session2 left2 → ScriptRan P C (then_outcome s (script s.world s.moments more)) old new site2 session2 left2
         joined then = record {
           went = record { done = done_both P s.effects (script s.world s.moments more).effects old mid new so.went.done then.went.done; fits = then.went.fits; moments = then.went.moments };
           leaves = leaves_both P s.effects (script s.world s.moments more).effects old mid new so.went.done so.leaves then.leaves;
-          refused_is = λ i. so.refused_is i || then.refused_is i;
         }
 
     -- lines begun behind these
@@ -132,17 +131,17 @@ module _ {D E : Type 0} (P : Plant D) (C : Cell E) where
 
   -- ---- between two lines
 
-  pub record Serving (w : World) (ms input : List ℕ) (old now : D) (site : E) (session : SessionView) (left rest : List ℕ) (refused : Bool) : Type 0 where
+  pub record Serving (w : World) (ms input : List ℕ) (old now : D) (site : E) (session : SessionView) (left rest : List ℕ) : Type 0 where
     pub ran : List (List ℕ)
     pub reading : Reading input rest ran
-    pub so_far : ScriptRan P C (script w ms ran) old now site session left refused
+    pub so_far : ScriptRan P C (script w ms ran) old now site session left
     pub goes : (script w ms ran).goes ≡ true
 
   goes_first : (w : World) (ms : List ℕ) → (script w ms []).goes ≡ true
   unfolding script
   goes_first w ms = refl
 
-  pub serving_starts : (w : World) (ms input : List ℕ) (s : D) (site : E) (session : SessionView) → P.sound s → FitsPlant P s → Fits P C w s site session → Serving w ms input s s site session ms input false
+  pub serving_starts : (w : World) (ms input : List ℕ) (s : D) (site : E) (session : SessionView) → P.sound s → FitsPlant P s → Fits P C w s site session → Serving w ms input s s site session ms input
   serving_starts w ms input s site session sound fits_plant fits = record {
     ran = [];
     reading = reading_starts input;
@@ -150,7 +149,7 @@ module _ {D E : Type 0} (P : Plant D) (C : Cell E) where
     goes = goes_first w ms;
   }
 
-  module _ (w : World) (ms input : List ℕ) (old now : D) (site : E) (session : SessionView) (left rest : List ℕ) (refused : Bool) (so : Serving w ms input old now site session left rest refused) where
+  module _ (w : World) (ms input : List ℕ) (old now : D) (site : E) (session : SessionView) (left rest : List ℕ) (so : Serving w ms input old now site session left rest) where
     abbrev here : Outcome
     here = script w ms so.ran
 
@@ -162,26 +161,26 @@ module _ {D E : Type 0} (P : Plant D) (C : Cell E) where
         (held_behind so.ran (lines rest) w ms so.goes (subst (λ (ls : List (List ℕ)). IsHeldThroughout w ms ls) (lines_all input rest so.ran so.reading) held))
 
     -- one line more
-    pub serving_more : (new : D) (site2 : E) (session2 : SessionView) (left2 rest2 : List ℕ) (refused2 : Bool) → LinePassed P C here.world left rest rest2 now new site2 session2 left2 refused2 → Serving w ms input old new site2 session2 left2 rest2 (refused || refused2)
-    serving_more new site2 session2 left2 rest2 refused2 passed =
+    pub serving_more : (new : D) (site2 : E) (session2 : SessionView) (left2 rest2 : List ℕ) → LinePassed P C here.world left rest rest2 now new site2 session2 left2 → Serving w ms input old new site2 session2 left2 rest2
+    serving_more new site2 session2 left2 rest2 passed =
         let l = strip_carriage_return passed.line in
         record {
           ran = so.ran ++ l ∷ [];
           reading = reading_more input rest rest2 so.ran passed.line so.reading passed.took passed.not_quit;
-          so_far = ran_behind w ms so.ran (l ∷ []) old now new site session left refused so.so_far so.goes site2 session2 left2 refused2 passed.ran;
+          so_far = ran_behind w ms so.ran (l ∷ []) old now new site session left so.so_far so.goes site2 session2 left2 passed.ran;
           goes = ap (λ (o : Outcome). o.goes) (script_more so.ran (l ∷ []) w ms so.goes) ∙ ap (λ (m : List ℕ). (script here.world m (l ∷ [])).goes) (sym so.so_far.went.moments) ∙ passed.goes;
         }
 
     -- the script was run to its end
-    pub serving_ended : (new : D) (site2 : E) (session2 : SessionView) (left2 : List ℕ) (refused2 : Bool) → ScriptRan P C (script here.world left (lines rest)) now new site2 session2 left2 refused2
-        → ScriptRan P C (script w ms (lines input)) old new site2 session2 left2 (refused || refused2)
-    serving_ended new site2 session2 left2 refused2 next =
-        subst (λ (ls : List (List ℕ)). ScriptRan P C (script w ms ls) old new site2 session2 left2 (refused || refused2)) (sym (lines_all input rest so.ran so.reading))
-        (ran_behind w ms so.ran (lines rest) old now new site session left refused so.so_far so.goes site2 session2 left2 refused2 next)
+    pub serving_ended : (new : D) (site2 : E) (session2 : SessionView) (left2 : List ℕ) → ScriptRan P C (script here.world left (lines rest)) now new site2 session2 left2
+        → ScriptRan P C (script w ms (lines input)) old new site2 session2 left2
+    serving_ended new site2 session2 left2 next =
+        subst (λ (ls : List (List ℕ)). ScriptRan P C (script w ms ls) old new site2 session2 left2) (sym (lines_all input rest so.ran so.reading))
+        (ran_behind w ms so.ran (lines rest) old now new site session left so.so_far so.goes site2 session2 left2 next)
 
     pub serving_left : (new : D) (site2 : E) → Left P C here.world left (lines rest) now new site2 → Left P C w ms (lines input) old new site2
     serving_left new site2 begun = subst (λ (ls : List (List ℕ)). Left P C w ms ls old new site2) (sym (lines_all input rest so.ran so.reading))
-        (left_behind w ms so.ran (lines rest) old now new site session left refused so.so_far so.goes site2 begun)
+        (left_behind w ms so.ran (lines rest) old now new site session left so.so_far so.goes site2 begun)
 
     pub serving_short : (new : D) (site2 : E) (session2 : SessionView) (left2 rest2 piece : List ℕ) (n : ℕ) → rest ≡ piece ++ rest2 → All (λ b. is_feed b ≡ false) piece → length input ≡ length rest2 + n → n ≤ 16777217
         → Went P C (nothing here.world left true) now new site2 session2 left2 → WentShort P C w ms input rest2 old new site2 session2 left2
@@ -189,12 +188,12 @@ module _ {D E : Type 0} (P : Plant D) (C : Cell E) where
     serving_short new site2 session2 left2 rest2 piece n is plain count few next = record {
       took = took_more input rest so.ran so.reading rest2 piece n is count few;
       went = subst (λ (ls : List (List ℕ)). Went P C (script w ms ls) old new site2 session2 left2) (sym (lines_cut so.reading.bytes piece so.ran so.reading.are plain))
-          (nothing_behind w ms so.ran [] old now new site session left refused so.so_far so.goes site2 session2 left2 next);
+          (nothing_behind w ms so.ran [] old now new site session left so.so_far so.goes site2 session2 left2 next);
     }
 
   -- where all of it was run, the stage is the last one
-  pub all_left : (w : World) (ms : List ℕ) (these : List (List ℕ)) (old new : D) (site : E) (session : SessionView) (left : List ℕ) (refused : Bool) → ScriptRan P C (script w ms these) old new site session left refused → Left P C w ms these old new site
-  all_left w ms these old new site session left refused ran = record {
+  pub all_left : (w : World) (ms : List ℕ) (these : List (List ℕ)) (old new : D) (site : E) (session : SessionView) (left : List ℕ) → ScriptRan P C (script w ms these) old new site session left → Left P C w ms these old new site
+  all_left w ms these old new site session left ran = record {
     stage = between (script w ms these).effects (script w ms these).world;
     on_the_way = stage_last [] w ms these;
     cell = ran.went.fits.cell;

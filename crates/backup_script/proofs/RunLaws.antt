@@ -1,8 +1,11 @@
 -- How a session is opened and runs a script.
-use Rattle.std.proofs.Common.{◌≡◌, ℕ, List, [], sym, ◌∙◌, subst}
+use Rattle.std.proofs.Common.{◌≡◌, ℕ, Bool, List, [], ◌++◌, Err, refl, sym, ◌∙◌, ap, subst}
 use Rattle.std.specs.Str.Lines.{lines}
+use Rattle.std.proofs.lemmas.List.{append_cancel_left}
 use Rattle.plant_core.specs.declared.plant.Plant.{Ghosts as Plant}
+use Rattle.plant_core.specs.Effects.{Effect, told_by}
 use Rattle.plant_effects.specs.Runs.{state_of, Done, Leaves}
+use Rattle.plant_effects.proofs.States.{told_is}
 use Rattle.plant_effects.proofs.Joining.{done_both, leaves_both}
 use Rattle.cell_core.specs.declared.cell.Cell.{Ghosts as Cell}
 use Rattle.tape_config.specs.Configs.{Settings}
@@ -10,20 +13,44 @@ use Rattle.budb_changes.specs.declared.change.Change.{Change}
 use Rattle.budb_changes.specs.Bytes.{encoded}
 use Rattle.budb_changes.specs.Forms.{AreChanges}
 use Rattle.budb_changes.proofs.Logs.{same_changes}
+use Rattle.archive_model.specs.Archives.{NoDump}
+use Rattle.backup_replies.specs.Texts.{has_refusal}
 use Rattle.backup_session.specs.Worlds.{World, Contents}
 use Rattle.backup_session.specs.Views.{SessionView}
 use Rattle.backup_session.specs.Fitting.{Fits}
+use Rattle.backup_session.specs.declared.stops.OpenStop.{OpenStop}
+use Rattle.backup_session.specs.declared.stops.OpenStop.TheVariants as stops
+use Rattle.backup_session.specs.Opening.{UnlessFailed}
 use Rattle.backup_script.specs.Lines.{ended}
 use Rattle.backup_script.specs.Scripts.{Outcome, between, script}
-use Rattle.backup_script.specs.Running.{Went, Left, WentShort}
+use Rattle.backup_script.specs.Running.{Went, Left, WentShort, HasTold}
 use Rattle.backup_script.specs.Ended.{world_on, Ends, EndsShort}
 use Rattle.backup_script.proofs.StageLaws.{stage_front}
+
+-- an opening that no failed call of the plant has ended
+pub unless_plant : (T : Type 0) (stop : OpenStop) (Holds : Type 0) → UnlessFailed {T = T} (Err stop) Holds → (stop ≡ stops.Plant → ⊥) → Holds
+unless_plant T stops.Plant Holds holds well = absurd (well refl)
+unless_plant T stops.Cell Holds holds well = holds
+unless_plant T (stops.BadLog at) Holds holds well = holds
+unless_plant T stops.Memory Holds holds well = holds
+
+-- some contents, which no call reads
+pub no_contents : Contents
+no_contents id name = Err NoDump
 
 module _ {D E : Type 0} (P : Plant D) (C : Cell E) where
   -- the session was opened, and fits the world of the log's changes
   pub opened_fits : (config : Settings) (log : List Change) (contents : Contents) (old new : D) (site site2 : E) (session : SessionView) → AreChanges log → (state_of P old).log ≡ encoded log
       → (other : List Change) → AreChanges other → (state_of P old).log ≡ encoded other → Fits P C (world_on P C config other contents old site) new site2 session → Fits P C (world_on P C config log contents old site) new site2 session
   opened_fits config log contents old new site site2 session form is other form2 is2 = subst (λ (l : List Change). Fits P C (world_on P C config l contents old site) new site2 session) (same_changes other log form2 form (sym is2 ∙ is))
+
+  -- what was told behind an opening, and what a script tells
+  pub told_behind : (old mid new : D) (refused : Bool) → P.tells → Done P [] old mid → HasTold P mid new refused → HasTold P old new refused
+  told_behind old mid new refused told first has = record { text = has.text; told = has.told ∙ ap (λ (l : List ℕ). l ++ has.text) (first.state told).told; is = has.is }
+
+  pub told_effects : (effects : List Effect) (old new : D) (refused : Bool) → P.tells → Done P effects old new → HasTold P old new refused → refused ≡ has_refusal (told_by effects)
+  told_effects effects old new refused told done has =
+      has.is ∙ ap has_refusal (append_cancel_left (state_of P old).told has.text (told_by effects) (sym has.told ∙ (done.state told).told ∙ told_is effects (state_of P old)))
 
   module _ (w : World) (ms : List ℕ) (old mid new : D) (site : E) (first : Done P [] old mid) (first_leaves : Leaves P [] old mid) where
     pub went_ends : (s : Outcome) (session : SessionView) (left : List ℕ) → Went P C s mid new site session left → Ends P C s old new site left

@@ -1,24 +1,16 @@
 -- What comes of lines that stand behind one another. Nothing here speaks of a single command.
 use Rattle.std.proofs.Common.{◌≡◌, ℕ, Bool, true, false, List, [], ◌∷◌, ◌++◌, refl, sym, ◌∙◌, ap, append_assoc}
-use Rattle.std.specs.Prelude.{◌||◌, if◌then◌else◌}
+use Rattle.std.specs.Prelude.{if◌then◌else◌}
 use Rattle.std.proofs.lemmas.List.{append-nil}
 use Rattle.backup_session.specs.Worlds.{World}
 use Rattle.backup_script.specs.Items.{item_of}
 use Rattle.backup_script.specs.Scripts.{Outcome, nothing, then_outcome, one_line, script}
 
-or_assoc : (a b c : Bool) → (a || (b || c)) ≡ ((a || b) || c)
-or_assoc true b c = refl
-or_assoc false b c = refl
-
-or_nothing : (a : Bool) → (a || false) ≡ a
-or_nothing true = refl
-or_nothing false = refl
-
 pub then_then : (r s t : Outcome) → then_outcome r (then_outcome s t) ≡ then_outcome (then_outcome r s) t
-then_then r s t = λ i. record t { effects = sym (append_assoc r.effects s.effects t.effects) i; refused = or_assoc r.refused s.refused t.refused i }
+then_then r s t = λ i. record t { effects = sym (append_assoc r.effects s.effects t.effects) i }
 
 pub then_nothing : (s : Outcome) → s.goes ≡ true → then_outcome s (nothing s.world s.moments true) ≡ s
-then_nothing s goes = λ i. record s { effects = append-nil s.effects i; goes = sym goes i; refused = or_nothing s.refused i }
+then_nothing s goes = λ i. record s { effects = append-nil s.effects i; goes = sym goes i }
 
 -- a line alone
 alone : (s : Outcome) (b : Bool) → s.goes ≡ b → (if b then then_outcome s (nothing s.world s.moments true) else s) ≡ s

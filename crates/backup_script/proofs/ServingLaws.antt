@@ -36,33 +36,33 @@ held_last w ms input line read took some is held = subst (λ (l : List ℕ). Hel
 
 module _ {D E : Type 0} (P : Plant D) (C : Cell E) where
   -- a line alone
-  pub ran_alone : (w : World) (ms line : List ℕ) (old new : D) (site : E) (session : SessionView) (left : List ℕ) (goes refused : Bool) → LineRan P C (one_line w ms (item_of line)) old new site session left goes refused
-      → ScriptRan P C (script w ms (line ∷ [])) old new site session left refused
-  ran_alone w ms line old new site session left goes refused ran =
-      subst (λ (s : Outcome). ScriptRan P C s old new site session left refused) (sym (script_one w ms line)) (record { went = ran.went; leaves = ran.leaves; refused_is = ran.refused_is })
+  pub ran_alone : (w : World) (ms line : List ℕ) (old new : D) (site : E) (session : SessionView) (left : List ℕ) (goes : Bool) → LineRan P C (one_line w ms (item_of line)) old new site session left goes
+      → ScriptRan P C (script w ms (line ∷ [])) old new site session left
+  ran_alone w ms line old new site session left goes ran =
+      subst (λ (s : Outcome). ScriptRan P C s old new site session left) (sym (script_one w ms line)) (record { went = ran.went; leaves = ran.leaves })
 
-  goes_alone : (w : World) (ms line : List ℕ) (old new : D) (site : E) (session : SessionView) (left : List ℕ) (goes refused : Bool) → LineRan P C (one_line w ms (item_of line)) old new site session left goes refused
+  goes_alone : (w : World) (ms line : List ℕ) (old new : D) (site : E) (session : SessionView) (left : List ℕ) (goes : Bool) → LineRan P C (one_line w ms (item_of line)) old new site session left goes
       → (script w ms (line ∷ [])).goes ≡ goes
-  goes_alone w ms line old new site session left goes refused ran = ap (λ (s : Outcome). s.goes) (script_one w ms line) ∙ sym ran.goes_is
+  goes_alone w ms line old new site session left goes ran = ap (λ (s : Outcome). s.goes) (script_one w ms line) ∙ sym ran.goes_is
 
   -- a line that was ended, and what is behind it
   module _ (w : World) (ms input rest line : List ℕ) (old new : D) (site : E) (took : TookPiece input (10 ∷ rest) line) where
-    pub line_passed : (session : SessionView) (left : List ℕ) (goes refused : Bool) → is_quit (strip_carriage_return line) ≡ false → goes ≡ true → LineRan P C (one_line w ms (item_of (strip_carriage_return line))) old new site session left goes refused
-        → LinePassed P C w ms input rest old new site session left refused
-    line_passed session left goes refused not_quit on ran = record {
+    pub line_passed : (session : SessionView) (left : List ℕ) (goes : Bool) → is_quit (strip_carriage_return line) ≡ false → goes ≡ true → LineRan P C (one_line w ms (item_of (strip_carriage_return line))) old new site session left goes
+        → LinePassed P C w ms input rest old new site session left
+    line_passed session left goes not_quit on ran = record {
       line = line;
       took = took;
       not_quit = not_quit;
-      goes = goes_alone w ms (strip_carriage_return line) old new site session left goes refused ran ∙ on;
-      ran = ran_alone w ms (strip_carriage_return line) old new site session left goes refused ran;
+      goes = goes_alone w ms (strip_carriage_return line) old new site session left goes ran ∙ on;
+      ran = ran_alone w ms (strip_carriage_return line) old new site session left goes ran;
     }
 
-    pub line_ended : (session : SessionView) (left : List ℕ) (goes refused : Bool) → goes ≡ false → LineRan P C (one_line w ms (item_of (strip_carriage_return line))) old new site session left goes refused
-        → ScriptRan P C (script w ms (lines input)) old new site session left refused
-    line_ended session left goes refused off ran =
-        subst (λ (s : Outcome). ScriptRan P C s old new site session left refused)
-        (sym (ap (script w ms) (lines_first input rest line took) ∙ script_ended (strip_carriage_return line ∷ []) (lines rest) w ms (goes_alone w ms (strip_carriage_return line) old new site session left goes refused ran ∙ off)))
-        (ran_alone w ms (strip_carriage_return line) old new site session left goes refused ran)
+    pub line_ended : (session : SessionView) (left : List ℕ) (goes : Bool) → goes ≡ false → LineRan P C (one_line w ms (item_of (strip_carriage_return line))) old new site session left goes
+        → ScriptRan P C (script w ms (lines input)) old new site session left
+    line_ended session left goes off ran =
+        subst (λ (s : Outcome). ScriptRan P C s old new site session left)
+        (sym (ap (script w ms) (lines_first input rest line took) ∙ script_ended (strip_carriage_return line ∷ []) (lines rest) w ms (goes_alone w ms (strip_carriage_return line) old new site session left goes ran ∙ off)))
+        (ran_alone w ms (strip_carriage_return line) old new site session left goes ran)
 
     pub line_left : LineLeft P C w ms (item_of (strip_carriage_return line)) old new site → Left P C w ms (lines input) old new site
     unfolding IsStage
@@ -70,9 +70,9 @@ module _ {D E : Type 0} (P : Plant D) (C : Cell E) where
         (record { stage = left.stage; on_the_way = inl left.on_line; cell = left.cell; leaves = left.leaves })
 
   -- the last line
-  pub last_ran : (w : World) (ms input line : List ℕ) (old new : D) (site : E) (session : SessionView) (left : List ℕ) (refused : Bool) → TookPiece input [] line → 0 < length line → ScriptRan P C (script w ms (line ∷ [])) old new site session left refused
-      → ScriptRan P C (script w ms (lines input)) old new site session left refused
-  last_ran w ms input line old new site session left refused took some ran = subst (λ (ls : List (List ℕ)). ScriptRan P C (script w ms ls) old new site session left refused) (sym (lines_last input line took some)) ran
+  pub last_ran : (w : World) (ms input line : List ℕ) (old new : D) (site : E) (session : SessionView) (left : List ℕ) → TookPiece input [] line → 0 < length line → ScriptRan P C (script w ms (line ∷ [])) old new site session left
+      → ScriptRan P C (script w ms (lines input)) old new site session left
+  last_ran w ms input line old new site session left took some ran = subst (λ (ls : List (List ℕ)). ScriptRan P C (script w ms ls) old new site session left) (sym (lines_last input line took some)) ran
 
   pub last_left : (w : World) (ms input line : List ℕ) (old new : D) (site : E) → TookPiece input [] line → 0 < length line → LineLeft P C w ms (item_of line) old new site → Left P C w ms (lines input) old new site
   unfolding IsStage
@@ -83,12 +83,12 @@ module _ {D E : Type 0} (P : Plant D) (C : Cell E) where
   pub went_nothing : (w : World) (ms : List ℕ) (s : D) (site : E) (session : SessionView) (goes : Bool) → P.sound s → Fits P C w s site session → Went P C (nothing w ms goes) s s site session ms
   went_nothing w ms s site session goes sound fits = record { done = nothing_done P s sound; fits = fits; moments = refl }
 
-  pub no_lines_ran : (w : World) (ms : List ℕ) (s : D) (site : E) (session : SessionView) → P.sound s → FitsPlant P s → Fits P C w s site session → ScriptRan P C (script w ms []) s s site session ms false
+  pub no_lines_ran : (w : World) (ms : List ℕ) (s : D) (site : E) (session : SessionView) → P.sound s → FitsPlant P s → Fits P C w s site session → ScriptRan P C (script w ms []) s s site session ms
   unfolding script
-  no_lines_ran w ms s site session sound fits_plant fits = record { went = went_nothing w ms s site session true sound fits; leaves = nothing_left P [] s fits_plant; refused_is = refl }
+  no_lines_ran w ms s site session sound fits_plant fits = record { went = went_nothing w ms s site session true sound fits; leaves = nothing_left P [] s fits_plant }
 
-  pub nothing_ran : (w : World) (ms input : List ℕ) (s : D) (site : E) (session : SessionView) → input ≡ [] → P.sound s → FitsPlant P s → Fits P C w s site session → ScriptRan P C (script w ms (lines input)) s s site session ms false
-  nothing_ran w ms input s site session none sound fits_plant fits = subst (λ (l : List ℕ). ScriptRan P C (script w ms (lines l)) s s site session ms false) (sym none) (no_lines_ran w ms s site session sound fits_plant fits)
+  pub nothing_ran : (w : World) (ms input : List ℕ) (s : D) (site : E) (session : SessionView) → input ≡ [] → P.sound s → FitsPlant P s → Fits P C w s site session → ScriptRan P C (script w ms (lines input)) s s site session ms
+  nothing_ran w ms input s site session none sound fits_plant fits = subst (λ (l : List ℕ). ScriptRan P C (script w ms (lines l)) s s site session ms) (sym none) (no_lines_ran w ms s site session sound fits_plant fits)
 
   pub nothing_begun : (w : World) (ms : List ℕ) (lines : List (List ℕ)) (s : D) (site : E) (session : SessionView) → FitsPlant P s → Fits P C w s site session → Left P C w ms lines s s site
   nothing_begun w ms lines s site session fits_plant fits = record {

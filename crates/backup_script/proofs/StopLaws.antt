@@ -1,11 +1,11 @@
 -- A stop of a script's lines as the stop of its run.
-use Rattle.std.proofs.Common.{◌≡◌, ◌≢◌, ℕ, Bool, List, refl, sym, ap, subst, Result, Ok, Err}
+use Rattle.std.proofs.Common.{◌≡◌, ◌≢◌, ℕ, Bool, List, refl, ap, subst, Result, Err}
 use Rattle.crash_moments.specs.Moments.{HasCauseAt}
 use Rattle.backup_script.specs.declared.running.RunStop.{RunStop}
 use Rattle.backup_script.specs.declared.running.RunStop.TheVariants as runs
 use Rattle.backup_script.specs.declared.serving.ServeStop.{ServeStop}
 use Rattle.backup_script.specs.declared.serving.ServeStop.TheVariants as serves
-use Rattle.backup_script.specs.Running.{Took, TookTooMany, Takes}
+use Rattle.backup_script.specs.Running.{Took, Takes}
 use Rattle.backup_script.specs.Ended.{TakesBytes}
 
 serve_same : (e f : ServeStop) → ◌≡◌ {A = Result Bool ServeStop} (Err e) (Err f) → e ≡ f

@@ -3,8 +3,9 @@ use Rattle.std.specs.Prelude.{◌≡◌, ◌⊎◌, ℕ, ◌≤◌, List, [], �
 use Rattle.std.specs.Str.Lines.{lines, strip_carriage_return}
 use Rattle.plant_core.specs.declared.plant.Plant.{Ghosts as Plant}
 use Rattle.plant_core.specs.Effects.{Effect, tells}
-use Rattle.plant_effects.specs.Runs.{Done, Leaves}
+use Rattle.plant_effects.specs.Runs.{state_of, Done, Leaves}
 use Rattle.cell_core.specs.declared.cell.Cell.{Ghosts as Cell}
+use Rattle.backup_replies.specs.Texts.{has_refusal}
 use Rattle.backup_session.specs.Worlds.{World}
 use Rattle.backup_session.specs.Views.{SessionView}
 use Rattle.backup_session.specs.Fitting.{Fits}
@@ -16,6 +17,7 @@ use Rattle.backup_script.specs.declared.item.Item.{Item}
 use Rattle.backup_script.specs.declared.item.Item.TheVariants.{Silent, Quit, Runs, Refused}
 use Rattle.backup_script.specs.declared.serving.Passed.{Passed}
 use Rattle.backup_script.specs.Scripts.{Outcome, script, between, Stage, InsideTurn, OnLine, IsStage}
+use Rattle.backup_script.specs.Watching.{Watched, at_start, with_text}
 
 -- These effects were done, and plant, cell, session and clock are as they are behind them.
 pub record Went {D E : Type 0} (P : Plant D) (C : Cell E) (s : Outcome) (old new : D) (site : E) (session : SessionView) (left : List ℕ) : Type 0 where
@@ -45,14 +47,15 @@ pub record Took (old new : List ℕ) : Type 0 where
   pub is : old ≡ taken ++ new
   pub few : length taken ≤ 16777217
 
--- THE BYTES THAT ARE TAKEN: all, of which there are no more than a script may have; or those up to the line `quit`; at TooLong one more than
--- a script may have, and no line that was ended among them is `quit`.
+-- THE BYTES THAT ARE TAKEN: all, of which there are no more than a script may have; or those up to the line `quit` and its line feed; at
+-- TooLong one more than a script may have, and no line that was ended among them is `quit`.
 pub record TookAll (old new : List ℕ) : Type 0 where
   pub none_left : new ≡ []
   pub few : length old ≤ most_script
 
 pub record TookToQuit (old new : List ℕ) : Type 0 where
   pub took : Took old new
+  pub whole : ended took.taken ≡ took.taken
   pub quit : EndsAtQuit (lines took.taken)
 
 pub record TookTooMany (old new : List ℕ) : Type 0 where
@@ -74,14 +77,27 @@ pub record WentShort {D E : Type 0} (P : Plant D) (C : Cell E) (w : World) (ms i
   pub took : Took input rest
   pub went : Went P C (script w ms (lines (ended took.taken))) old new site session left
 
+-- WHAT WAS TOLD, whatever stood on the plant: this text, and it was said whether some line of it begins with `refused`.
+pub record HasTold {D : Type 0} (P : Plant D) (old new : D) (refused : Bool) : Type 0 where
+  pub text : List ℕ
+  pub told : (state_of P new).told ≡ (state_of P old).told ++ text
+  pub is : refused ≡ has_refusal text
+
 -- ---- inside the crate
 
--- All of a line was done, and this was said of it: whether the script goes on, and whether a line of its reply begins with `refused`.
-pub record LineRan {D E : Type 0} (P : Plant D) (C : Cell E) (s : Outcome) (old new : D) (site : E) (session : SessionView) (left : List ℕ) (goes refused : Bool) : Type 0 where
+-- What stands there is some world, and a watch was told all that was told behind these bytes.
+pub record IsWatched {D E : Type 0} (P : Plant D) (C : Cell E) (before : List ℕ) (plant : D) (site : E) (session : SessionView) (watch : Watched) : Type 0 where
+  pub world : World
+  pub fits : Fits P C world plant site session
+  pub text : List ℕ
+  pub told : (state_of P plant).told ≡ before ++ text
+  pub is : watch ≡ with_text at_start text
+
+-- All of a line was done, and it was said whether the script goes on.
+pub record LineRan {D E : Type 0} (P : Plant D) (C : Cell E) (s : Outcome) (old new : D) (site : E) (session : SessionView) (left : List ℕ) (goes : Bool) : Type 0 where
   pub went : Went P C s old new site session left
   pub leaves : Leaves P s.effects old new
   pub goes_is : goes ≡ s.goes
-  pub refused_is : refused ≡ s.refused
 
 -- a line was begun
 pub record LineLeft {D E : Type 0} (P : Plant D) (C : Cell E) (w : World) (ms : List ℕ) (item : Item) (old new : D) (site : E) : Type 0 where
@@ -107,19 +123,18 @@ goes_behind Quit = false
 goes_behind (Refused text) = true
 goes_behind (Runs command) = true
 
--- Lines were run whole, and this was said of them.
-pub record ScriptRan {D E : Type 0} (P : Plant D) (C : Cell E) (s : Outcome) (old new : D) (site : E) (session : SessionView) (left : List ℕ) (refused : Bool) : Type 0 where
+-- Lines were run whole.
+pub record ScriptRan {D E : Type 0} (P : Plant D) (C : Cell E) (s : Outcome) (old new : D) (site : E) (session : SessionView) (left : List ℕ) : Type 0 where
   pub went : Went P C s old new site session left
   pub leaves : Leaves P s.effects old new
-  pub refused_is : refused ≡ s.refused
 
 -- a line that was ended was run, and the script goes on behind it
-pub record LinePassed {D E : Type 0} (P : Plant D) (C : Cell E) (w : World) (ms input rest : List ℕ) (old new : D) (site : E) (session : SessionView) (left : List ℕ) (refused : Bool) : Type 0 where
+pub record LinePassed {D E : Type 0} (P : Plant D) (C : Cell E) (w : World) (ms input rest : List ℕ) (old new : D) (site : E) (session : SessionView) (left : List ℕ) : Type 0 where
   pub line : List ℕ
   pub took : TookPiece input (10 ∷ rest) line
   pub not_quit : is_quit (strip_carriage_return line) ≡ false
   pub goes : (script w ms (strip_carriage_return line ∷ [])).goes ≡ true
-  pub ran : ScriptRan P C (script w ms (strip_carriage_return line ∷ [])) old new site session left refused
+  pub ran : ScriptRan P C (script w ms (strip_carriage_return line ∷ [])) old new site session left
 
 -- what was taken of a source, by what is known of it
 abbrev pub TookOn : List ℕ → List ℕ → Type 0

@@ -1,9 +1,8 @@
 -- THE SCRIPT: what its lines make of a world, one after the other. Nothing here names a single command.
-use Rattle.std.specs.Prelude.{◌≡◌, ◌⊎◌, ℕ, List, [], ◌∷◌, ◌++◌, Bool, true, false, ◌||◌, if◌then◌else◌}
+use Rattle.std.specs.Prelude.{◌≡◌, ◌⊎◌, ℕ, List, [], ◌∷◌, ◌++◌, Bool, true, false, if◌then◌else◌}
 use Rattle.media_core.specs.Later.{later}
 use Rattle.plant_core.specs.Effects.{Effect, tells}
 use Rattle.cell_core.specs.declared.stored.Stored.{Stored}
-use Rattle.backup_replies.specs.Texts.{has_refusal}
 use Rattle.backup_session.specs.Worlds.{World, Turn, with_told, after_turn}
 use Rattle.backup_session.specs.Machine.{turn}
 use Rattle.backup_session.specs.Fitting.{OnTheWay}
@@ -17,25 +16,24 @@ first_of [] = 0
 first_of (m ∷ ms) = m
 
 -- What comes of lines: the effects on the plant, each reply told among them; the world behind them; the moments of the clock that are left;
--- whether the script goes on; and whether some line of a reply begins with `refused`.
+-- and whether the script goes on.
 pub record Outcome : Type 0 where
   pub effects : List Effect
   pub world : World
   pub moments : List ℕ
   pub goes : Bool
-  pub refused : Bool
 
 -- nothing comes of it
 abbrev pub nothing : World → List ℕ → Bool → Outcome
-nothing w ms goes = record { effects = []; world = w; moments = ms; goes = goes; refused = false }
+nothing w ms goes = record { effects = []; world = w; moments = ms; goes = goes }
 
 -- A line that is refused for its words uses a moment, and leaves the session's time.
 abbrev pub refusal_told : World → List ℕ → List ℕ → Outcome
-refusal_told w ms text = record { effects = tells text ∷ []; world = with_told w text; moments = later ms; goes = true; refused = has_refusal text }
+refusal_told w ms text = record { effects = tells text ∷ []; world = with_told w text; moments = later ms; goes = true }
 
 -- a command at the next moment: its reply is told behind all its other effects
 abbrev pub command_told : World → List ℕ → Turn → Outcome
-command_told w ms t = record { effects = t.effects ++ tells t.reply ∷ []; world = after_turn w t; moments = later ms; goes = true; refused = has_refusal t.reply }
+command_told w ms t = record { effects = t.effects ++ tells t.reply ∷ []; world = after_turn w t; moments = later ms; goes = true }
 
 -- A line without a reply uses no moment.
 abbrev pub one_line : World → List ℕ → Item → Outcome
@@ -46,7 +44,7 @@ one_line w ms (Runs command) = command_told w ms (turn w (first_of ms) command)
 
 -- one behind the other
 abbrev pub then_outcome : Outcome → Outcome → Outcome
-then_outcome s t = record t { effects = s.effects ++ t.effects; refused = s.refused || t.refused }
+then_outcome s t = record t { effects = s.effects ++ t.effects }
 
 -- WHAT COMES OF ALL LINES, up to the first that is `quit`.
 unfoldable pub script : World → List ℕ → List (List ℕ) → Outcome

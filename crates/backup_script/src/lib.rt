@@ -8,6 +8,7 @@ mod next_line;
 mod running;
 mod serve;
 mod serving;
+mod watch;
 
 pub use item::Item;
 pub use laws::{fronts_of_scripts, scripts_that_ask_no_archive};

@@ -1,19 +1,19 @@
 //! Running the next line of a script.
 
-ghost use Rattle.std.specs.Prelude.{◌≡◌, ◌≢◌, ◌⊎◌, ◌+◌, ◌<◌, ◌≤◌, ℕ, List as AnyList, [], ◌∷◌, length, not, true, false, Err, IfOk, OnOk, OnErr, All};
+ghost use Rattle.std.specs.Prelude.{◌≡◌, ◌≢◌, ◌+◌, ◌<◌, ◌≤◌, ℕ, List as AnyList, [], ◌∷◌, length, true, false, Err, IfOk, OnOk, OnErr};
 ghost use Rattle.std.specs.Str.Lines.{lines, strip_carriage_return};
 ghost use Rattle.crash_moments.specs.Moments.{HasCauseAt};
 ghost use Rattle.plant_effects.specs.Runs.{Stays};
 ghost use Rattle.backup_session.specs.Worlds.{World};
 ghost use Rattle.backup_session.specs.Fitting.{Fits};
-ghost use Rattle.backup_script.specs.Lines.{is_feed, is_quit, TookPiece};
 ghost use Rattle.backup_script.specs.Items.{item_of};
-ghost use Rattle.backup_script.specs.Scripts.{nothing, one_line, script};
+ghost use Rattle.backup_script.specs.Scripts.{nothing, script};
 ghost use Rattle.backup_script.specs.Held.{HeldForLine, IsHeldThroughout};
-ghost use Rattle.backup_script.specs.Running.{Went, Left, LineRan, LineLeft, ScriptRan, LinePassed, TakesNext};
+ghost use Rattle.backup_script.specs.Running.{Went, Left, LineLeft, ScriptRan, LinePassed, TakesNext, IsWatched};
 
 use crate::lines::{LineStop, Next, take_line};
 use crate::serving::{Passed, ServeStop, run_line};
+use crate::watch::Watch;
 use backup_session::Session;
 use cell_core::Cell;
 use media_core::{Clock, Source};
@@ -53,12 +53,14 @@ fn run_last<P: Plant, C: Cell, K: Clock>(
     plant: &mut P,
     cell: &mut C,
     clock: &mut K,
+    watch: &mut Watch,
     line: &[u8],
 ) -> Result<Passed, ServeStop>
     requires { P.sound plant.old }
     ensures sound { OnOk result (P.sound plant.new) }
     ensures ran { P.tells → C.tells → K.tells → (w : World) → Fits P.Plant C.Cell w plant.old cell.old session.old
-        → HeldForLine w (K.moments clock.old) (item_of line.now) → IfOk result (λ passed. ScriptRan P.Plant C.Cell (script w (K.moments clock.old) (line.now ∷ [])) plant.old plant.new cell.new session.new (K.moments clock.new) passed.refused) }
+        → HeldForLine w (K.moments clock.old) (item_of line.now) → OnOk result (ScriptRan P.Plant C.Cell (script w (K.moments clock.old) (line.now ∷ [])) plant.old plant.new cell.new session.new (K.moments clock.new)) }
+    ensures watched { P.tells → C.tells → (before : AnyList ℕ) → IsWatched P.Plant C.Cell before plant.old cell.old session.old watch.old → OnOk result (IsWatched P.Plant C.Cell before plant.new cell.new session.new watch.new) }
     ensures left { P.tells → C.tells → K.tells → (w : World) → Fits P.Plant C.Cell w plant.old cell.old session.old → HeldForLine w (K.moments clock.old) (item_of line.now) → OnErr result (LineLeft P.Plant C.Cell w (K.moments clock.old) (item_of line.now) plant.old plant.new cell.new) }
     ensures ends { IfOk result (λ passed. passed.goes ≡ false) }
     ensures stays { Stays P.Plant plant.old plant.new }
@@ -68,11 +70,8 @@ fn run_last<P: Plant, C: Cell, K: Clock>(
     ensures no_read { result ≢ Err ServeStop.Read }
     ensures no_long { result ≢ Err ServeStop.TooLong }
 {
-    match run_line(session, alloc, plant, cell, clock, line) {
-        Ok(passed) => Ok(Passed {
-            goes: false,
-            refused: passed.refused,
-        }),
+    match run_line(session, alloc, plant, cell, clock, watch, line) {
+        Ok(_) => Ok(Passed { goes: false }),
         Err(stop) => Err(stop),
     }
 }
@@ -84,6 +83,7 @@ pub fn serve_line<P: Plant, C: Cell, K: Clock, S: Source>(
     plant: &mut P,
     cell: &mut C,
     clock: &mut K,
+    watch: &mut Watch,
     source: &mut S,
     taken: &mut usize,
 ) -> Result<Passed, ServeStop>
@@ -91,10 +91,11 @@ pub fn serve_line<P: Plant, C: Cell, K: Clock, S: Source>(
     requires few { taken.old ≤ 16777217 }
     ensures sound { OnOk result (P.sound plant.new) }
     ensures passed { P.tells → C.tells → K.tells → S.tells → (w : World) → Fits P.Plant C.Cell w plant.old cell.old session.old
-        → IsHeldThroughout w (K.moments clock.old) (lines (S.left source.old)) → IfOk result (λ passed. passed.goes ≡ true → LinePassed P.Plant C.Cell w (K.moments clock.old) (S.left source.old) (S.left source.new) plant.old plant.new cell.new session.new (K.moments clock.new) passed.refused) }
+        → IsHeldThroughout w (K.moments clock.old) (lines (S.left source.old)) → IfOk result (λ passed. passed.goes ≡ true → LinePassed P.Plant C.Cell w (K.moments clock.old) (S.left source.old) (S.left source.new) plant.old plant.new cell.new session.new (K.moments clock.new)) }
     ensures ended { P.tells → C.tells → K.tells → S.tells → (w : World) → Fits P.Plant C.Cell w plant.old cell.old session.old
-        → IsHeldThroughout w (K.moments clock.old) (lines (S.left source.old)) → IfOk result (λ passed. passed.goes ≡ false → ScriptRan P.Plant C.Cell (script w (K.moments clock.old) (lines (S.left source.old))) plant.old plant.new cell.new session.new (K.moments clock.new) passed.refused) }
+        → IsHeldThroughout w (K.moments clock.old) (lines (S.left source.old)) → IfOk result (λ passed. passed.goes ≡ false → ScriptRan P.Plant C.Cell (script w (K.moments clock.old) (lines (S.left source.old))) plant.old plant.new cell.new session.new (K.moments clock.new)) }
     ensures left { P.tells → C.tells → K.tells → S.tells → (w : World) → Fits P.Plant C.Cell w plant.old cell.old session.old → IsHeldThroughout w (K.moments clock.old) (lines (S.left source.old)) → OnErr result (Left P.Plant C.Cell w (K.moments clock.old) (lines (S.left source.old)) plant.old plant.new cell.new) }
+    ensures watched { P.tells → C.tells → (before : AnyList ℕ) → IsWatched P.Plant C.Cell before plant.old cell.old session.old watch.old → OnOk result (IsWatched P.Plant C.Cell before plant.new cell.new session.new watch.new) }
     ensures read_short { P.tells → C.tells → K.tells → (w : World) → Fits P.Plant C.Cell w plant.old cell.old session.old → result ≡ Err ServeStop.Read → Went P.Plant C.Cell (nothing w (K.moments clock.old) true) plant.old plant.new cell.new session.new (K.moments clock.new) }
     ensures long_short { P.tells → C.tells → K.tells → (w : World) → Fits P.Plant C.Cell w plant.old cell.old session.old → result ≡ Err ServeStop.TooLong → Went P.Plant C.Cell (nothing w (K.moments clock.old) true) plant.old plant.new cell.new session.new (K.moments clock.new) }
     ensures took { S.tells → TakesNext (S.left source.old) (S.left source.new) taken.new result }
@@ -115,13 +116,13 @@ pub fn serve_line<P: Plant, C: Cell, K: Clock, S: Source>(
             plant,
             cell,
             clock,
+            watch,
             without_return(line.as_slice()),
         ),
-        Ok(Next::Last(line)) => run_last(session, alloc, plant, cell, clock, line.as_slice()),
-        Ok(Next::End) => Ok(Passed {
-            goes: false,
-            refused: false,
-        }),
+        Ok(Next::Last(line)) => {
+            run_last(session, alloc, plant, cell, clock, watch, line.as_slice())
+        }
+        Ok(Next::End) => Ok(Passed { goes: false }),
         Err(stop) => Err(stop_of(stop)),
     }
 }

@@ -8,11 +8,13 @@ ghost use Rattle.budb_changes.specs.declared.change.Change.{Change as AnyChange}
 ghost use Rattle.budb_changes.specs.Bytes.{encoded};
 ghost use Rattle.budb_changes.specs.Forms.{AreChanges, IsLog};
 ghost use Rattle.plant_core.specs.Crashes.{IsSettled};
+ghost use Rattle.plant_core.specs.Effects.{told_by};
 ghost use Rattle.plant_effects.specs.Runs.{state_of, Done, Stays};
+ghost use Rattle.backup_replies.specs.Texts.{has_refusal};
 ghost use Rattle.backup_session.specs.Worlds.{Contents};
 ghost use Rattle.backup_script.specs.Scripts.{script};
 ghost use Rattle.backup_script.specs.Held.{IsHeldThroughout};
-ghost use Rattle.backup_script.specs.Running.{Left};
+ghost use Rattle.backup_script.specs.Running.{Left, HasTold};
 ghost use Rattle.backup_script.specs.Ended.{world_on, Ends, EndsShort, TakesBytes, IsRefusedLog};
 
 use crate::serve::run_script;
@@ -92,8 +94,8 @@ fn serving_stop(stop: ServeStop) -> RunStop
     }
 }
 
-/// Runs a script on a plant and a cell: the session is opened, then line after line is run. It says whether some line of a reply begins
-/// with `refused`.
+/// Runs a script on a plant and a cell: the session is opened, then line after line is run. It says whether some line that was
+/// told begins with `refused`.
 pub fn run_on<P: Plant, C: Cell, K: Clock, S: Source>(
     alloc: Global,
     config: Config,
@@ -107,7 +109,7 @@ pub fn run_on<P: Plant, C: Cell, K: Clock, S: Source>(
     // All lines were run; cut short by a read or the limit, those that were ended.
     ensures ran { P.tells → C.tells → K.tells → S.tells → IsSettled (state_of P.Plant plant.old) → (log : AnyList AnyChange) → AreChanges log → (state_of P.Plant plant.old).log ≡ encoded log
         → (contents : Contents) → let w = world_on P.Plant C.Cell config log contents plant.old cell.old in let s = script w (K.moments clock.old) (lines (S.left source.old)) in
-        IsHeldThroughout w (K.moments clock.old) (lines (S.left source.old)) → IfOk result (λ refused. Ends P.Plant C.Cell s plant.old plant.new cell.new (K.moments clock.new) × (refused ≡ s.refused)) }
+        IsHeldThroughout w (K.moments clock.old) (lines (S.left source.old)) → IfOk result (λ refused. Ends P.Plant C.Cell s plant.old plant.new cell.new (K.moments clock.new) × (refused ≡ has_refusal (told_by s.effects))) }
     ensures read_short { P.tells → C.tells → K.tells → S.tells → IsSettled (state_of P.Plant plant.old) → (log : AnyList AnyChange) → AreChanges log → (state_of P.Plant plant.old).log ≡ encoded log
         → (contents : Contents) → let w = world_on P.Plant C.Cell config log contents plant.old cell.old in
         IsHeldThroughout w (K.moments clock.old) (lines (S.left source.old)) → result ≡ Err RunStop.Read → EndsShort P.Plant C.Cell w (K.moments clock.old) (S.left source.old) (S.left source.new) plant.old plant.new cell.new (K.moments clock.new) }
@@ -118,15 +120,21 @@ pub fn run_on<P: Plant, C: Cell, K: Clock, S: Source>(
     ensures left { P.tells → C.tells → K.tells → S.tells → IsSettled (state_of P.Plant plant.old) → (log : AnyList AnyChange) → AreChanges log → (state_of P.Plant plant.old).log ≡ encoded log
         → (contents : Contents) → let w = world_on P.Plant C.Cell config log contents plant.old cell.old in
         IsHeldThroughout w (K.moments clock.old) (lines (S.left source.old)) → Left P.Plant C.Cell w (K.moments clock.old) (lines (S.left source.old)) plant.old plant.new cell.new }
+    // Whatever stood on the plant, it is said of what was told whether some line begins with `refused`.
+    ensures flag { P.tells → C.tells → IsSettled (state_of P.Plant plant.old) → IfOk result (λ refused. HasTold P.Plant plant.old plant.new refused) }
     ensures takes { S.tells → TakesBytes (S.left source.old) (S.left source.new) result }
     ensures stays { Stays P.Plant plant.old plant.new }
 
     // A log that is no list of changes is refused, and then nothing has changed.
     ensures bad_log { P.tells → (at : ℕ) → result ≡ Err (RunStop.BadLog at) → FailsAt IsLog (state_of P.Plant plant.old).log at }
-    ensures only_bad_log { P.tells → C.tells → (IsLog (state_of P.Plant plant.old).log → ⊥) → IsRefusedLog result }
+    ensures only_bad_log { P.tells → (IsLog (state_of P.Plant plant.old).log → ⊥) → IsRefusedLog result }
     ensures bad_log_done { (at : ℕ) → result ≡ Err (RunStop.BadLog at) → Done P.Plant [] plant.old plant.new }
-    ensures bad_log_cell { C.tells → (at : ℕ) → result ≡ Err (RunStop.BadLog at) → C.list cell.new ≡ C.list cell.old }
+    ensures bad_log_cell { (at : ℕ) → result ≡ Err (RunStop.BadLog at) → cell.new ≡ cell.old }
     ensures bad_log_clock { (at : ℕ) → result ≡ Err (RunStop.BadLog at) → (clock.new ≡ clock.old) × (source.new ≡ source.old) }
+
+    ensures refused_log_done { P.tells → (IsLog (state_of P.Plant plant.old).log → ⊥) → result ≢ Err RunStop.Plant → Done P.Plant [] plant.old plant.new }
+    ensures refused_log_cell { P.tells → (IsLog (state_of P.Plant plant.old).log → ⊥) → cell.new ≡ cell.old }
+    ensures refused_log_clock { P.tells → (IsLog (state_of P.Plant plant.old).log → ⊥) → (clock.new ≡ clock.old) × (source.new ≡ source.old) }
 
     // Each fault has its cause.
     ensures plant_cause { HasCauseAt RunStop.Plant (P.view plant.old).faults (P.view plant.new).faults result }

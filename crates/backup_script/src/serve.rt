@@ -1,6 +1,6 @@
 //! The loop over a script.
 
-ghost use Rattle.std.specs.Prelude.{◌≡◌, ℕ, List as AnyList, Err, IfOk, OnOk};
+ghost use Rattle.std.specs.Prelude.{◌≡◌, Err, IfOk, OnOk};
 ghost use Rattle.std.specs.Str.Lines.{lines};
 ghost use Rattle.crash_moments.specs.Moments.{HasCauseAt};
 ghost use Rattle.plant_effects.specs.Runs.{Stays};
@@ -8,11 +8,12 @@ ghost use Rattle.backup_session.specs.Worlds.{World};
 ghost use Rattle.backup_session.specs.Fitting.{Fits};
 ghost use Rattle.backup_script.specs.Scripts.{script};
 ghost use Rattle.backup_script.specs.Held.{IsHeldThroughout};
-ghost use Rattle.backup_script.specs.Running.{Left, ScriptRan, WentShort, Takes};
+ghost use Rattle.backup_script.specs.Running.{Left, ScriptRan, WentShort, Takes, HasTold};
 
 use crate::lines::MOST;
 use crate::next_line::serve_line;
 use crate::serving::ServeStop;
+use crate::watch::Watch;
 use backup_session::Session;
 use cell_core::Cell;
 use media_core::{Clock, Source};
@@ -20,7 +21,7 @@ use plant_core::Plant;
 use std::alloc::Global;
 
 /// Runs a script, line by line: each line is run as soon as it is complete, and its whole reply is told before the next one. It says
-/// whether some line of a reply begins with `refused`. A line `quit` ends the script, and nothing behind it is read. A line that no line
+/// whether some line that was told begins with `refused`. A line `quit` ends the script, and nothing behind it is read. A line that no line
 /// feed ended isn't run where a read failed or the script is too long.
 ///
 /// A script is too long exactly where it gives more than 16,777,216 bytes with no end and no `quit` (this project's own limit); one byte
@@ -38,7 +39,9 @@ pub fn run_script<P: Plant, C: Cell, K: Clock, S: Source>(
 
     // All lines were run.
     ensures ran { P.tells → C.tells → K.tells → S.tells → (w : World) → Fits P.Plant C.Cell w plant.old cell.old session.old
-        → IsHeldThroughout w (K.moments clock.old) (lines (S.left source.old)) → IfOk result (λ refused. ScriptRan P.Plant C.Cell (script w (K.moments clock.old) (lines (S.left source.old))) plant.old plant.new cell.new session.new (K.moments clock.new) refused) }
+        → IsHeldThroughout w (K.moments clock.old) (lines (S.left source.old)) → OnOk result (ScriptRan P.Plant C.Cell (script w (K.moments clock.old) (lines (S.left source.old))) plant.old plant.new cell.new session.new (K.moments clock.new)) }
+    // Whatever stood on the plant, it is said of what was told whether some line begins with `refused`.
+    ensures flag { P.tells → C.tells → (w : World) → Fits P.Plant C.Cell w plant.old cell.old session.old → IfOk result (λ refused. HasTold P.Plant plant.old plant.new refused) }
     // Cut short by a read or the limit, the lines that were ended were run.
     ensures read_short { P.tells → C.tells → K.tells → S.tells → (w : World) → Fits P.Plant C.Cell w plant.old cell.old session.old
         → IsHeldThroughout w (K.moments clock.old) (lines (S.left source.old)) → result ≡ Err ServeStop.Read → WentShort P.Plant C.Cell w (K.moments clock.old) (S.left source.old) (S.left source.new) plant.old plant.new cell.new session.new (K.moments clock.new) }
@@ -57,14 +60,15 @@ pub fn run_script<P: Plant, C: Cell, K: Clock, S: Source>(
     ensures read_cause { HasCauseAt ServeStop.Read (S.faults source.old) (S.faults source.new) result }
 {
     let mut taken = 0;
-    let mut refused = false;
+    let mut watch = Watch::new();
     while taken <= MOST {
-        match serve_line(session, alloc, plant, cell, clock, source, &mut taken) {
+        match serve_line(
+            session, alloc, plant, cell, clock, &mut watch, source, &mut taken,
+        ) {
             Err(stop) => return Err(stop),
             Ok(passed) => {
-                refused = refused || passed.refused;
                 if !passed.goes {
-                    return Ok(refused);
+                    return Ok(watch.refused());
                 }
             }
         }

@@ -1,12 +1,10 @@
 //! Running a script: each line is run as soon as it is complete, and its whole reply is told before the next one.
 
 ghost use Rattle.std.specs.Prelude.{◌≡◌, ◌≢◌, [], ◌∷◌, ℕ, List as AnyList, not, true, Err, IfOk, OnOk, OnErr};
-ghost use Rattle.std.specs.Str.Lines.{strip_carriage_return};
-ghost use Rattle.crash_moments.specs.Moments.{HasCause, HasCauseAt};
+ghost use Rattle.crash_moments.specs.Moments.{HasCauseAt};
 ghost use Rattle.media_core.specs.Later.{later};
 ghost use Rattle.plant_core.specs.Effects.{tells};
 ghost use Rattle.plant_effects.specs.Runs.{Done, Leaves, SameNumbers, Stays, StaysTelling};
-ghost use Rattle.backup_replies.specs.Texts.{has_refusal as text_has_refusal};
 ghost use Rattle.backup_session.specs.Worlds.{World, at_moment};
 ghost use Rattle.backup_session.specs.Machine.{turn};
 ghost use Rattle.backup_session.specs.Fitting.{Fits};
@@ -15,10 +13,11 @@ ghost use Rattle.backup_script.specs.Lines.{is_quit};
 ghost use Rattle.backup_script.specs.Items.{item_of};
 ghost use Rattle.backup_script.specs.Scripts.{first_of, one_line, command_told};
 ghost use Rattle.backup_script.specs.Held.{HeldForLine};
-ghost use Rattle.backup_script.specs.Running.{LineRan, LineLeft, TurnLeft, goes_behind};
+ghost use Rattle.backup_script.specs.Watching.{with_text};
+ghost use Rattle.backup_script.specs.Running.{LineRan, LineLeft, TurnLeft, IsWatched, goes_behind};
 
 use crate::item::{Item, read_item};
-use backup_replies::has_refusal;
+use crate::watch::Watch;
 use backup_session::{Session, Stop};
 use backup_words::Command;
 use cell_core::Cell;
@@ -56,8 +55,6 @@ pub enum ServeStop {
 pub struct Passed {
     /// Whether the script goes on.
     pub goes: bool,
-    /// Whether a line of its reply begins with `refused`.
-    pub refused: bool,
 }
 
 fn stop_of(stop: Stop) -> ServeStop
@@ -76,19 +73,21 @@ fn stop_of(stop: Stop) -> ServeStop
     }
 }
 
-/// Executes a command and tells its reply. True where a line of the reply begins with `refused`.
+/// Executes a command and tells its reply, to a watch too.
 fn run_command<P: Plant, C: Cell>(
     session: &mut Session,
     alloc: Global,
     plant: &mut P,
     cell: &mut C,
+    watch: &mut Watch,
     now: u64,
     command: &Command,
-) -> Result<bool, ServeStop>
+) -> Result<(), ServeStop>
     requires { P.sound plant.old }
     ensures sound { OnOk result (P.sound plant.new) }
     ensures went { P.tells → C.tells → (w : World) → Fits P.Plant C.Cell w plant.old cell.old session.old
-        → HeldFor (at_moment w now) command.now → (ms : AnyList ℕ) → IfOk result (λ refused. LineRan P.Plant C.Cell (command_told w ms (turn w now command.now)) plant.old plant.new cell.new session.new (later ms) true refused) }
+        → HeldFor (at_moment w now) command.now → (ms : AnyList ℕ) → OnOk result (LineRan P.Plant C.Cell (command_told w ms (turn w now command.now)) plant.old plant.new cell.new session.new (later ms) true) }
+    ensures watched { P.tells → C.tells → (before : AnyList ℕ) → IsWatched P.Plant C.Cell before plant.old cell.old session.old watch.old → OnOk result (IsWatched P.Plant C.Cell before plant.new cell.new session.new watch.new) }
     ensures left { P.tells → C.tells → (w : World) → Fits P.Plant C.Cell w plant.old cell.old session.old → HeldFor (at_moment w now) command.now → OnErr result (TurnLeft P.Plant C.Cell w (turn w now command.now) plant.old plant.new cell.new) }
     ensures stays { Stays P.Plant plant.old plant.new }
     ensures plant_cause { HasCauseAt ServeStop.Plant (P.view plant.old).faults (P.view plant.new).faults result }
@@ -98,18 +97,25 @@ fn run_command<P: Plant, C: Cell>(
     ensures no_long { result ≢ Err ServeStop.TooLong }
 {
     match session.exec(alloc, plant, cell, now, command) {
-        Ok(reply) => match tell_whole(plant, reply.text()) {
-            Ok(()) => Ok(reply.refused()),
-            Err(_) => Err(ServeStop::Output),
-        },
+        Ok(reply) => {
+            let text = reply.text();
+            match tell_whole(plant, text) {
+                Ok(()) => {
+                    watch.watch(text);
+                    Ok(())
+                }
+                Err(_) => Err(ServeStop::Output),
+            }
+        }
         Err(stop) => Err(stop_of(stop)),
     }
 }
 
-/// Tells the reply to a line that is refused for its words. It uses a moment of the clock.
+/// Tells the reply to a line that is refused for its words, to a watch too. It uses a moment of the clock.
 fn tell_refusal<P: Plant, K: Clock>(
     plant: &mut P,
     clock: &mut K,
+    watch: &mut Watch,
     text: &[u8],
 ) -> Result<Passed, ServeStop>
     requires { P.sound plant.old }
@@ -117,17 +123,18 @@ fn tell_refusal<P: Plant, K: Clock>(
     ensures leaves { Leaves P.Plant (tells text.now ∷ []) plant.old plant.new }
     ensures numbers { OnOk result (SameNumbers P.Plant plant.old plant.new) }
     ensures clock { K.tells → K.moments clock.new ≡ later (K.moments clock.old) }
-    ensures passed { IfOk result (λ passed. (passed.goes ≡ true) × (passed.refused ≡ text_has_refusal text.now)) }
+    ensures goes { IfOk result (λ passed. passed.goes ≡ true) }
+    ensures watched { OnOk result (watch.new ≡ with_text watch.old text.now) }
     ensures stays { StaysTelling P.Plant plant.old plant.new }
     ensures output_cause { HasCauseAt ServeStop.Output (P.view plant.old).tell_faults (P.view plant.new).tell_faults result }
     ensures only { OnErr result (result ≡ Err ServeStop.Output) }
 {
     let _now = clock.now();
     match tell_whole(plant, text) {
-        Ok(()) => Ok(Passed {
-            goes: true,
-            refused: has_refusal(text),
-        }),
+        Ok(()) => {
+            watch.watch(text);
+            Ok(Passed { goes: true })
+        }
         Err(_) => Err(ServeStop::Output),
     }
 }
@@ -139,12 +146,14 @@ fn run_next<P: Plant, C: Cell, K: Clock>(
     plant: &mut P,
     cell: &mut C,
     clock: &mut K,
+    watch: &mut Watch,
     command: &Command,
 ) -> Result<Passed, ServeStop>
     requires { P.sound plant.old }
     ensures sound { OnOk result (P.sound plant.new) }
     ensures went { P.tells → C.tells → K.tells → (w : World) → Fits P.Plant C.Cell w plant.old cell.old session.old
-        → HeldFor (at_moment w (first_of (K.moments clock.old))) command.now → IfOk result (λ passed. LineRan P.Plant C.Cell (command_told w (K.moments clock.old) (turn w (first_of (K.moments clock.old)) command.now)) plant.old plant.new cell.new session.new (K.moments clock.new) passed.goes passed.refused) }
+        → HeldFor (at_moment w (first_of (K.moments clock.old))) command.now → IfOk result (λ passed. LineRan P.Plant C.Cell (command_told w (K.moments clock.old) (turn w (first_of (K.moments clock.old)) command.now)) plant.old plant.new cell.new session.new (K.moments clock.new) passed.goes) }
+    ensures watched { P.tells → C.tells → (before : AnyList ℕ) → IsWatched P.Plant C.Cell before plant.old cell.old session.old watch.old → OnOk result (IsWatched P.Plant C.Cell before plant.new cell.new session.new watch.new) }
     ensures left { P.tells → C.tells → K.tells → (w : World) → Fits P.Plant C.Cell w plant.old cell.old session.old
         → HeldFor (at_moment w (first_of (K.moments clock.old))) command.now → OnErr result (TurnLeft P.Plant C.Cell w (turn w (first_of (K.moments clock.old)) command.now) plant.old plant.new cell.new) }
     ensures goes { IfOk result (λ passed. passed.goes ≡ true) }
@@ -156,11 +165,8 @@ fn run_next<P: Plant, C: Cell, K: Clock>(
     ensures no_long { result ≢ Err ServeStop.TooLong }
 {
     let now = clock.now();
-    match run_command(session, alloc, plant, cell, now, command) {
-        Ok(refused) => Ok(Passed {
-            goes: true,
-            refused,
-        }),
+    match run_command(session, alloc, plant, cell, watch, now, command) {
+        Ok(()) => Ok(Passed { goes: true }),
         Err(stop) => Err(stop),
     }
 }
@@ -172,12 +178,14 @@ fn run_item<P: Plant, C: Cell, K: Clock>(
     plant: &mut P,
     cell: &mut C,
     clock: &mut K,
+    watch: &mut Watch,
     item: Item,
 ) -> Result<Passed, ServeStop>
     requires { P.sound plant.old }
     ensures sound { OnOk result (P.sound plant.new) }
     ensures went { P.tells → C.tells → K.tells → (w : World) → Fits P.Plant C.Cell w plant.old cell.old session.old
-        → HeldForLine w (K.moments clock.old) item → IfOk result (λ passed. LineRan P.Plant C.Cell (one_line w (K.moments clock.old) item) plant.old plant.new cell.new session.new (K.moments clock.new) passed.goes passed.refused) }
+        → HeldForLine w (K.moments clock.old) item → IfOk result (λ passed. LineRan P.Plant C.Cell (one_line w (K.moments clock.old) item) plant.old plant.new cell.new session.new (K.moments clock.new) passed.goes) }
+    ensures watched { P.tells → C.tells → (before : AnyList ℕ) → IsWatched P.Plant C.Cell before plant.old cell.old session.old watch.old → OnOk result (IsWatched P.Plant C.Cell before plant.new cell.new session.new watch.new) }
     ensures left { P.tells → C.tells → K.tells → (w : World) → Fits P.Plant C.Cell w plant.old cell.old session.old → HeldForLine w (K.moments clock.old) item → OnErr result (LineLeft P.Plant C.Cell w (K.moments clock.old) item plant.old plant.new cell.new) }
     ensures goes { IfOk result (λ passed. passed.goes ≡ goes_behind item) }
     ensures stays { Stays P.Plant plant.old plant.new }
@@ -188,16 +196,10 @@ fn run_item<P: Plant, C: Cell, K: Clock>(
     ensures no_long { result ≢ Err ServeStop.TooLong }
 {
     match item {
-        Item::Silent => Ok(Passed {
-            goes: true,
-            refused: false,
-        }),
-        Item::Quit => Ok(Passed {
-            goes: false,
-            refused: false,
-        }),
-        Item::Refused(text) => tell_refusal(plant, clock, text.as_slice()),
-        Item::Runs(command) => run_next(session, alloc, plant, cell, clock, &command),
+        Item::Silent => Ok(Passed { goes: true }),
+        Item::Quit => Ok(Passed { goes: false }),
+        Item::Refused(text) => tell_refusal(plant, clock, watch, text.as_slice()),
+        Item::Runs(command) => run_next(session, alloc, plant, cell, clock, watch, &command),
     }
 }
 
@@ -208,12 +210,14 @@ pub fn run_line<P: Plant, C: Cell, K: Clock>(
     plant: &mut P,
     cell: &mut C,
     clock: &mut K,
+    watch: &mut Watch,
     line: &[u8],
 ) -> Result<Passed, ServeStop>
     requires { P.sound plant.old }
     ensures sound { OnOk result (P.sound plant.new) }
     ensures went { P.tells → C.tells → K.tells → (w : World) → Fits P.Plant C.Cell w plant.old cell.old session.old
-        → HeldForLine w (K.moments clock.old) (item_of line.now) → IfOk result (λ passed. LineRan P.Plant C.Cell (one_line w (K.moments clock.old) (item_of line.now)) plant.old plant.new cell.new session.new (K.moments clock.new) passed.goes passed.refused) }
+        → HeldForLine w (K.moments clock.old) (item_of line.now) → IfOk result (λ passed. LineRan P.Plant C.Cell (one_line w (K.moments clock.old) (item_of line.now)) plant.old plant.new cell.new session.new (K.moments clock.new) passed.goes) }
+    ensures watched { P.tells → C.tells → (before : AnyList ℕ) → IsWatched P.Plant C.Cell before plant.old cell.old session.old watch.old → OnOk result (IsWatched P.Plant C.Cell before plant.new cell.new session.new watch.new) }
     ensures left { P.tells → C.tells → K.tells → (w : World) → Fits P.Plant C.Cell w plant.old cell.old session.old → HeldForLine w (K.moments clock.old) (item_of line.now) → OnErr result (LineLeft P.Plant C.Cell w (K.moments clock.old) (item_of line.now) plant.old plant.new cell.new) }
     ensures goes { IfOk result (λ passed. passed.goes ≡ not (is_quit line.now)) }
     ensures stays { Stays P.Plant plant.old plant.new }
@@ -224,7 +228,7 @@ pub fn run_line<P: Plant, C: Cell, K: Clock>(
     ensures no_long { result ≢ Err ServeStop.TooLong }
 {
     match read_item(alloc, line) {
-        Ok(item) => run_item(session, alloc, plant, cell, clock, item),
+        Ok(item) => run_item(session, alloc, plant, cell, clock, watch, item),
         Err(_) => Err(ServeStop::Memory),
     }
 }

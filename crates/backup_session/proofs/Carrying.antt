@@ -34,7 +34,7 @@ use Rattle.backup_session.specs.Tapes.{slot_of, new_label, taken, labeled, label
 use Rattle.backup_session.specs.Restores.{archive_turn}
 use Rattle.backup_session.specs.Dumps.{dump_turn}
 use Rattle.backup_session.specs.Machine.{committed, replaced, carried, on_cell, on_plant, off_cell, done, turn}
-use Rattle.backup_session.specs.Fitting.{Fits, Turned, OnTheWay, FitsPlant, TurnedPlant}
+use Rattle.backup_session.specs.Fitting.{Fits, Turned, TurnedSomehow, OnTheWay, FitsPlant, TurnedPlant}
 
 pub full_true : (a b : ℕ) → a < b → nat_lt a b ≡ true
 full_true a b lt = grind (arith, nat_tests)
@@ -212,6 +212,12 @@ module _ {D E : Type 0} (P : Plant D) (C : Cell E) (w : World) (old : D) (site :
 -- a turn at a moment is one of the world before it
 pub turned_at : {D E : Type 0} (P : Plant D) (C : Cell E) (w : World) (now : ℕ) (t : Turn) (old new : D) (site : E) (session : SessionView) (reply : ReplyView) → Turned P C (at_moment w now) t old new site session reply → Turned P C w t old new site session reply
 turned_at P C w now t old new site session reply turned = record { done = turned.done; text = turned.text; fits = turned.fits }
+
+-- the same of some turn
+pub some_at : {D E F : Type 0} (P : Plant D) (C : Cell E) (w : World) (now : ℕ) (old new : D) (site : E) (session : SessionView) (r : Result ReplyView F) → IfOk r (λ reply. TurnedSomehow P C (at_moment w now) old new site session reply)
+    → IfOk r (λ reply. TurnedSomehow P C w old new site session reply)
+some_at P C w now old new site session (Ok reply) some = record { turn = some.turn; turned = turned_at P C w now some.turn old new site session reply some.turned; silent = some.silent }
+some_at P C w now old new site session (Err stop) some = tt
 
 -- in an Ok
 pub in_ok : {A F : Type 0} (r : Result A F) (Q R : A → Type 0) → ((x : A) → Q x → R x) → IfOk r Q → IfOk r R

@@ -11,4 +11,5 @@ pub mod Taking
 pub mod Settling
 pub mod RestoreLaws
 pub mod DumpLaws
+pub mod Silent
 pub mod OpenLaws

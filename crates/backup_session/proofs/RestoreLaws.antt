@@ -27,7 +27,7 @@ use Rattle.backup_session.specs.Worlds.{World, archive_of, last_cell}
 use Rattle.backup_session.specs.Held.{HoldsArchive, HeldWhere, HeldFor}
 use Rattle.backup_session.specs.Asks.{asks_archive}
 use Rattle.backup_session.specs.Restores.{manner_at, restore_answer, archive_turn}
-use Rattle.backup_session.specs.Fitting.{Fits, Turned, OnTheWay}
+use Rattle.backup_session.specs.Fitting.{Fits, Turned, TurnedSomehow, OnTheWay}
 use Rattle.backup_session.proofs.Settling.{settled_alike}
 
 -- what is asked of a world at a command that asks its archive
@@ -46,6 +46,29 @@ module _ {D E : Type 0} (P : Plant D) (C : Cell E) (w : World) (old : D) (site :
   -- loads leave nothing
   pub restore_leaves : (new : D) → LeavesLoads P old new → Leaves P [] old new
   restore_leaves new leaves = loads_leave_nothing P old new settled_here leaves
+
+  -- it was answered, whatever the archive holds: the cell was left with some list
+  pub restored_somehow : (new : D) (there : E) (reply : ReplyView) → P.tells → Loads P old new → Stays P old new → TurnedSomehow P C w old new there session reply
+  restored_somehow new there reply told loads stays =
+      let done = loads_nothing P old new settled_here loads in
+      record {
+        turn = record { effects = []; reply = reply.text; log = w.log; time = w.time; cells = C.list there ∷ []; contents = w.contents };
+        turned = record {
+          done = done;
+          text = refl;
+          fits = record {
+            keeps = fits.keeps;
+            time = fits.time;
+            config = fits.config;
+            state = alike_both w.state (state_of P old) (state_of P new) fits.state (done.state told);
+            settled = fits.settled;
+            slots = stays.slots ∙ fits.slots;
+            present = λ k. ap (λ (p : ℕ → Bool). p k) stays.present ∙ fits.present k;
+            cell = refl;
+          };
+        };
+        silent = refl;
+      }
 
   -- the archive of the world stands on the plant
   pub archive_stands : (budb : BudbView) → budb ≡ session.budb → HoldsArchive w → length (slots_of w.setting.slots w.setting.present w.state.tape) ≡ w.setting.slots

@@ -1,7 +1,8 @@
 -- A session fits a plant and a cell in a world, and what a turn leaves.
-use Rattle.std.specs.Prelude.{◌≡◌, ℕ, List, ◌∷◌, ◌++◌, Contains}
+use Rattle.std.specs.Prelude.{◌≡◌, ℕ, List, [], ◌∷◌, ◌++◌, Contains}
 use Rattle.plant_core.specs.declared.plant.Plant.{Ghosts as Plant}
 use Rattle.plant_core.specs.Crashes.{Alike, IsSettled}
+use Rattle.plant_core.specs.Effects.{told_by}
 use Rattle.plant_effects.specs.Runs.{state_of, Done}
 use Rattle.cell_core.specs.declared.cell.Cell.{Ghosts as Cell}
 use Rattle.cell_core.specs.declared.stored.Stored.{Stored}
@@ -27,6 +28,12 @@ pub record Turned {D E : Type 0} (P : Plant D) (C : Cell E) (w : World) (t : Tur
   pub done : Done P t.effects old new
   pub text : reply.text ≡ t.reply
   pub fits : Fits P C (before_reply w t) new site session
+
+-- Some turn was done, whatever the archive holds, and none of its effects tells anything.
+pub record TurnedSomehow {D E : Type 0} (P : Plant D) (C : Cell E) (w : World) (old new : D) (site : E) (session : SessionView) (reply : ReplyView) : Type 0 where
+  pub turn : Turn
+  pub turned : Turned P C w turn old new site session reply
+  pub silent : told_by turn.effects ≡ []
 
 -- the cell was left on the way: its list is the one before, or one of those after a change
 abbrev pub OnTheWay : List Stored → List (List Stored) → List Stored → Type 0

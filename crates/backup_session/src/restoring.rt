@@ -1,6 +1,6 @@
 //! Restores: each volume is looked up in what the tapes hold, and put into the cell.
 
-ghost use Rattle.std.specs.Prelude.{◌≡◌, ◌≢◌, [], Ok, Err, IfOk, OnOk};
+ghost use Rattle.std.specs.Prelude.{◌≡◌, ◌≢◌, [], Err, IfOk, OnOk};
 ghost use Rattle.crash_moments.specs.Moments.{HasCauseAt};
 ghost use Rattle.plant_effects.specs.Runs.{Leaves, StaysQuiet};
 ghost use Rattle.tape_scan.specs.Looking.{Loads, LeavesLoads};
@@ -147,7 +147,7 @@ fn restored<P: Plant, C: Cell>(
 }
 
 impl Session {
-    ghost use Rattle.backup_session.specs.Fitting.{Fits, Turned};
+    ghost use Rattle.backup_session.specs.Fitting.{Fits, Turned, TurnedSomehow};
 
     /// A command that asks the archive, at the session's time.
     pub(crate) fn on_archive<P: Plant, C: Cell>(
@@ -160,6 +160,7 @@ impl Session {
         requires { P.sound plant.old }
         ensures sound { OnOk result (P.sound plant.new) }
         ensures turned { P.tells → C.tells → (w : World) → Fits P.Plant C.Cell w plant.old cell.old self.now → HoldsArchive w → IfOk result (λ reply. Turned P.Plant C.Cell w (archive_turn w command.now) plant.old plant.new cell.new self.now reply) }
+        ensures some_turn { P.tells → C.tells → (w : World) → Fits P.Plant C.Cell w plant.old cell.old self.now → IfOk result (λ reply. TurnedSomehow P.Plant C.Cell w plant.old plant.new cell.new self.now reply) }
         ensures leaves { P.tells → C.tells → (w : World) → Fits P.Plant C.Cell w plant.old cell.old self.now → Leaves P.Plant [] plant.old plant.new }
         ensures cells { P.tells → C.tells → (w : World) → Fits P.Plant C.Cell w plant.old cell.old self.now → HoldsArchive w → OnTheWay w.cell (archive_turn w command.now).cells (C.list cell.new) }
         ensures stays { StaysQuiet P.Plant plant.old plant.new }

@@ -1,6 +1,6 @@
 -- What a run over a plant and a cell says of its course.
-use Rattle.std.proofs.Common.{◌≡◌, inl, inr, zero, suc, ℕ, ◌+◌, ◌<◌, ◌≤◌, Bool, true, false, List, [], ◌∷◌, ◌++◌, length, take, drop, append_assoc, Option, Some, None, refl, sym, ◌∙◌, ap, subst, arith, length-append, Result, Ok, Err, IfOk}
-use Rattle.std.specs.Prelude.{All, slice_get}
+use Rattle.std.proofs.Common.{◌≡◌, inl, inr, zero, suc, ℕ, ◌+◌, ◌<◌, ◌≤◌, Bool, true, false, List, [], ◌∷◌, ◌++◌, length, take, drop, Option, Some, None, refl, sym, ◌∙◌, ap, subst, arith, length-append, Result, Ok, Err, IfOk}
+use Rattle.std.specs.Prelude.{All, slice_get, min, ◌-◌, ◌^◌}
 use Rattle.std.specs.Str.Lines.{lines}
 use Rattle.std.proofs.lemmas.Bool.{cases_lt}
 use Rattle.std.proofs.lemmas.List.{take-append-le, take-append-drop, take_at, take_all}
@@ -8,10 +8,10 @@ use Rattle.bk_text.specs.Places.{FailsAt}
 use Rattle.crash_moments.specs.Moments.{Moments, LeavesSince}
 use Rattle.media_core.specs.Media.{Image}
 use Rattle.plant_core.specs.declared.plant.Plant.{Ghosts as Plant}
-use Rattle.plant_core.specs.Crashes.{State, Alike, settled_part}
-use Rattle.plant_core.specs.Effects.{Effect, commits, replaces, tells, puts, settles, cuts, come, told_by, Joint}
+use Rattle.plant_core.specs.Crashes.{State, Alike, seen_in, settled_part}
+use Rattle.plant_core.specs.Effects.{Effect, tells, come, told_by, Joint}
 use Rattle.plant_core.specs.Stock.{Stock}
-use Rattle.plant_effects.specs.Runs.{Leaves as LeavesPlant}
+use Rattle.plant_effects.specs.Runs.{state_of, Leaves as LeavesPlant}
 use Rattle.plant_effects.proofs.States.{told_is}
 use Rattle.plant_effects.proofs.Joining.{leaves_more}
 use Rattle.plant_media.specs.Stock.{stock_of}
@@ -23,27 +23,32 @@ use Rattle.cell_core.specs.Cells.{IsCell}
 use Rattle.cell_core.specs.Forms.{IsStoredForm}
 use Rattle.cell_forms.specs.Forms.{IsCellForm}
 use Rattle.tape_config.specs.Configs.{Settings, config_of}
+use Rattle.tape_config.specs.declared.fault.ConfigFault.{ConfigFault}
+use Rattle.tape_config.specs.declared.fault.ConfigFault.TheVariants as config
 use Rattle.budb_changes.specs.declared.change.Change.{Change}
 use Rattle.budb_changes.specs.Bytes.{encoded}
 use Rattle.budb_changes.specs.Forms.{AreChanges, IsLog}
+use Rattle.backup_replies.specs.Texts.{has_refusal}
 use Rattle.backup_session.specs.Worlds.{World}
+use Rattle.backup_session.proofs.Silent.{told_by-append}
 use Rattle.backup_session.specs.Bounded.{HasTapes}
 use Rattle.backup_session.specs.Opening.{first_time}
 use Rattle.backup_script.specs.declared.running.RunStop.{RunStop}
 use Rattle.backup_script.specs.declared.running.RunStop.TheVariants as stop
 use Rattle.backup_script.specs.Lines.{ended, has_quit}
 use Rattle.backup_script.specs.Scripts.{Outcome, script, Stage, IsStage}
-use Rattle.backup_script.specs.Running.{TookTooMany, Left}
+use Rattle.backup_script.specs.Running.{TookTooMany, Left, HasTold}
 use Rattle.backup_script.specs.Ended.{Ends, EndsShort, IsRefusedLog}
 use Rattle.backup_script.proofs.StageLaws.{stage_whole}
 use Rattle.dump_forms.specs.Journals.{IsJournalAfter}
 use Rattle.script_journals.proofs.Following.{journal_front, journal_form, journal_bytes}
 use Rattle.backup_top.specs.declared.status.Status.{Status}
 use Rattle.backup_top.specs.declared.status.Status.TheVariants.{Done, SomeRefused, Usage, ReadFault, MediaFault, CellFault, Memory, BadConfig, BadLog, OutputFault, ScriptTooLong}
-use Rattle.backup_top.specs.Answers.{run_status, opening_status}
-use Rattle.backup_top.specs.Courses.{Course, FindsFit, FindsVolumes, contents_in, IsWithin, IsComplete, outcome, Leaves, LeavesShort, Runs, TakesBy, Journal, IsBadLog, RefusesJournal, IsRefusedAt, Reopens, LeftImage, LeavesImages, EndsAt, HasCauseAs}
+use Rattle.backup_top.specs.Answers.{run_status, opening_status, config_status}
+use Rattle.backup_top.specs.Courses.{Course, FindsFit, FindsVolumes, contents_in, IsWithin, IsComplete, outcome, Leaves, LeavesShort, Runs, TellsLines, TakesBy, Journal, IsBadLog, RefusesJournal, IsRefusedAt, Reopens, LeftImage, LeavesImages, EndsAt, HasCauseAs}
 use Rattle.script_journals.specs.Dumping.{IsFormedFor}
-use Rattle.session_archives.specs.Held.{HoldsWorld, HoldsAfter, KeepsListed, EachKeepsListed}
+use Rattle.session_archives.specs.Held.{HoldsWorld, HoldsAfter, KeepsListed, EachKeepsListed, RepliesSettle}
+use Rattle.session_archives.proofs.Replies.{settle_first}
 use Rattle.session_archives.specs.Ready.{IsFitWorld, IsReady, RestoresApartThroughout, at_first, IsReadyFor, IsFitFor, AreVolumesFor}
 use Rattle.backup_top.proofs.Lowering.{alike_same, log_come, log_whole}
 use Rattle.backup_top.proofs.ArchiveLaws.{ScriptsKeep, ImagesHold, keeps_media}
@@ -102,11 +107,11 @@ module _ {D E : Type 0} (P : Plant D) (C : Cell E) (c : Course) (w : World) (old
   short_in : EndsShort P C w c.moments c.input c.rest old new site c.left → LeavesShort c
   short_in short = record { took = short.took; leaves = in_course (lines (ended short.took.taken)) (leaves (lines (ended short.took.taken)) short.ends) }
 
-  whole_in : (refused : Bool) → Ends P C (script w c.moments (lines c.input)) old new site c.left × (refused ≡ (script w c.moments (lines c.input)).refused) → Leaves c (lines c.input) (outcome c) × ((outcome c).refused ≡ refused)
-  whole_in refused (ends, is) = (in_course (lines c.input) (leaves (lines c.input) ends), sym (is ∙ ap (λ (v : World). (script v c.moments (lines c.input)).refused) same))
+  whole_in : (refused : Bool) → Ends P C (script w c.moments (lines c.input)) old new site c.left × (refused ≡ has_refusal (told_by (script w c.moments (lines c.input)).effects)) → Leaves c (lines c.input) (outcome c) × (has_refusal (told_by (outcome c).effects) ≡ refused)
+  whole_in refused (ends, is) = (in_course (lines c.input) (leaves (lines c.input) ends), sym (is ∙ ap (λ (v : World). has_refusal (told_by (script v c.moments (lines c.input)).effects)) same))
 
   -- by the answer
-  pub runs_of : (r : Result Bool RunStop) → IfOk r (λ refused. Ends P C (script w c.moments (lines c.input)) old new site c.left × (refused ≡ (script w c.moments (lines c.input)).refused))
+  pub runs_of : (r : Result Bool RunStop) → IfOk r (λ refused. Ends P C (script w c.moments (lines c.input)) old new site c.left × (refused ≡ has_refusal (told_by (script w c.moments (lines c.input)).effects)))
       → (r ≡ Err stop.Read → EndsShort P C w c.moments c.input c.rest old new site c.left) → (r ≡ Err stop.TooLong → EndsShort P C w c.moments c.input c.rest old new site c.left)
       → ((at : ℕ) → r ≡ Err (stop.BadLog at) → ⊥) → Runs c (run_status r)
   runs_of (Ok true) ran read long bad = whole_in true ran
@@ -118,6 +123,29 @@ module _ {D E : Type 0} (P : Plant D) (C : Cell E) (c : Course) (w : World) (old
   runs_of (Err stop.Output) ran read long bad = tt
   runs_of (Err stop.Memory) ran read long bad = tt
   runs_of (Err (stop.BadLog at)) ran read long bad = bad at refl
+
+-- what was told of it
+pub told_lines : {D : Type 0} (P : Plant D) (old new : D) (before after : List ℕ) (r : Result Bool RunStop) → before ≡ (state_of P old).told → after ≡ (state_of P new).told → IfOk r (λ refused. HasTold P old new refused)
+    → TellsLines before after (run_status r)
+told_lines P old new before after (Ok true) start end has = record { text = has.text; told = end ∙ has.told ∙ ap (λ (l : List ℕ). l ++ has.text) (sym start); is = sym has.is }
+told_lines P old new before after (Ok false) start end has = record { text = has.text; told = end ∙ has.told ∙ ap (λ (l : List ℕ). l ++ has.text) (sym start); is = sym has.is }
+told_lines P old new before after (Err stop.Read) start end has = tt
+told_lines P old new before after (Err stop.TooLong) start end has = tt
+told_lines P old new before after (Err stop.Plant) start end has = tt
+told_lines P old new before after (Err stop.Cell) start end has = tt
+told_lines P old new before after (Err stop.Output) start end has = tt
+told_lines P old new before after (Err stop.Memory) start end has = tt
+told_lines P old new before after (Err (stop.BadLog at)) start end has = tt
+
+pub opening_lines : (before after : List ℕ) (fault : OpenFault) → TellsLines before after (opening_status fault)
+opening_lines before after opening.Failed = tt
+opening_lines before after (opening.BadLog at) = tt
+
+pub config_lines : (before after : List ℕ) (fault : ConfigFault) → TellsLines before after (config_status fault)
+config_lines before after (config.BadLine line) = tt
+config_lines before after (config.PortTwice line) = tt
+config_lines before after (config.SlotTwice line) = tt
+config_lines before after config.Memory = tt
 
 -- where no plant was opened
 pub runs_not_opened : (c : Course) (Told : Type 0) (damaged : Bool) (before now : ℕ) (fault : OpenFault) → HasCauseIn Told damaged before now fault → (damaged ≡ true → ⊥) → Told → Runs c (opening_status fault)
@@ -147,6 +175,10 @@ refuses_journal (Err stop.Output) is = absurd is
 refuses_journal (Err stop.Memory) is = tt
 refuses_journal (Err (stop.BadLog at)) is = tt
 
+-- a log that is a list of changes
+pub journal_of_log : (stock : Stock) (s : State) → stock ≡ seen_in s → IsLog s.log → Journal stock
+journal_of_log stock s shown is = record { log = is.0; form = is.1; is = ap (λ (x : Stock). x.log) shown ∙ ap (λ (l : List ℕ). Some l) is.2 }
+
 pub opening_bad : (Told : Type 0) (damaged : Bool) (before now : ℕ) (fault : OpenFault) (at : ℕ) → HasCauseIn Told damaged before now fault → Told → opening_status fault ≡ BadLog at → (at ≡ 0) × (damaged ≡ true)
 opening_bad Told damaged before now opening.Failed at cause told is = cc
 opening_bad Told damaged before now (opening.BadLog n) at cause told is = (cc, cause.2 told)
@@ -155,6 +187,10 @@ pub opening_cause : (Told : Type 0) (damaged : Bool) (before now : ℕ) (fault :
 opening_cause Told damaged before now opening.Failed cause = record { failed = λ is. cause; stays = λ other. absurd (other refl) }
 opening_cause Told damaged before now (opening.BadLog at) cause = record { failed = λ is. cc; stays = λ other. cause.1 }
 
+pub opening_later : (Told : Type 0) (damaged : Bool) (before now : ℕ) (fault : OpenFault) → HasCauseIn Told damaged before now fault → min before (2 ^ 64 - 1) ≤ now
+opening_later Told damaged before now opening.Failed cause = (let rose : min (before + 1) (2 ^ 64 - 1) ≤ now = cause in omega (arith, rose))
+opening_later Told damaged before now (opening.BadLog at) cause = omega (arith, cause.1)
+
 pub bad_journal : (log : Option (List ℕ)) (bytes : List ℕ) (at : ℕ) → log ≡ Some bytes → FailsAt IsLog bytes at → IsBadLog log at
 bad_journal log bytes at is fails = subst (λ (l : Option (List ℕ)). IsBadLog l at) (sym is) fails
 
@@ -162,15 +198,6 @@ pub damaged_journal : (log : Option (List ℕ)) (at : ℕ) → log ≡ None → 
 damaged_journal log at is first = subst (λ (l : Option (List ℕ)). IsBadLog l at) (sym is) first
 
 -- ---- images
-
-told_by-append : (es fs : List Effect) → told_by (es ++ fs) ≡ told_by es ++ told_by fs
-told_by-append [] fs = refl
-told_by-append (tells text ∷ es) fs = ap (λ (l : List ℕ). text ++ l) (told_by-append es fs) ∙ sym (append_assoc text (told_by es) (told_by fs))
-told_by-append (commits bytes ∷ es) fs = told_by-append es fs
-told_by-append (replaces bytes ∷ es) fs = told_by-append es fs
-told_by-append (puts k r ∷ es) fs = told_by-append es fs
-told_by-append (settles k ∷ es) fs = told_by-append es fs
-told_by-append (cuts k n ∷ es) fs = told_by-append es fs
 
 front_short : (n : ℕ) (xs : List ℕ) → length (take n xs) ≤ length xs
 front_short n xs = omega (arith, ap length (take-append-drop n xs), length-append (take n xs) (drop n xs))
@@ -201,6 +228,7 @@ pub record Journaled (c : Course) (effects : List Effect) : Type 0 where
   pub way : HoldsWorld c.world → FindsFit c → (count : ℕ) → count ≤ length effects → HoldsAfter c.world (contents_in c count) (take count effects)
   pub images : ImagesHold
   pub listed : HoldsWorld c.world → FindsFit c → EachKeepsListed c.world effects
+  pub replies : HoldsWorld c.world → FindsFit c → RepliesSettle c.world effects
 
 front_journal : (log : List Change) (effects : List Effect) (n : ℕ) → (last : List Change) × IsJournalAfter log effects last → (mid : List Change) × IsJournalAfter log (take n effects) mid
 front_journal log effects n (last, after) = journal_front (take n effects) (drop n effects) log last (subst (λ (es : List Effect). IsJournalAfter log es last) (sym (take-append-drop n effects)) after)
@@ -245,6 +273,7 @@ image_of c effects old new j joint =
       reopens = opens_again c effects joint.count new.log j events;
       acknowledged = told_whole c.world.state effects old new joint;
       listed = λ held asked. front_listed c.world joint.count effects (j.listed held asked);
+      settled = j.replies;
       archive = λ held asked. j.images c.world (contents_in c joint.count) (take joint.count effects) new (j.way held asked joint.count joint.within) joint.left;
     }
 
@@ -259,9 +288,13 @@ ScriptsJournaled = (w : World) (moments : List ℕ) (lines : List (List ℕ)) �
 abbrev pub ScriptsKeepListed : Type 0
 ScriptsKeepListed = (w : World) (moments : List ℕ) (lines : List (List ℕ)) → HoldsWorld w → IsReadyFor w moments lines → EachKeepsListed w (script w moments lines).effects
 
+-- where a reply of a script is told all is settled
+abbrev pub ScriptsSettle : Type 0
+ScriptsSettle = (w : World) (moments : List ℕ) (lines : List (List ℕ)) → HoldsWorld w → IsReadyFor w moments lines → RepliesSettle w (script w moments lines).effects
+
 -- the script of a course
-pub journaled : ScriptsJournaled → ScriptsKeep → ScriptsKeepListed → ImagesHold → (c : Course) → HasForms c → HasTapes c.world → c.world.state.log_settled ≡ length c.world.state.log → AreChanges c.world.log → c.world.state.log ≡ encoded c.world.log → Journaled c (outcome c).effects
-journaled journals keep listed hold c forms has settled form is = record {
+pub journaled : ScriptsJournaled → ScriptsKeep → ScriptsKeepListed → ScriptsSettle → ImagesHold → (c : Course) → HasForms c → HasTapes c.world → c.world.state.log_settled ≡ length c.world.state.log → AreChanges c.world.log → c.world.state.log ≡ encoded c.world.log → Journaled c (outcome c).effects
+journaled journals keep listed settle hold c forms has settled form is = record {
   settled = settled;
   form = form;
   is = is;
@@ -269,6 +302,7 @@ journaled journals keep listed hold c forms has settled form is = record {
   way = λ held asked count within. keep c.world c.moments (lines c.input) held (ready_for c forms (lines c.input) asked) count;
   images = hold;
   listed = λ held asked. listed c.world c.moments (lines c.input) held (ready_for c forms (lines c.input) asked);
+  replies = λ held asked. settle c.world c.moments (lines c.input) held (ready_for c forms (lines c.input) asked);
 }
 
 -- a stage of it
@@ -288,6 +322,7 @@ stage_journaled c stage on j =
       listed = λ held asked.
           subst (λ (es : List Effect). EachKeepsListed c.world es) (ap (take (length stage.effects)) more.1 ∙ take-append-le (length stage.effects) stage.effects more.0 (omega arith) ∙ take_all (length stage.effects) stage.effects (omega arith))
           (front_listed c.world (length stage.effects) (outcome c).effects (j.listed held asked));
+      replies = λ held asked. settle_first c.world stage.effects more.0 (subst (RepliesSettle c.world) more.1 (j.replies held asked));
     }
 
 -- however it ended

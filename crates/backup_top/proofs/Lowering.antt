@@ -1,5 +1,5 @@
 -- From a plant over media to the media.
-use Rattle.std.proofs.Common.{◌≡◌, inl, ℕ, ◌+◌, ◌≤◌, Bool, true, List, [], ◌∷◌, length, take, Some, None, refl, sym, ◌∙◌, ap, subst, arith}
+use Rattle.std.proofs.Common.{◌≡◌, inl, zero, suc, ℕ, ◌+◌, ◌-◌, ◌≤◌, Bool, true, IsTrue, List, [], ◌∷◌, length, take, Some, None, refl, sym, ◌∙◌, ap, subst, arith}
 use Rattle.std.proofs.lemmas.List.{take_all}
 use Rattle.crash_moments.specs.Moments.{Moments, Leads, LeavesSince}
 use Rattle.crash_moments.specs.Telling.{IsFront, Extends}
@@ -12,9 +12,10 @@ use Rattle.plant_core.specs.Effects.{Effect, commits, replaces, tells, puts, set
 use Rattle.plant_core.specs.Stock.{Stock}
 use Rattle.plant_effects.proofs.States.{grows_none, joint_none}
 use Rattle.plant_media.specs.Stock.{stock_of, journal_of, log_shown, tape_of}
-use Rattle.plant_media.specs.State.{media_of, moments_of}
+use Rattle.plant_media.specs.Slots.{slots_here, shown}
+use Rattle.plant_media.specs.State.{media_of, moments_of, shown_of}
 use Rattle.plant_media.specs.declared.plant.MediaPlant.{MediaPlant}
-use Rattle.backup_top.specs.Courses.{at_rest}
+use Rattle.backup_top.specs.Courses.{at_rest, SameFiles}
 
 -- ---- states
 
@@ -59,6 +60,29 @@ log_come (e ∷ es) s is = log_come es (comes e s) (log_comes e s is)
 
 pub log_whole : (s : State) → s.log_settled ≡ length s.log → take s.log_settled s.log ≡ s.log
 log_whole s is = ap (λ (n : ℕ). take n s.log) is ∙ take_all (length s.log) s.log (omega arith)
+
+-- counts of files that leave as many slots, and files that are here by their slots
+same_count : (m n : ℕ) → 1 ≤ m → 1 ≤ n → m - 1 ≡ n - 1 → m ≡ n
+same_count m n some others same = omega (arith, some, others, same)
+
+same_present : (here there : ℕ → Bool) → IsTrue (here 0) → IsTrue (there 0) → slots_here here ≡ slots_here there → (f : ℕ) → here f ≡ there f
+unfolding slots_here
+same_present here there first other same zero = first ∙ sym other
+same_present here there first other same (suc k) =
+    let next : suc k ≡ k + 1 = omega arith in
+    ap here next ∙ ap (λ (p : ℕ → Bool). p k) same ∙ sym (ap there next)
+
+pub same_files : {D : Type 0} (count : D → ℕ) (present : D → ℕ → Bool) (media first last back : D) → back ≡ last → ((s : D) → 1 ≤ count s) → ((s : D) → IsTrue (present s 0)) → count first ≡ count media → present first ≡ present media
+    → count last - 1 ≡ count first - 1 → slots_here (present last) ≡ slots_here (present first) → SameFiles count present media back
+same_files {D = D} count present media first last back is some here counted shown slots tapes = record {
+  same_count = ap count is ∙ same_count (count last) (count first) (some last) (some first) slots ∙ counted;
+  same_present = λ f. ap (λ (m : D). present m f) is ∙ same_present (present last) (present first) (here last) (here first) tapes f ∙ ap (λ (p : ℕ → Bool). p f) shown;
+}
+
+-- what a plant shows as told is what its media was told
+pub shown_told : {D : Type 0} (seen : D → Image) (plant : MediaPlant D) (back : D) → back ≡ plant.media → (stock_of (seen back)).told ≡ (shown_of seen plant).told
+unfolding shown
+shown_told {D = D} seen plant back is = ap (λ (m : D). (seen m).told) is
 
 -- a damaged journal has no log
 pub journal_damaged : (file : List ℕ) → is_damaged file ≡ true → journal_of file ≡ None

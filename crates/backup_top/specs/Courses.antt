@@ -15,6 +15,7 @@ use Rattle.tape_config.specs.declared.fault.ConfigFault.{ConfigFault}
 use Rattle.budb_changes.specs.declared.change.Change.{Change}
 use Rattle.budb_changes.specs.Bytes.{encoded}
 use Rattle.budb_changes.specs.Forms.{AreChanges, IsLog}
+use Rattle.backup_replies.specs.Texts.{has_refusal}
 use Rattle.backup_session.specs.Worlds.{World, Contents}
 use Rattle.backup_session.specs.Opening.{opened}
 use Rattle.backup_script.specs.Lines.{ended, has_quit, most_script}
@@ -22,7 +23,7 @@ use Rattle.backup_script.specs.Scripts.{Outcome, script, Stage, IsStage}
 use Rattle.backup_script.specs.Held.{IsHeldThroughout}
 use Rattle.backup_script.specs.Running.{Took, TookAll, TookToQuit, TookTooMany}
 use Rattle.dump_forms.specs.Journals.{IsJournalAfter}
-use Rattle.session_archives.specs.Held.{HoldsWorld, HoldsImage, contents_on, EachKeepsListed}
+use Rattle.session_archives.specs.Held.{HoldsWorld, HoldsImage, contents_on, EachKeepsListed, RepliesSettle}
 use Rattle.session_archives.specs.Ready.{IsFitWorld, RestoresApartThroughout, at_first, IsFitFor, AreVolumesFor}
 use Rattle.backup_top.specs.Answers.{config_status}
 use Rattle.backup_top.specs.declared.status.Status.{Status}
@@ -139,8 +140,8 @@ pub record LeavesShort (c : Course) : Type 0 where
 
 -- WHAT A RUN HAS DONE, BY ITS STATUS. Of a run that a fault or want of memory has ended, `EndsAt` says what is left.
 abbrev pub Runs : Course → Status → Type 0
-Runs c Done = Leaves c (lines c.input) (outcome c) × ((outcome c).refused ≡ false)
-Runs c SomeRefused = Leaves c (lines c.input) (outcome c) × ((outcome c).refused ≡ true)
+Runs c Done = Leaves c (lines c.input) (outcome c) × (has_refusal (told_by (outcome c).effects) ≡ false)
+Runs c SomeRefused = Leaves c (lines c.input) (outcome c) × (has_refusal (told_by (outcome c).effects) ≡ true)
 Runs c ReadFault = LeavesShort c
 Runs c ScriptTooLong = LeavesShort c
 Runs c MediaFault = Unit {0}
@@ -150,6 +151,22 @@ Runs c Memory = Unit {0}
 Runs c Usage = ⊥
 Runs c (BadConfig line) = ⊥
 Runs c (BadLog at) = ⊥
+
+-- What was told of a script that was run to its end, whatever stood on the media: some line of it begins with `refused`, or none does.
+pub record HasRefusal (old new : List ℕ) (refused : Bool) : Type 0 where
+  pub text : List ℕ
+  pub told : new ≡ old ++ text
+  pub is : has_refusal text ≡ refused
+
+abbrev pub TellsLines : List ℕ → List ℕ → Status → Type 0
+TellsLines old new Done = HasRefusal old new false
+TellsLines old new SomeRefused = HasRefusal old new true
+TellsLines old new status = Unit {0}
+
+-- the media have as many files, and the same of them are here
+pub record SameFiles {D : Type 0} (count : D → ℕ) (present : D → ℕ → Bool) (old new : D) : Type 0 where
+  pub same_count : count new ≡ count old
+  pub same_present : (f : ℕ) → present new f ≡ present old f
 
 -- a run that reaches the media doesn't end so
 abbrev pub IsRunStatus : Status → Type 0
@@ -213,7 +230,8 @@ pub record Reopens (log : List Change) (effects : List Effect) (found : Option (
 -- of them. The journal isn't damaged, and is that after these effects, so that it opens again (of a script that dumps, where what dumps have of
 -- volumes are volumes). A reply that was told whole is among them. Where the media held the archive at the entry, and a script that dumps finds a
 -- world that is fit for it, the image holds that of its changes and of its tapes: each listed dump lies where it lay behind these effects, with the contents that it
--- had then. And none of these effects takes a tape from a dump that is listed behind it.
+-- had then. And none of these effects takes a tape from a dump that is listed behind it, and where a reply is told all that was put before it is
+-- settled: so no crash takes a record from a command whose reply was told whole.
 pub record LeftImage (c : Course) (effects : List Effect) (old new : Stock) : Type 0 where
   pub joint : Joint c.world.state effects old new
   pub events : new.log ≡ Some (come (take joint.count effects) c.world.state).log
@@ -222,6 +240,7 @@ pub record LeftImage (c : Course) (effects : List Effect) (old new : Stock) : Ty
       → length c.world.state.told + length (told_by before) + length reply ≤ length new.told → length before < joint.count
   pub archive : HoldsWorld c.world → FindsFit c → HoldsImage c.world (contents_in c joint.count) (take joint.count effects) new
   pub listed : HoldsWorld c.world → FindsFit c → EachKeepsListed c.world (take joint.count effects)
+  pub settled : HoldsWorld c.world → FindsFit c → RepliesSettle c.world effects
 
 -- each image since the entry
 abbrev pub LeavesImages : {D : Type 0} → Moments D Image → D → D → Course → List Effect → Type 0

@@ -1,12 +1,12 @@
 //! A run of a script over media and a cell.
 
-ghost use Rattle.std.specs.Prelude.{◌≡◌, ◌≤◌, ℕ, List, Ok};
+ghost use Rattle.std.specs.Prelude.{◌≡◌, ◌≢◌, ◌-◌, ◌^◌, ◌≤◌, ℕ, min, List, None, Ok};
 ghost use Rattle.media_core.specs.Still.{AreStill};
 ghost use Rattle.plant_media.specs.Stock.{stock_of};
 ghost use Rattle.tape_config.specs.Configs.{config_of};
 ghost use Rattle.backup_top.specs.declared.status.Status.TheVariants.{ReadFault, MediaFault, CellFault, OutputFault, BadLog};
 ghost use Rattle.backup_session.specs.Worlds.{Contents};
-ghost use Rattle.backup_top.specs.Courses.{course, Journal, IsBadLog, IsRunStatus, RefusesJournal, Runs, TakesBy, CellAtStage, EndsAt, LeavesImages, FindsHeld, outcome, HasCauseAs};
+ghost use Rattle.backup_top.specs.Courses.{course, Journal, IsBadLog, IsRunStatus, RefusesJournal, Runs, TellsLines, SameFiles, TakesBy, CellAtStage, EndsAt, LeavesImages, FindsHeld, outcome, HasCauseAs};
 
 use crate::status::Status;
 use crate::statuses::{of_opening, of_run};
@@ -40,12 +40,15 @@ pub fn run_media<M: Media, C: Cell, K: Clock, S: Source>(
     ensures ends { M.tells → C.tells → K.tells → S.tells → AreStill M.time M.seen media → (bytes : List ℕ) → config_of bytes ≡ Ok config → (journal : Journal (stock_of (M.seen media))) → (contents : Contents)
         → let c = course M.seen M.count M.present config journal.log contents media result.1 (C.list cell.old) (C.list cell.new) (K.moments clock.old) (K.moments clock.new) (S.left source.old) (S.left source.new) in
         FindsHeld c → EndsAt M.time M.seen media result.1 c }
+    ensures told_lines { M.tells → C.tells → TellsLines (stock_of (M.seen media)).told (stock_of (M.seen result.1)).told result.0 }
     ensures takes { S.tells → TakesBy (S.left source.old) (S.left source.new) result.0 }
     ensures bad_log { M.tells → (at : ℕ) → result.0 ≡ BadLog at → IsBadLog (stock_of (M.seen media)).log at }
-    ensures only_bad_log { M.tells → C.tells → (Journal (stock_of (M.seen media)) → ⊥) → RefusesJournal result.0 }
+    ensures only_bad_log { M.tells → (Journal (stock_of (M.seen media)) → ⊥) → RefusesJournal result.0 }
+    ensures damaged_same { M.tells → (stock_of (M.seen media)).log ≡ None → (M.seen result.1 ≡ M.seen media) × (cell.new ≡ cell.old) × (clock.new ≡ clock.old) × (source.new ≡ source.old) }
+    ensures refused_log_media { M.tells → (Journal (stock_of (M.seen media)) → ⊥) → result.0 ≢ MediaFault → stock_of (M.seen result.1) ≡ stock_of (M.seen media) }
+    ensures refused_log_same { M.tells → (Journal (stock_of (M.seen media)) → ⊥) → (cell.new ≡ cell.old) × (clock.new ≡ clock.old) × (source.new ≡ source.old) }
     ensures bad_log_media { M.tells → (at : ℕ) → result.0 ≡ BadLog at → stock_of (M.seen result.1) ≡ stock_of (M.seen media) }
-    ensures bad_log_cell { C.tells → (at : ℕ) → result.0 ≡ BadLog at → C.list cell.new ≡ C.list cell.old }
-    ensures bad_log_clock { (at : ℕ) → result.0 ≡ BadLog at → (clock.new ≡ clock.old) × (source.new ≡ source.old) }
+    ensures bad_log_same { (at : ℕ) → result.0 ≡ BadLog at → (cell.new ≡ cell.old) × (clock.new ≡ clock.old) × (source.new ≡ source.old) }
     ensures cell_at_end { M.tells → C.tells → K.tells → S.tells → (journal : Journal (stock_of (M.seen media))) → (contents : Contents)
         → let c = course M.seen M.count M.present config journal.log contents media result.1 (C.list cell.old) (C.list cell.new) (K.moments clock.old) (K.moments clock.new) (S.left source.old) (S.left source.new) in
         FindsHeld c → CellAtStage c }
@@ -53,6 +56,8 @@ pub fn run_media<M: Media, C: Cell, K: Clock, S: Source>(
     ensures cell_cause { HasCauseAs CellFault (C.faults cell.old) (C.faults cell.new) result.0 }
     ensures output_cause { HasCauseAs OutputFault (M.tell_faults media) (M.tell_faults result.1) result.0 }
     ensures read_cause { HasCauseAs ReadFault (S.faults source.old) (S.faults source.new) result.0 }
+    ensures same_files { SameFiles M.count M.present media result.1 }
+    ensures media_later { min (M.faults media) (2 ^ 64 - 1) ≤ M.faults result.1 }
     ensures cell_later { C.faults cell.old ≤ C.faults cell.new }
     ensures output_later { M.tell_faults media ≤ M.tell_faults result.1 }
     ensures read_later { S.faults source.old ≤ S.faults source.new }

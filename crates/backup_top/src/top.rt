@@ -1,6 +1,6 @@
 //! The top call.
 
-ghost use Rattle.std.specs.Prelude.{◌≡◌, ◌≢◌, ◌⊎◌, ◌≤◌, ℕ, Ok, Err};
+ghost use Rattle.std.specs.Prelude.{◌≡◌, ◌≢◌, ◌⊎◌, ◌-◌, ◌^◌, ◌≤◌, ℕ, min, None, Ok, Err};
 ghost use Rattle.crash_moments.specs.Moments.{Leads, Rose};
 ghost use Rattle.media_core.specs.Still.{AreStill};
 ghost use Rattle.plant_media.specs.Stock.{stock_of};
@@ -15,7 +15,7 @@ ghost use Rattle.backup_top.specs.Answers.{config_status};
 ghost use Rattle.backup_session.specs.Held.{HoldsArchive};
 ghost use Rattle.backup_session.specs.Worlds.{Contents};
 ghost use Rattle.session_archives.specs.Held.{HoldsWorld};
-ghost use Rattle.backup_top.specs.Courses.{course_of, Entry, Journal, IsBadLog, IsRefusedAt, RefusesJournal, IsExamineStatus, Runs, TakesBy, CellAtStage, EndsAt, LeavesImages, FindsHeld, FindsFit, FindsVolumes, outcome, HasCauseAs, IsWithin, IsComplete};
+ghost use Rattle.backup_top.specs.Courses.{course_of, Entry, Journal, IsBadLog, IsRefusedAt, RefusesJournal, IsExamineStatus, Runs, TellsLines, SameFiles, TakesBy, CellAtStage, EndsAt, LeavesImages, FindsHeld, FindsFit, FindsVolumes, outcome, HasCauseAs, IsWithin, IsComplete};
 ghost use Rattle.backup_top.specs.declared.words.Asked.TheVariants.{Run, Examine, Rehearse, Nothing};
 ghost use Rattle.backup_top.specs.declared.status.Status.TheVariants.{Done, Usage, ReadFault, MediaFault, CellFault, Memory, BadConfig, BadLog, OutputFault};
 
@@ -195,6 +195,9 @@ pub fn run<M: Media, C: Cell, K: Clock, S: Source>(
     ensures runs { asked words.now.items ≡ Run → M.tells → C.tells → K.tells → S.tells → (entry : Entry config.now (stock_of (M.seen media))) → (contents : Contents)
         → let c = course_of M.seen M.count M.present contents media entry result.1 (C.list cell.old) (C.list cell.new) (K.moments clock.old) (K.moments clock.new) (S.left source.old) (S.left source.new) in
         FindsHeld c → Runs c result.0 }
+    // Whatever stands on the media, a script that was run to its end is `SomeRefused` where a line that was told begins with `refused`, and
+    // else `Done`.
+    ensures told_lines { asked words.now.items ≡ Run → M.tells → C.tells → TellsLines (stock_of (M.seen media)).told (stock_of (M.seen result.1)).told result.0 }
     // Each image since the entry, where no write of before waits for a sync. Its journal opens again: it is the list of changes that the
     // first of the script's effects make, and each reply that was told whole is among them. It holds the archive with what the dumps have then.
     ensures images { asked words.now.items ≡ Run → M.tells → C.tells → K.tells → S.tells → AreStill M.time M.seen media → (entry : Entry config.now (stock_of (M.seen media))) → (contents : Contents)
@@ -222,18 +225,25 @@ pub fn run<M: Media, C: Cell, K: Clock, S: Source>(
     // A journal is refused exactly where its log stops being a list of changes, before a line is read; nothing is told, and nothing changes.
     ensures bad_log { M.tells → (at : ℕ) → result.0 ≡ BadLog at → IsBadLog (stock_of (M.seen media)).log at }
     ensures bad_log_config { (at : ℕ) → result.0 ≡ BadLog at → (asked words.now.items ≡ Run) × ((settings : Settings) × (config_of config.now ≡ Ok settings)) }
-    ensures only_bad_log { asked words.now.items ≡ Run → M.tells → C.tells → (settings : Settings) → config_of config.now ≡ Ok settings → (Journal (stock_of (M.seen media)) → ⊥) → RefusesJournal result.0 }
+    ensures only_bad_log { asked words.now.items ≡ Run → M.tells → (settings : Settings) → config_of config.now ≡ Ok settings → (Journal (stock_of (M.seen media)) → ⊥) → RefusesJournal result.0 }
     ensures bad_log_media { M.tells → (at : ℕ) → result.0 ≡ BadLog at → stock_of (M.seen result.1) ≡ stock_of (M.seen media) }
-    ensures bad_log_cell { C.tells → (at : ℕ) → result.0 ≡ BadLog at → C.list cell.new ≡ C.list cell.old }
-    ensures bad_log_clock { (at : ℕ) → result.0 ≡ BadLog at → (clock.new ≡ clock.old) × (source.new ≡ source.old) }
+    ensures bad_log_same { (at : ℕ) → result.0 ≡ BadLog at → (cell.new ≡ cell.old) × (clock.new ≡ clock.old) × (source.new ≡ source.old) }
+    // However a run over a journal that is no list of changes ends, cell, clock and source stay, and so do journal, tapes and what was told unless
+    // a call on the media failed. Where the journal's file is damaged, all files stay.
+    ensures refused_log_media { asked words.now.items ≡ Run → M.tells → (Journal (stock_of (M.seen media)) → ⊥) → result.0 ≢ MediaFault → stock_of (M.seen result.1) ≡ stock_of (M.seen media) }
+    ensures refused_log_same { asked words.now.items ≡ Run → M.tells → (Journal (stock_of (M.seen media)) → ⊥) → (cell.new ≡ cell.old) × (clock.new ≡ clock.old) × (source.new ≡ source.old) }
+    ensures damaged_same { asked words.now.items ≡ Run → M.tells → (stock_of (M.seen media)).log ≡ None → (M.seen result.1 ≡ M.seen media) × (cell.new ≡ cell.old) × (clock.new ≡ clock.old) × (source.new ≡ source.old) }
 
-    // Each fault has its cause, and no count rises at another status.
+    // As many files come back, and the same of them are here. Each fault has its cause, and no count rises at another status, nor falls; that of
+    // the media ends at 2^64 - 1.
+    ensures same_files { SameFiles M.count M.present media result.1 }
     ensures media_cause { HasCauseAs MediaFault (M.faults media) (M.faults result.1) result.0 }
     ensures cell_cause { HasCauseAs CellFault (C.faults cell.old) (C.faults cell.new) result.0 }
     ensures output_fault { result.0 ≡ OutputFault → Rose (M.tell_faults media) (M.tell_faults result.1) }
     ensures no_output_fault { result.0 ≢ OutputFault → M.tell_faults result.1 ≡ M.tell_faults media }
     ensures read_fault { result.0 ≡ ReadFault → Rose (S.faults source.old) (S.faults source.new) }
     ensures no_read_fault { result.0 ≢ ReadFault → S.faults source.new ≡ S.faults source.old }
+    ensures media_later { min (M.faults media) (2 ^ 64 - 1) ≤ M.faults result.1 }
     ensures cell_later { C.faults cell.old ≤ C.faults cell.new }
     ensures output_later { M.tell_faults media ≤ M.tell_faults result.1 }
     ensures read_later { S.faults source.old ≤ S.faults source.new }

@@ -15,6 +15,7 @@ pub mod Orders
 pub mod DumpTurns
 pub mod TurnLeads
 pub mod Scripts
+pub mod Replies
 pub mod ReadyTapes
 pub mod ReadyScans
 pub mod ReadyRestores

@@ -20,12 +20,13 @@ use Rattle.command_forms.proofs.NewNames.{line_apart}
 use Rattle.script_journals.specs.Dumping.{line_asks_dump}
 use Rattle.script_journals.proofs.Scripts.{ItemForms, item_forms}
 use Rattle.script_journals.proofs.DumpingScripts.{first_or, second_or}
-use Rattle.session_archives.specs.Held.{HoldsWorld, contents_on}
+use Rattle.session_archives.specs.Held.{HoldsWorld, contents_on, RepliesSettle}
 use Rattle.session_archives.specs.Ready.{IsReady, RestoresApartOn, RestoresApartThroughout, left_behind, time_by, time_at_first, at_first, IsReadyFor}
 use Rattle.session_archives.proofs.Orders.{moment_four, order_later}
 use Rattle.session_archives.proofs.Leading.{Leads, leads_nowhere, leads_then}
 use Rattle.session_archives.proofs.TurnLeads.{Lower, finds_of}
 use Rattle.session_archives.proofs.Scripts.{ReadyForItem, line_leads, line_holds, line_finds}
+use Rattle.session_archives.proofs.Replies.{settles_nowhere, line_settles, further_settles}
 use Rattle.session_archives.proofs.ReadyTurns.{turn_ready}
 
 -- ---- what a line says makes no volume under the name of a backup volume
@@ -162,6 +163,15 @@ module _ (laws : Lower) where
       let first = ready_first w ms line lines ready in
       further w s (script s.world s.moments lines) (contents_on s.world s.moments lines) s.goes (line_leads laws w ms held (item_of line) (item_forms line) first)
       (λ goes. script_leads s.world s.moments lines (line_holds laws w ms held (item_of line) (item_forms line) first) (ready_further w ms line lines ready held goes))
+
+  pub script_settles : (w : World) (ms : List ℕ) (lines : List (List ℕ)) → HoldsWorld w → IsReadyFor w ms lines → RepliesSettle w (script w ms lines).effects
+  unfolding script
+  script_settles w ms [] held ready = settles_nowhere w
+  script_settles w ms (line ∷ lines) held ready =
+      let s = one_line w ms (item_of line) in
+      let first = ready_first w ms line lines ready in
+      further_settles w s (script s.world s.moments lines) s.goes (line_leads laws w ms held (item_of line) (item_forms line) first).state (line_settles laws w ms held (item_of line) (item_forms line) first)
+      (λ goes. script_settles s.world s.moments lines (line_holds laws w ms held (item_of line) (item_forms line) first) (ready_further w ms line lines ready held goes))
 
   further_holds : (s rest : Outcome) (b : Bool) → HoldsWorld s.world → (b ≡ true → HoldsWorld rest.world) → HoldsWorld (if b then then_outcome s rest else s).world
   further_holds s rest true first second = second refl

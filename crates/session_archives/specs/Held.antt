@@ -3,7 +3,7 @@ use Rattle.std.specs.Prelude.{◌≡◌, ℕ, ◌-◌, ◌<◌, List, [], ◌∷
 use Rattle.plant_core.specs.Records.{Record}
 use Rattle.plant_core.specs.Stock.{Stock}
 use Rattle.plant_core.specs.Crashes.{IsSettled}
-use Rattle.plant_core.specs.Effects.{Effect, come}
+use Rattle.plant_core.specs.Effects.{Effect, tells, come}
 use Rattle.tape_answers.specs.Slots.{slots_of}
 use Rattle.budb_changes.specs.declared.change.Change.{Change}
 use Rattle.budb_changes.specs.declared.records.DumpRecordFields.{DumpRecordFields}
@@ -59,6 +59,10 @@ pub record KeepsListed (w : World) (before : List Effect) (e : Effect) : Type 0 
 -- so does each of these effects, behind those before it
 abbrev pub EachKeepsListed : World → List Effect → Type 0
 EachKeepsListed w effects = (count : ℕ) (e : Effect) → slice_get effects count ≡ Some e → KeepsListed w (take count effects) e
+
+-- Where a reply is told, all that was put before it is settled.
+abbrev pub RepliesSettle : World → List Effect → Type 0
+RepliesSettle w effects = (before after : List Effect) (reply : List ℕ) → effects ≡ before ++ tells reply ∷ after → 0 < length reply → IsSettled (come before w.state)
 
 -- What a crash leaves behind effects: the archive of their changes and of the tapes that are left, with the contents behind these effects.
 -- Each listed dump is held where it was.

@@ -26,7 +26,7 @@ ghost use Rattle.command_forms.specs.Forms.{HasForms};
 ghost use Rattle.command_forms.specs.NewNames.{NamesApart};
 ghost use Rattle.script_journals.specs.Worlds.{IsWorldForm};
 ghost use Rattle.script_journals.specs.Dumping.{IsFormedFor};
-ghost use Rattle.session_archives.specs.Held.{HoldsWorld, HoldsAfter, HoldsOnTheWay, contents_on, EachKeepsListed, HoldsImage};
+ghost use Rattle.session_archives.specs.Held.{HoldsWorld, HoldsAfter, HoldsOnTheWay, contents_on, EachKeepsListed, RepliesSettle, HoldsImage};
 ghost use Rattle.session_archives.specs.Ready.{IsFitWorld, IsReady, at_first, RestoresApart, RestoresApartThroughout, IsReadyForCommand, IsReadyFor, AreVolumesFor};
 
 use bk_text::form_tests;
@@ -61,14 +61,15 @@ pub fn commands_keep_the_archive()
 }
 
 /// A script keeps the archive that the plant holds at its start: behind all of its lines, with what the dumps have then, and behind each effect
-/// on the way, with what they have behind its line. None of them takes a tape from a dump that is listed behind it. So each of its commands that
-/// asks the archive finds it. A script with a dump finds a world that is ready at its first command, and restores no volume under a name that ends in `.backup`; of
+/// on the way, with what they have behind its line. None of them takes a tape from a dump that is listed behind it, and where a reply is told all
+/// that was put before it is settled. So each of its commands that asks the archive finds it. A script with a dump finds a world that is ready at its first command, and restores no volume under a name that ends in `.backup`; of
 /// other scripts nothing is asked.
 pub fn scripts_keep_the_archive()
     ensures behind { (w : World) (moments : AnyList ℕ) (lines : AnyList (AnyList ℕ)) → HoldsWorld w → IsReadyFor w moments lines → HoldsWorld (script w moments lines).world }
     ensures on_the_way { (w : World) (moments : AnyList ℕ) (lines : AnyList (AnyList ℕ)) → HoldsWorld w → IsReadyFor w moments lines → HoldsOnTheWay w (contents_on w moments lines) (script w moments lines).effects }
     ensures whole { (w : World) (moments : AnyList ℕ) (lines : AnyList (AnyList ℕ)) → HoldsWorld w → IsReadyFor w moments lines → HoldsAfter w (script w moments lines).world.contents (script w moments lines).effects }
     ensures listed { (w : World) (moments : AnyList ℕ) (lines : AnyList (AnyList ℕ)) → HoldsWorld w → IsReadyFor w moments lines → EachKeepsListed w (script w moments lines).effects }
+    ensures settled { (w : World) (moments : AnyList ℕ) (lines : AnyList (AnyList ℕ)) → HoldsWorld w → IsReadyFor w moments lines → RepliesSettle w (script w moments lines).effects }
     ensures throughout { (w : World) (moments : AnyList ℕ) (lines : AnyList (AnyList ℕ)) → HoldsWorld w → IsReadyFor w moments lines → IsHeldThroughout w moments lines }
 {
     form_tests();

@@ -1,18 +1,19 @@
-use Rattle.std.proofs.Common.{◌≡◌, inl, inr, [], ◌∷◌, ◌++◌, Bool, true, false, refl, sym, ◌∙◌, ap, subst, arith, Err}
-use Rattle.std.specs.Prelude.{◌||◌}
+use Rattle.std.proofs.Common.{◌≡◌, inl, inr, [], ◌∷◌, ◌++◌, true, false, refl, sym, ◌∙◌, ap, arith, Err}
 use Rattle.std.specs.Str.Lines.{lines, strip_carriage_return}
+use Rattle.std.proofs.lemmas.List.{append-nil}
 use Rattle.std.proofs.lemmas.List.Elements.{All-nil}
+use Rattle.plant_effects.specs.Runs.{state_of}
 use Rattle.backup_script.specs.declared.serving.ServeStop.{ServeStop}
 use Rattle.backup_script.specs.declared.serving.ServeStop.TheVariants.{Read, TooLong}
 use Rattle.backup_script.specs.Lines.{is_feed}
 use Rattle.backup_script.specs.Scripts.{script}
-use Rattle.backup_script.specs.Running.{ScriptRan}
 use Rattle.backup_script.proofs.ServingLaws.{went_nothing, nothing_begun}
+use Rattle.backup_script.specs.Watching.{Watched}
+use Rattle.backup_script.proofs.WatchLaws.{watched_from_start}
 use Rattle.backup_script.proofs.AnswerLaws.{not_false, not_true, err_is}
 use Rattle.plant_effects.proofs.Joining.{nothing_stays, stays_both}
-use Rattle.backup_script.proofs.LoopLaws.{Serving, reading_starts, reading_more, took_end, took_too_many, serving_starts, serving_held, serving_more, serving_ended, serving_left, serving_short, all_left, stop_takes}
+use Rattle.backup_script.proofs.LoopLaws.{reading_starts, reading_more, took_end, took_too_many, serving_starts, serving_held, serving_more, serving_ended, serving_left, serving_short, all_left, stop_takes}
 use Rattle.backup_script.proofs.serve.run_script.Goals as goal
-use Rattle.backup_script.proofs.serve.run_script.Goals.{then-refused, else-refused}
 
 pub loop-taken-init : goal.loop-taken-init
 loop-taken-init g c =
@@ -31,6 +32,7 @@ loop-taken-init g c =
       reading = λ source. ([], reading_starts left);
       serving = λ told tells_cell tells_clock source w fits held. serving_starts P g.C.Cell w (g.K.Clock.moments c.args.clock.now) left plant c.args.cell.now c.args.session.now c.requires
           (λ told survives image was. g.met.P.Plant.left plant image told c.requires survives was) fits;
+      watching = λ told tells_cell w fits. record { world = w; fits = fits; text = []; told = sym (append-nil (state_of P plant).told); is = c.new-watch.ensures };
     }
 
 pub returns-in-Err-clause-left : goal.returns-in-Err-clause-left
@@ -39,8 +41,8 @@ returns-in-Err-clause-left g c = λ told tells_cell tells_clock source w fits he
     let l = c.loop-taken in
     let n = c.serve_line.new in
     let so = l.invariant.serving told tells_cell tells_clock source w fits held in
-    serving_left P g.C.Cell w (g.K.Clock.moments c.args.clock.now) (g.S.Source.left c.args.source.now) c.args.plant.now l.plant l.cell l.session (g.K.Clock.moments l.clock) (g.S.Source.left l.source) l.refused so n.plant n.cell
-    (c.in-Err.ensures.left told tells_cell tells_clock source (script w (g.K.Clock.moments c.args.clock.now) so.ran).world so.so_far.went.fits (serving_held P g.C.Cell w (g.K.Clock.moments c.args.clock.now) (g.S.Source.left c.args.source.now) c.args.plant.now l.plant l.cell l.session (g.K.Clock.moments l.clock) (g.S.Source.left l.source) l.refused so held))
+    serving_left P g.C.Cell w (g.K.Clock.moments c.args.clock.now) (g.S.Source.left c.args.source.now) c.args.plant.now l.plant l.cell l.session (g.K.Clock.moments l.clock) (g.S.Source.left l.source) so n.plant n.cell
+    (c.in-Err.ensures.left told tells_cell tells_clock source (script w (g.K.Clock.moments c.args.clock.now) so.ran).world so.so_far.went.fits (serving_held P g.C.Cell w (g.K.Clock.moments c.args.clock.now) (g.S.Source.left c.args.source.now) c.args.plant.now l.plant l.cell l.session (g.K.Clock.moments l.clock) (g.S.Source.left l.source) so held))
 
 pub returns-in-Err-clause-read_short : goal.returns-in-Err-clause-read_short
 returns-in-Err-clause-read_short g c = λ told tells_cell tells_clock source w fits held is.
@@ -50,7 +52,7 @@ returns-in-Err-clause-read_short g c = λ told tells_cell tells_clock source w f
     let e = c.in-Err.ensures in
     let so = l.invariant.serving told tells_cell tells_clock source w fits held in
     let took = e.took source in
-    serving_short P g.C.Cell w (g.K.Clock.moments c.args.clock.now) (g.S.Source.left c.args.source.now) c.args.plant.now l.plant l.cell l.session (g.K.Clock.moments l.clock) (g.S.Source.left l.source) l.refused so n.plant n.cell n.session (g.K.Clock.moments n.clock) (g.S.Source.left n.source)
+    serving_short P g.C.Cell w (g.K.Clock.moments c.args.clock.now) (g.S.Source.left c.args.source.now) c.args.plant.now l.plant l.cell l.session (g.K.Clock.moments l.clock) (g.S.Source.left l.source) so n.plant n.cell n.session (g.K.Clock.moments n.clock) (g.S.Source.left n.source)
     took.0 n.taken took.1 (took.2 (inr (err_is Read c.in-Err.stop is))) (omega (arith, l.invariant.count source, e.count source)) e.within
     (e.read_short told tells_cell tells_clock (script w (g.K.Clock.moments c.args.clock.now) so.ran).world so.so_far.went.fits (ap (λ (s : ServeStop). Err s) (err_is Read c.in-Err.stop is)))
 
@@ -62,7 +64,7 @@ returns-in-Err-clause-long_short g c = λ told tells_cell tells_clock source w f
     let e = c.in-Err.ensures in
     let so = l.invariant.serving told tells_cell tells_clock source w fits held in
     let took = e.took source in
-    serving_short P g.C.Cell w (g.K.Clock.moments c.args.clock.now) (g.S.Source.left c.args.source.now) c.args.plant.now l.plant l.cell l.session (g.K.Clock.moments l.clock) (g.S.Source.left l.source) l.refused so n.plant n.cell n.session (g.K.Clock.moments n.clock) (g.S.Source.left n.source)
+    serving_short P g.C.Cell w (g.K.Clock.moments c.args.clock.now) (g.S.Source.left c.args.source.now) c.args.plant.now l.plant l.cell l.session (g.K.Clock.moments l.clock) (g.S.Source.left l.source) so n.plant n.cell n.session (g.K.Clock.moments n.clock) (g.S.Source.left n.source)
     took.0 n.taken took.1 (took.2 (inl (err_is TooLong c.in-Err.stop is))) (omega (arith, l.invariant.count source, e.count source)) e.within
     (e.long_short told tells_cell tells_clock (script w (g.K.Clock.moments c.args.clock.now) so.ran).world so.so_far.went.fits (ap (λ (s : ServeStop). Err s) (err_is TooLong c.in-Err.stop is)))
 
@@ -84,10 +86,14 @@ returns-then-not-passed-clause-ran g c = λ told tells_cell tells_clock source w
     let input = g.S.Source.left c.args.source.now in
     let so = l.invariant.serving told tells_cell tells_clock source w fits held in
     let passed = c.in-Ok.passed in
-    let is : c.if-refused.refused ≡ (l.refused || passed.refused) = elim c.if-refused.branch [ then-refused b ↦ b.refused-is ∙ b.if-refused.true ∙ ap (λ (x : Bool). x || passed.refused) (sym b.if-refused.true) | else-refused b ↦ b.refused-is ∙ ap (λ (x : Bool). x || passed.refused) (sym b.if-refused.false) ] in
-    subst (λ (b : Bool). ScriptRan P g.C.Cell (script w ms (lines input)) c.args.plant.now n.plant n.cell n.session (g.K.Clock.moments n.clock) b) (sym is)
-    (serving_ended P g.C.Cell w ms input c.args.plant.now l.plant l.cell l.session (g.K.Clock.moments l.clock) (g.S.Source.left l.source) l.refused so n.plant n.cell n.session (g.K.Clock.moments n.clock) passed.refused
-    (c.in-Ok.ensures.ended told tells_cell tells_clock source (script w ms so.ran).world so.so_far.went.fits (serving_held P g.C.Cell w (g.K.Clock.moments c.args.clock.now) (g.S.Source.left c.args.source.now) c.args.plant.now l.plant l.cell l.session (g.K.Clock.moments l.clock) (g.S.Source.left l.source) l.refused so held) (not_true passed.goes c.if-not-passed.true)))
+    serving_ended P g.C.Cell w ms input c.args.plant.now l.plant l.cell l.session (g.K.Clock.moments l.clock) (g.S.Source.left l.source) so n.plant n.cell n.session (g.K.Clock.moments n.clock)
+    (c.in-Ok.ensures.ended told tells_cell tells_clock source (script w ms so.ran).world so.so_far.went.fits (serving_held P g.C.Cell w (g.K.Clock.moments c.args.clock.now) (g.S.Source.left c.args.source.now) c.args.plant.now l.plant l.cell l.session (g.K.Clock.moments l.clock) (g.S.Source.left l.source) so held) (not_true passed.goes c.if-not-passed.true))
+
+pub returns-then-not-passed-clause-flag : goal.returns-then-not-passed-clause-flag
+returns-then-not-passed-clause-flag g c = λ told tells_cell w fits.
+    let P = g.P.Plant in
+    let so = c.in-Ok.ensures.watched told tells_cell (state_of P c.args.plant.now).told (c.loop-taken.invariant.watching told tells_cell w fits) in
+    record { text = so.text; told = so.told; is = c.refused.ensures ∙ ap (λ (v : Watched). v.refused) so.is ∙ watched_from_start so.text }
 
 pub returns-then-not-passed-clause-left : goal.returns-then-not-passed-clause-left
 returns-then-not-passed-clause-left g c = λ told tells_cell tells_clock source w fits held.
@@ -97,9 +103,9 @@ returns-then-not-passed-clause-left g c = λ told tells_cell tells_clock source 
     let ms = g.K.Clock.moments c.args.clock.now in
     let input = g.S.Source.left c.args.source.now in
     let so = l.invariant.serving told tells_cell tells_clock source w fits held in
-    let ran = c.in-Ok.ensures.ended told tells_cell tells_clock source (script w ms so.ran).world so.so_far.went.fits (serving_held P g.C.Cell w (g.K.Clock.moments c.args.clock.now) (g.S.Source.left c.args.source.now) c.args.plant.now l.plant l.cell l.session (g.K.Clock.moments l.clock) (g.S.Source.left l.source) l.refused so held) (not_true c.in-Ok.passed.goes c.if-not-passed.true) in
-    all_left P g.C.Cell w ms (lines input) c.args.plant.now n.plant n.cell n.session (g.K.Clock.moments n.clock) (l.refused || c.in-Ok.passed.refused)
-    (serving_ended P g.C.Cell w ms input c.args.plant.now l.plant l.cell l.session (g.K.Clock.moments l.clock) (g.S.Source.left l.source) l.refused so n.plant n.cell n.session (g.K.Clock.moments n.clock) c.in-Ok.passed.refused ran)
+    let ran = c.in-Ok.ensures.ended told tells_cell tells_clock source (script w ms so.ran).world so.so_far.went.fits (serving_held P g.C.Cell w (g.K.Clock.moments c.args.clock.now) (g.S.Source.left c.args.source.now) c.args.plant.now l.plant l.cell l.session (g.K.Clock.moments l.clock) (g.S.Source.left l.source) so held) (not_true c.in-Ok.passed.goes c.if-not-passed.true) in
+    all_left P g.C.Cell w ms (lines input) c.args.plant.now n.plant n.cell n.session (g.K.Clock.moments n.clock)
+    (serving_ended P g.C.Cell w ms input c.args.plant.now l.plant l.cell l.session (g.K.Clock.moments l.clock) (g.S.Source.left l.source) so n.plant n.cell n.session (g.K.Clock.moments n.clock) ran)
 
 pub returns-then-not-passed-clause-takes : goal.returns-then-not-passed-clause-takes
 returns-then-not-passed-clause-takes g c = λ source.
@@ -120,7 +126,6 @@ loop-taken-preserved g c =
     let input = g.S.Source.left c.args.source.now in
     let passed = c.in-Ok.passed in
     let on : passed.goes ≡ true = not_false passed.goes c.if-not-passed.false in
-    let is : c.if-refused.refused ≡ (l.refused || passed.refused) = elim c.if-refused.branch [ then-refused b ↦ b.refused-is ∙ b.if-refused.true ∙ ap (λ (x : Bool). x || passed.refused) (sym b.if-refused.true) | else-refused b ↦ b.refused-is ∙ ap (λ (x : Bool). x || passed.refused) (sym b.if-refused.false) ] in
     record {
       within = e.within;
       sound = e.sound;
@@ -136,9 +141,9 @@ loop-taken-preserved g c =
           (so.0 ++ strip_carriage_return took.0 ∷ [], reading_more input (g.S.Source.left l.source) (g.S.Source.left n.source) so.0 took.0 so.1 took.1 took.2);
       serving = λ told tells_cell tells_clock source w fits held.
           let so = i.serving told tells_cell tells_clock source w fits held in
-          subst (λ (b : Bool). Serving P g.C.Cell w ms input c.args.plant.now n.plant n.cell n.session (g.K.Clock.moments n.clock) (g.S.Source.left n.source) b) (sym is)
-          (serving_more P g.C.Cell w ms input c.args.plant.now l.plant l.cell l.session (g.K.Clock.moments l.clock) (g.S.Source.left l.source) l.refused so n.plant n.cell n.session (g.K.Clock.moments n.clock) (g.S.Source.left n.source) passed.refused
-          (e.passed told tells_cell tells_clock source (script w ms so.ran).world so.so_far.went.fits (serving_held P g.C.Cell w (g.K.Clock.moments c.args.clock.now) (g.S.Source.left c.args.source.now) c.args.plant.now l.plant l.cell l.session (g.K.Clock.moments l.clock) (g.S.Source.left l.source) l.refused so held) on));
+          serving_more P g.C.Cell w ms input c.args.plant.now l.plant l.cell l.session (g.K.Clock.moments l.clock) (g.S.Source.left l.source) so n.plant n.cell n.session (g.K.Clock.moments n.clock) (g.S.Source.left n.source)
+          (e.passed told tells_cell tells_clock source (script w ms so.ran).world so.so_far.went.fits (serving_held P g.C.Cell w (g.K.Clock.moments c.args.clock.now) (g.S.Source.left c.args.source.now) c.args.plant.now l.plant l.cell l.session (g.K.Clock.moments l.clock) (g.S.Source.left l.source) so held) on);
+      watching = λ told tells_cell w fits. e.watched told tells_cell (state_of P c.args.plant.now).told (i.watching told tells_cell w fits);
     }
 
 pub returns-clause-long_short : goal.returns-clause-long_short
@@ -147,7 +152,7 @@ returns-clause-long_short g c = λ told tells_cell tells_clock source w fits hel
     let l = c.loop-taken in
     let rest = g.S.Source.left l.source in
     let so = l.invariant.serving told tells_cell tells_clock source w fits held in
-    serving_short P g.C.Cell w (g.K.Clock.moments c.args.clock.now) (g.S.Source.left c.args.source.now) c.args.plant.now l.plant l.cell l.session (g.K.Clock.moments l.clock) rest l.refused so l.plant l.cell l.session (g.K.Clock.moments l.clock) rest
+    serving_short P g.C.Cell w (g.K.Clock.moments c.args.clock.now) (g.S.Source.left c.args.source.now) c.args.plant.now l.plant l.cell l.session (g.K.Clock.moments l.clock) rest so l.plant l.cell l.session (g.K.Clock.moments l.clock) rest
     [] l.taken refl (All-nil (λ b. is_feed b ≡ false)) (l.invariant.count source) l.invariant.within
     (went_nothing P g.C.Cell (script w (g.K.Clock.moments c.args.clock.now) so.ran).world (g.K.Clock.moments l.clock) l.plant l.cell l.session true l.invariant.sound so.so_far.went.fits)
 
@@ -157,7 +162,7 @@ returns-clause-left g c = λ told tells_cell tells_clock source w fits held.
     let l = c.loop-taken in
     let ms = g.K.Clock.moments c.args.clock.now in
     let so = l.invariant.serving told tells_cell tells_clock source w fits held in
-    serving_left P g.C.Cell w ms (g.S.Source.left c.args.source.now) c.args.plant.now l.plant l.cell l.session (g.K.Clock.moments l.clock) (g.S.Source.left l.source) l.refused so l.plant l.cell
+    serving_left P g.C.Cell w ms (g.S.Source.left c.args.source.now) c.args.plant.now l.plant l.cell l.session (g.K.Clock.moments l.clock) (g.S.Source.left l.source) so l.plant l.cell
     (nothing_begun P g.C.Cell (script w ms so.ran).world (g.K.Clock.moments l.clock) (lines (g.S.Source.left l.source)) l.plant l.cell l.session (λ told survives image was. g.met.P.Plant.left l.plant image told l.invariant.sound survives was) so.so_far.went.fits)
 
 pub returns-clause-takes : goal.returns-clause-takes

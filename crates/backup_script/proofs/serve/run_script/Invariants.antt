@@ -1,9 +1,10 @@
 use Rattle.std.proofs.Common.{◌≡◌, ℕ, List, ◌≤◌, ◌+◌, ◌-◌, length}
 use Rattle.std.specs.Str.Lines.{lines}
-use Rattle.plant_effects.specs.Runs.{Stays}
+use Rattle.plant_effects.specs.Runs.{state_of, Stays}
 use Rattle.backup_session.specs.Worlds.{World}
 use Rattle.backup_session.specs.Fitting.{Fits}
 use Rattle.backup_script.specs.Held.{IsHeldThroughout}
+use Rattle.backup_script.specs.Running.{IsWatched}
 use Rattle.backup_script.proofs.LoopLaws.{Reading, Serving}
 use Rattle.backup_script.proofs.serve.run_script.Given as goal
 
@@ -22,7 +23,8 @@ invariant-loop-taken g l =
       count : g.S.Source.tells → length (left l.fn.source) ≡ length (left l.source) + l.taken;
       reading : g.S.Source.tells → (ran : List (List ℕ)) × Reading (left l.fn.source) (left l.source) ran;
       serving : P.tells → g.C.Cell.tells → g.K.Clock.tells → g.S.Source.tells → (w : World) → Fits P g.C.Cell w l.fn.plant l.fn.cell l.fn.session
-          → IsHeldThroughout w (g.K.Clock.moments l.fn.clock) (lines (left l.fn.source)) → Serving P g.C.Cell w (g.K.Clock.moments l.fn.clock) (left l.fn.source) l.fn.plant l.plant l.cell l.session (g.K.Clock.moments l.clock) (left l.source) l.refused;
+          → IsHeldThroughout w (g.K.Clock.moments l.fn.clock) (lines (left l.fn.source)) → Serving P g.C.Cell w (g.K.Clock.moments l.fn.clock) (left l.fn.source) l.fn.plant l.plant l.cell l.session (g.K.Clock.moments l.clock) (left l.source);
+      watching : P.tells → g.C.Cell.tells → (w : World) → Fits P g.C.Cell w l.fn.plant l.fn.cell l.fn.session → IsWatched P g.C.Cell (state_of P l.fn.plant).told l.plant l.cell l.session l.watch;
     }
 
 abbrev pub decreases-loop-taken : goal.decreases-loop-taken

@@ -1,14 +1,28 @@
-use Rattle.std.proofs.Common.{ℕ, List, [], ◌∷◌, sym, subst, Ok, Err, OnErr}
+use Rattle.std.proofs.Common.{ℕ, List, [], ◌∷◌, sym, ◌∙◌, ap, subst, Ok, Err, OnErr}
 use Rattle.plant_core.specs.Effects.{tells}
-use Rattle.plant_effects.specs.Runs.{Leaves}
+use Rattle.plant_effects.specs.Runs.{Done, Leaves}
 use Rattle.backup_script.specs.declared.item.Item.{Item}
 use Rattle.backup_session.specs.Machine.{turn}
 use Rattle.backup_script.specs.Scripts.{first_of}
 use Rattle.backup_script.specs.Held.{HeldForLine}
 use Rattle.backup_script.specs.Running.{LineLeft, TurnLeft}
 use Rattle.backup_script.specs.declared.item.Item.TheVariants.{Runs}
-use Rattle.backup_script.proofs.ItemLaws.{refusal_left, runs_left, in_err}
+use Rattle.backup_script.specs.Watching.{with_text}
+use Rattle.backup_script.proofs.TellingLaws.{refusal_watched}
+use Rattle.backup_script.proofs.ItemLaws.{refusal_left, runs_left, in_err, on_ok}
 use Rattle.backup_script.proofs.serving.run_item.Goals as goal
+
+pub returns-in-Refused-clause-watched : goal.returns-in-Refused-clause-watched
+returns-in-Refused-clause-watched g c = λ told tells_cell before so.
+    let P = g.P.Plant in
+    let old = c.args.plant.now in
+    let n = c.tell_refusal.new in
+    let is = c.as_slice.ensures in
+    let e = c.tell_refusal.ensures in
+    on_ok c.tell_refusal.result _ _ _ _
+    (λ done numbers watched. refusal_watched P g.C.Cell before c.in-Refused.text old n.plant c.args.cell.now c.args.session.now c.args.watch.now n.watch so told (subst (λ (l : List ℕ). Done P (tells l ∷ []) old n.plant) is done) numbers e.stays.stays
+    (watched ∙ ap (λ (l : List ℕ). with_text c.args.watch.now l) is))
+    e.done e.numbers e.watched
 
 pub returns-in-Refused-clause-left : goal.returns-in-Refused-clause-left
 returns-in-Refused-clause-left g c = λ told tells_cell tells_clock w fits held.

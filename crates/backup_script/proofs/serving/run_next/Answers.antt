@@ -12,7 +12,7 @@ returns-in-Ok-clause-went g c = λ told tells_cell tells_clock w fits held.
     let P = g.P.Plant in
     let ms = g.K.Clock.moments c.args.clock.now in
     let is = first_is ms c.now-now.result (c.now-now.ensures.first tells_clock) in
-    subst (λ (n : ℕ). LineRan P g.C.Cell (command_told w ms (turn w n c.args.command.now)) c.args.plant.now c.run_command.new.plant c.run_command.new.cell c.run_command.new.session (g.K.Clock.moments c.now-now.new.self) true c.in-Ok.refused)
+    subst (λ (n : ℕ). LineRan P g.C.Cell (command_told w ms (turn w n c.args.command.now)) c.args.plant.now c.run_command.new.plant c.run_command.new.cell c.run_command.new.session (g.K.Clock.moments c.now-now.new.self) true)
     (sym is)
-    (subst (λ (left : List ℕ). LineRan P g.C.Cell (command_told w ms (turn w c.now-now.result c.args.command.now)) c.args.plant.now c.run_command.new.plant c.run_command.new.cell c.run_command.new.session left true c.in-Ok.refused)
+    (subst (λ (left : List ℕ). LineRan P g.C.Cell (command_told w ms (turn w c.now-now.result c.args.command.now)) c.args.plant.now c.run_command.new.plant c.run_command.new.cell c.run_command.new.session left true)
     (sym (c.now-now.ensures.rest tells_clock)) (c.in-Ok.ensures.went told tells_cell w fits (subst (λ (n : ℕ). HeldFor (at_moment w n) c.args.command.now) is held) ms))

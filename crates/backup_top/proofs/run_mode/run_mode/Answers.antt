@@ -1,14 +1,16 @@
-use Rattle.std.proofs.Common.{[], refl, subst}
+use Rattle.std.proofs.Common.{[], refl, sym, subst}
 use Rattle.std.specs.Str.Lines.{lines}
 use Rattle.crash_moments.proofs.Joining.{stays}
+use Rattle.plant_media.specs.Stock.{stock_of}
 use Rattle.tape_config.specs.Configs.{Settings}
 use Rattle.budb_changes.specs.Bytes.{encoded}
 use Rattle.backup_script.specs.Scripts.{between}
 use Rattle.backup_script.proofs.StageLaws.{stage_front}
-use Rattle.backup_top.specs.Courses.{Course, course, course_of, FindsHeld, Runs, CellAtStage, EndsAt, LeavesImages, outcome}
+use Rattle.backup_top.specs.declared.status.Status.{Status}
+use Rattle.backup_top.specs.Courses.{Course, course, course_of, FindsHeld, Runs, TellsLines, CellAtStage, EndsAt, LeavesImages, outcome}
 use Rattle.backup_top.proofs.Lowering.{still_left, nothing_since}
 use Rattle.backup_top.proofs.TapeCounts.{has_tapes}
-use Rattle.backup_top.proofs.CourseLaws.{OpenedForms, has_forms, settings_same, journaled, images_of, ends_at}
+use Rattle.backup_top.proofs.CourseLaws.{OpenedForms, has_forms, settings_same, config_lines, journaled, images_of, ends_at}
 use Rattle.backup_top.proofs.run_mode.run_mode.Goals as goal
 
 pub returns-in-Ok-clause-runs : goal.returns-in-Ok-clause-runs
@@ -37,7 +39,7 @@ returns-in-Err-clause-images g c = λ told tells_cell tells_clock source still e
     let has = has_tapes k.world (M.present media) (M.seen media) (M.count media) refl refl (g.met.M.Media.here_below media) (g.met.M.Media.few_files media) in
     let laws : OpenedForms = record { lines = c.opened_worlds_have_their_forms.ensures.lines; ready = c.opened_worlds_have_their_forms.ensures.ready; fit = c.opened_worlds_have_their_forms.ensures.fit } in
     let forms = has_forms laws k c.args.config.now entry.says has entry.journal.form (g.met.C.Cell.is_cell c.args.cell.now tells_cell) (c.listed_is_allowed.ensures tells_cell) refl in
-    images_of M.time media media k (outcome k).effects (journaled c.journals_of_scripts.ensures c.scripts_keep_the_archive.ensures.on_the_way c.scripts_keep_the_archive.ensures.listed c.images_hold_the_archive.ensures.behind k forms has refl entry.journal.form refl)
+    images_of M.time media media k (outcome k).effects (journaled c.journals_of_scripts.ensures c.scripts_keep_the_archive.ensures.on_the_way c.scripts_keep_the_archive.ensures.listed c.scripts_keep_the_archive.ensures.settled c.images_hold_the_archive.ensures.behind k forms has refl entry.journal.form refl)
     (nothing_since M.time M.seen media bytes media (outcome k).effects (still_left M.time M.seen media bytes still (λ image was. g.met.M.Media.told_left media image told was) entry.journal.is) (stays M.time media))
 
 pub returns-in-Err-clause-ends : goal.returns-in-Err-clause-ends
@@ -49,7 +51,7 @@ returns-in-Err-clause-ends g c = λ told tells_cell tells_clock source still ent
     let has = has_tapes k.world (M.present media) (M.seen media) (M.count media) refl refl (g.met.M.Media.here_below media) (g.met.M.Media.few_files media) in
     let laws : OpenedForms = record { lines = c.opened_worlds_have_their_forms.ensures.lines; ready = c.opened_worlds_have_their_forms.ensures.ready; fit = c.opened_worlds_have_their_forms.ensures.fit } in
     let forms = has_forms laws k c.args.config.now entry.says has entry.journal.form (g.met.C.Cell.is_cell c.args.cell.now tells_cell) (c.listed_is_allowed.ensures tells_cell) refl in
-    ends_at M.time M.seen media media k (between [] k.world) (stage_front [] k.world k.moments (lines k.input)) refl (journaled c.journals_of_scripts.ensures c.scripts_keep_the_archive.ensures.on_the_way c.scripts_keep_the_archive.ensures.listed c.images_hold_the_archive.ensures.behind k forms has refl entry.journal.form refl) (stays M.time media).later (g.met.M.Media.seen_may_be_left media told)
+    ends_at M.time M.seen media media k (between [] k.world) (stage_front [] k.world k.moments (lines k.input)) refl (journaled c.journals_of_scripts.ensures c.scripts_keep_the_archive.ensures.on_the_way c.scripts_keep_the_archive.ensures.listed c.scripts_keep_the_archive.ensures.settled c.images_hold_the_archive.ensures.behind k forms has refl entry.journal.form refl) (stays M.time media).later (g.met.M.Media.seen_may_be_left media told)
     (nothing_since M.time M.seen media bytes media [] (still_left M.time M.seen media bytes still (λ image was. g.met.M.Media.told_left media image told was) entry.journal.is) (stays M.time media))
 
 pub returns-in-Ok-clause-cell_at_end : goal.returns-in-Ok-clause-cell_at_end
@@ -75,3 +77,11 @@ returns-in-Ok-clause-ends g c = λ told tells_cell tells_clock source still entr
     FindsHeld k → EndsAt M.time M.seen c.args.media c.run_media.result.1 k)
     (settings_same c.args.config.now c.in-Ok.config entry.settings c.in-Ok.ensures entry.says)
     (c.run_media.ensures.ends told tells_cell tells_clock source still c.args.config.now c.in-Ok.ensures entry.journal contents)
+
+pub returns-in-Err-clause-told_lines : goal.returns-in-Err-clause-told_lines
+returns-in-Err-clause-told_lines g c = λ told tells_cell.
+    let at = (stock_of (g.M.Media.seen c.args.media)).told in
+    subst (λ (s : Status). TellsLines at at s) (sym c.of_config.ensures) (config_lines at at c.in-Err.fault)
+
+pub returns-in-Err-clause-same_files : goal.returns-in-Err-clause-same_files
+returns-in-Err-clause-same_files g c = record { same_count = refl; same_present = λ f. refl }

@@ -1,4 +1,4 @@
-use Rattle.std.proofs.Common.{◌≡◌, ℕ, ◌-◌, List, [], Some, refl, sym, ◌∙◌, ap, subst}
+use Rattle.std.proofs.Common.{◌≡◌, ℕ, ◌-◌, Bool, [], refl, sym, ◌∙◌, ap, subst, arith}
 use Rattle.std.specs.Str.Lines.{lines}
 use Rattle.plant_core.specs.Crashes.{settled_part}
 use Rattle.plant_core.specs.Stock.{Stock}
@@ -7,6 +7,7 @@ use Rattle.crash_log.specs.Log.{is_damaged}
 use Rattle.plant_media.specs.Stock.{stock_of, journal_of}
 use Rattle.plant_media.specs.State.{shown_of}
 use Rattle.budb_changes.specs.Bytes.{encoded}
+use Rattle.budb_changes.specs.Forms.{IsLog}
 use Rattle.backup_session.specs.Worlds.{World}
 use Rattle.backup_session.specs.Opening.{opened}
 use Rattle.backup_script.specs.Scripts.{between, script, IsStage}
@@ -16,10 +17,11 @@ use Rattle.session_archives.specs.Held.{HoldsWorld, HoldsAfter}
 use Rattle.session_archives.specs.Ready.{IsReady, RestoresApartThroughout, at_first, IsReadyFor}
 use Rattle.backup_top.specs.declared.status.Status.{Status}
 use Rattle.backup_top.specs.declared.status.Status.TheVariants.{MediaFault}
-use Rattle.backup_top.specs.Courses.{Course, course, outcome, at_rest, Runs, RefusesJournal, HasCauseAs}
-use Rattle.backup_top.proofs.Lowering.{opened_rests, shown_log, settled_whole, journal_damaged, still_left, nothing_since, images_left, images_later, alike_same, none_some}
+use Rattle.backup_top.specs.Answers.{run_status}
+use Rattle.backup_top.specs.Courses.{Course, course, outcome, at_rest, Runs, TellsLines, RefusesJournal, HasCauseAs}
+use Rattle.backup_top.proofs.Lowering.{opened_rests, shown_log, settled_whole, journal_damaged, still_left, nothing_since, images_left, images_later, alike_same, none_some, same_files, shown_told}
 use Rattle.backup_top.proofs.TapeCounts.{has_tapes}
-use Rattle.backup_top.proofs.CourseLaws.{OpenedForms, has_forms, ready_for, leaves_media, runs_of, runs_not_opened, bad_log_answer, refuses_journal, opening_bad, opening_cause, bad_journal, damaged_journal, journaled, images_of, ends_at, left_whole}
+use Rattle.backup_top.proofs.CourseLaws.{OpenedForms, has_forms, ready_for, leaves_media, runs_of, runs_not_opened, journal_of_log, told_lines, opening_lines, opening_later, bad_log_answer, refuses_journal, opening_bad, opening_cause, bad_journal, damaged_journal, journaled, images_of, ends_at, left_whole}
 use Rattle.backup_top.proofs.running.run_media.Goals as goal
 
 pub returns-in-Ok-clause-runs : goal.returns-in-Ok-clause-runs
@@ -75,7 +77,7 @@ returns-in-Ok-clause-images g c = λ told tells_cell tells_clock source still na
     let found = subst (λ (w : World). IsHeldThroughout w k.moments (lines k.input)) (sym same) held in
     let left = r.left told tells_cell tells_clock source (e.settled told) journal.log journal.form log_is contents found in
     let leaves = left_whole _ g.C.Cell _ k.world k.moments (lines k.input) plant n.plant n.cell same left in
-    images_of M.time media c.into_media.result k (outcome k).effects (journaled c.journals_of_scripts.ensures c.scripts_keep_the_archive.ensures.on_the_way c.scripts_keep_the_archive.ensures.listed c.images_hold_the_archive.ensures.behind k forms has refl journal.form refl)
+    images_of M.time media c.into_media.result k (outcome k).effects (journaled c.journals_of_scripts.ensures c.scripts_keep_the_archive.ensures.on_the_way c.scripts_keep_the_archive.ensures.listed c.scripts_keep_the_archive.ensures.settled c.images_hold_the_archive.ensures.behind k forms has refl journal.form refl)
     (images_left M.time M.seen media bytes c.into_media.result (outcome k).effects (still_left M.time M.seen media bytes still (λ image was. g.met.M.Media.told_left media image told was) journal.is)
     shown plant n.plant c.into_media.ensures.media rests (e.crash told) (leaves.crash told (e.survives told still)))
 
@@ -103,7 +105,7 @@ returns-in-Ok-clause-ends g c = λ told tells_cell tells_clock source still name
     let left = r.left told tells_cell tells_clock source (e.settled told) journal.log journal.form log_is contents found in
     let fits = still_left M.time M.seen media bytes still (λ image was. g.met.M.Media.told_left media image told was) journal.is in
     let crash = left.leaves.crash told (e.survives told still) in
-    ends_at M.time M.seen media back k left.stage (subst (λ (w : World). IsStage [] w k.moments (lines k.input) left.stage) same left.on_the_way) left.cell (journaled c.journals_of_scripts.ensures c.scripts_keep_the_archive.ensures.on_the_way c.scripts_keep_the_archive.ensures.listed c.images_hold_the_archive.ensures.behind k forms has refl journal.form refl)
+    ends_at M.time M.seen media back k left.stage (subst (λ (w : World). IsStage [] w k.moments (lines k.input) left.stage) same left.on_the_way) left.cell (journaled c.journals_of_scripts.ensures c.scripts_keep_the_archive.ensures.on_the_way c.scripts_keep_the_archive.ensures.listed c.scripts_keep_the_archive.ensures.settled c.images_hold_the_archive.ensures.behind k forms has refl journal.form refl)
     (images_later M.time M.seen media bytes back left.stage.effects fits shown plant n.plant c.into_media.ensures.media rests (e.crash told) crash)
     (g.met.M.Media.seen_may_be_left back told)
     (images_left M.time M.seen media bytes back left.stage.effects fits shown plant n.plant c.into_media.ensures.media rests (e.crash told) crash)
@@ -116,11 +118,70 @@ returns-in-Ok-clause-bad_log g c = λ told at is.
     bad_journal (stock_of (M.seen c.args.media)).log shown.log at (ap (λ (x : Stock). x.log) (e.stock told)) (c.run_on-answer.ensures.bad_log told at (bad_log_answer c.run_on-answer.result at (sym c.of_run.ensures ∙ is)))
 
 pub returns-in-Ok-clause-only_bad_log : goal.returns-in-Ok-clause-only_bad_log
-returns-in-Ok-clause-only_bad_log g c = λ told tells_cell none.
+returns-in-Ok-clause-only_bad_log g c = λ told none.
     let M = g.M.Media in
     let e = c.in-Ok.ensures in
-    subst RefusesJournal (sym c.of_run.ensures) (refuses_journal c.run_on-answer.result (c.run_on-answer.ensures.only_bad_log told tells_cell
-    (λ is_log. none (record { log = is_log.0; form = is_log.1; is = ap (λ (x : Stock). x.log) (e.stock told) ∙ ap (λ (l : List ℕ). Some l) is_log.2 }))))
+    subst RefusesJournal (sym c.of_run.ensures) (refuses_journal c.run_on-answer.result (c.run_on-answer.ensures.only_bad_log told
+    (λ is_log. none (journal_of_log (stock_of (M.seen c.args.media)) (shown_of M.seen c.in-Ok.plant) (e.stock told) is_log))))
+
+pub returns-in-Ok-clause-refused_log_media : goal.returns-in-Ok-clause-refused_log_media
+returns-in-Ok-clause-refused_log_media g c = λ told none well.
+    let M = g.M.Media in
+    let e = c.in-Ok.ensures in
+    let shown = shown_of M.seen c.in-Ok.plant in
+    let done = c.run_on-answer.ensures.refused_log_done told (λ is_log. none (journal_of_log (stock_of (M.seen c.args.media)) shown (e.stock told) is_log)) (λ is. well (c.of_run.ensures ∙ ap run_status is)) in
+    c.into_media.ensures.stock told done.sound ∙ ap settled_part (sym (alike_same shown (shown_of M.seen c.run_on-answer.new.plant) (done.state told))) ∙ settled_whole shown (e.settled told) ∙ sym (e.stock told)
+
+pub returns-in-Ok-clause-refused_log_same : goal.returns-in-Ok-clause-refused_log_same
+returns-in-Ok-clause-refused_log_same g c = λ told none.
+    let M = g.M.Media in
+    let none_there : IsLog (shown_of M.seen c.in-Ok.plant).log → ⊥ = λ is_log. none (journal_of_log (stock_of (M.seen c.args.media)) (shown_of M.seen c.in-Ok.plant) (c.in-Ok.ensures.stock told) is_log) in
+    let same = c.run_on-answer.ensures.refused_log_clock told none_there in
+    (c.run_on-answer.ensures.refused_log_cell told none_there, same.0, same.1)
+
+pub returns-in-Err-clause-refused_log_media : goal.returns-in-Err-clause-refused_log_media
+returns-in-Err-clause-refused_log_media g c = λ told none well. ap stock_of (c.in-Err.ensures.seen told)
+
+pub returns-in-Ok-clause-damaged_same : goal.returns-in-Ok-clause-damaged_same
+returns-in-Ok-clause-damaged_same g c = λ told damaged. absurd (none_some (shown_of g.M.Media.seen c.in-Ok.plant).log (sym damaged ∙ ap (λ (x : Stock). x.log) (c.in-Ok.ensures.stock told)))
+
+pub returns-in-Err-clause-damaged_same : goal.returns-in-Err-clause-damaged_same
+returns-in-Err-clause-damaged_same g c = λ told damaged. (c.in-Err.ensures.seen told, refl, refl, refl)
+
+pub returns-in-Ok-clause-told_lines : goal.returns-in-Ok-clause-told_lines
+returns-in-Ok-clause-told_lines g c = λ told tells_cell.
+    let M = g.M.Media in
+    let e = c.in-Ok.ensures in
+    let r = c.run_on-answer.ensures in
+    let old = (stock_of (M.seen c.args.media)).told in
+    let new = (stock_of (M.seen c.into_media.result)).told in
+    subst (λ (s : Status). TellsLines old new s) (sym c.of_run.ensures)
+    (told_lines _ c.in-Ok.plant c.run_on-answer.new.plant old new c.run_on-answer.result (ap (λ (x : Stock). x.told) (e.stock told)) (shown_told M.seen c.run_on-answer.new.plant c.into_media.result c.into_media.ensures.media) (r.flag told tells_cell (e.settled told)))
+
+pub returns-in-Err-clause-told_lines : goal.returns-in-Err-clause-told_lines
+returns-in-Err-clause-told_lines g c = λ told tells_cell.
+    let M = g.M.Media in
+    let old = (stock_of (M.seen c.args.media)).told in
+    let new = (stock_of (M.seen c.in-Err.unopened.media)).told in
+    subst (λ (s : Status). TellsLines old new s) (sym c.of_opening.ensures) (opening_lines old new c.in-Err.unopened.fault)
+
+pub returns-in-Ok-clause-same_files : goal.returns-in-Ok-clause-same_files
+returns-in-Ok-clause-same_files g c =
+    let M = g.M.Media in
+    let e = c.in-Ok.ensures in
+    let stays = c.run_on-answer.ensures.stays in
+    same_files M.count M.present c.args.media c.in-Ok.plant.media c.run_on-answer.new.plant.media c.into_media.result c.into_media.ensures.media g.met.M.Media.some_files g.met.M.Media.journal_here e.count e.present stays.slots stays.present
+
+pub returns-in-Ok-clause-media_later : goal.returns-in-Ok-clause-media_later
+returns-in-Ok-clause-media_later g c = omega (arith, ap g.M.Media.faults c.into_media.ensures.media, c.run_on-answer.ensures.stays.faults, c.in-Ok.ensures.faults)
+
+pub returns-in-Err-clause-media_later : goal.returns-in-Err-clause-media_later
+returns-in-Err-clause-media_later g c =
+    let M = g.M.Media in
+    opening_later M.tells (is_damaged ((M.seen c.args.media).file 0)) (M.faults c.args.media) (M.faults c.in-Err.unopened.media) c.in-Err.unopened.fault c.in-Err.ensures.fault
+
+pub returns-in-Err-clause-same_files : goal.returns-in-Err-clause-same_files
+returns-in-Err-clause-same_files g c = record { same_count = c.in-Err.ensures.count; same_present = λ f. ap (λ (p : ℕ → Bool). p f) c.in-Err.ensures.present }
 
 pub returns-in-Ok-clause-bad_log_media : goal.returns-in-Ok-clause-bad_log_media
 returns-in-Ok-clause-bad_log_media g c = λ told at is.
@@ -148,7 +209,7 @@ returns-in-Err-clause-images g c = λ told tells_cell tells_clock source still n
     let has = has_tapes k.world (M.present media) (M.seen media) (M.count media) refl refl (g.met.M.Media.here_below media) (g.met.M.Media.few_files media) in
     let laws : OpenedForms = record { lines = c.opened_worlds_have_their_forms.ensures.lines; ready = c.opened_worlds_have_their_forms.ensures.ready; fit = c.opened_worlds_have_their_forms.ensures.fit } in
     let forms = has_forms laws k named says has journal.form (g.met.C.Cell.is_cell c.args.cell.now tells_cell) (c.listed_is_allowed.ensures tells_cell) refl in
-    images_of M.time media c.in-Err.unopened.media k (outcome k).effects (journaled c.journals_of_scripts.ensures c.scripts_keep_the_archive.ensures.on_the_way c.scripts_keep_the_archive.ensures.listed c.images_hold_the_archive.ensures.behind k forms has refl journal.form refl)
+    images_of M.time media c.in-Err.unopened.media k (outcome k).effects (journaled c.journals_of_scripts.ensures c.scripts_keep_the_archive.ensures.on_the_way c.scripts_keep_the_archive.ensures.listed c.scripts_keep_the_archive.ensures.settled c.images_hold_the_archive.ensures.behind k forms has refl journal.form refl)
     (nothing_since M.time M.seen media bytes c.in-Err.unopened.media (outcome k).effects (still_left M.time M.seen media bytes still (λ image was. g.met.M.Media.told_left media image told was) journal.is) (c.in-Err.ensures.crash told))
 
 pub returns-in-Err-clause-ends : goal.returns-in-Err-clause-ends
@@ -161,7 +222,7 @@ returns-in-Err-clause-ends g c = λ told tells_cell tells_clock source still nam
     let has = has_tapes k.world (M.present media) (M.seen media) (M.count media) refl refl (g.met.M.Media.here_below media) (g.met.M.Media.few_files media) in
     let laws : OpenedForms = record { lines = c.opened_worlds_have_their_forms.ensures.lines; ready = c.opened_worlds_have_their_forms.ensures.ready; fit = c.opened_worlds_have_their_forms.ensures.fit } in
     let forms = has_forms laws k named says has journal.form (g.met.C.Cell.is_cell c.args.cell.now tells_cell) (c.listed_is_allowed.ensures tells_cell) refl in
-    ends_at M.time M.seen media back k (between [] k.world) (stage_front [] k.world k.moments (lines k.input)) refl (journaled c.journals_of_scripts.ensures c.scripts_keep_the_archive.ensures.on_the_way c.scripts_keep_the_archive.ensures.listed c.images_hold_the_archive.ensures.behind k forms has refl journal.form refl) (c.in-Err.ensures.crash told).later (g.met.M.Media.seen_may_be_left back told)
+    ends_at M.time M.seen media back k (between [] k.world) (stage_front [] k.world k.moments (lines k.input)) refl (journaled c.journals_of_scripts.ensures c.scripts_keep_the_archive.ensures.on_the_way c.scripts_keep_the_archive.ensures.listed c.scripts_keep_the_archive.ensures.settled c.images_hold_the_archive.ensures.behind k forms has refl journal.form refl) (c.in-Err.ensures.crash told).later (g.met.M.Media.seen_may_be_left back told)
     (nothing_since M.time M.seen media bytes back [] (still_left M.time M.seen media bytes still (λ image was. g.met.M.Media.told_left media image told was) journal.is) (c.in-Err.ensures.crash told))
 
 pub returns-in-Err-clause-bad_log : goal.returns-in-Err-clause-bad_log

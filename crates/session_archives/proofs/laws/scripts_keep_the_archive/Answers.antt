@@ -1,7 +1,7 @@
 use Rattle.backup_script.specs.Scripts.{script}
 use Rattle.session_archives.specs.Held.{contents_on}
 use Rattle.session_archives.proofs.Leading.{leads_whole}
-use Rattle.session_archives.proofs.ReadyScripts.{script_leads, script_holds, script_finds}
+use Rattle.session_archives.proofs.ReadyScripts.{script_leads, script_settles, script_holds, script_finds}
 use Rattle.session_archives.proofs.TurnLeads.{Lower}
 use Rattle.session_archives.proofs.laws.scripts_keep_the_archive.Goals as goal
 
@@ -25,6 +25,11 @@ pub returns-clause-listed : goal.returns-clause-listed
 returns-clause-listed c = λ w moments lines held ready.
     let laws : Lower = record { reads = record { tests = c.form_tests.ensures.tape_name; one = c.one_frame.ensures; frame = c.a_block_is_read.ensures.frame; none = c.a_block_is_read.ensures.none; once = c.a_tape_is_read.ensures.one }; assembles = record { scans = c.the_slots_are_scanned.ensures.scans; found = c.the_tapes_are_assembled.ensures.found }; same = c.checkpoint_makes_the_same_database.ensures; names = c.form_tests.ensures.name; dumps = record { bytes = c.what_a_dump_commits_has_bytes.ensures; volumes = c.what_a_dump_leaves_has_forms.ensures.contents; way = c.a_dump_keeps_the_archive.ensures.on_the_way; listed = c.a_dump_keeps_the_archive.ensures.listed; behind = c.what_a_dump_asks_is_so_behind_it.ensures } } in
     (script_leads laws w moments lines held ready).listed
+
+pub returns-clause-settled : goal.returns-clause-settled
+returns-clause-settled c = λ w moments lines held ready.
+    let laws : Lower = record { reads = record { tests = c.form_tests.ensures.tape_name; one = c.one_frame.ensures; frame = c.a_block_is_read.ensures.frame; none = c.a_block_is_read.ensures.none; once = c.a_tape_is_read.ensures.one }; assembles = record { scans = c.the_slots_are_scanned.ensures.scans; found = c.the_tapes_are_assembled.ensures.found }; same = c.checkpoint_makes_the_same_database.ensures; names = c.form_tests.ensures.name; dumps = record { bytes = c.what_a_dump_commits_has_bytes.ensures; volumes = c.what_a_dump_leaves_has_forms.ensures.contents; way = c.a_dump_keeps_the_archive.ensures.on_the_way; listed = c.a_dump_keeps_the_archive.ensures.listed; behind = c.what_a_dump_asks_is_so_behind_it.ensures } } in
+    script_settles laws w moments lines held ready
 
 pub returns-clause-throughout : goal.returns-clause-throughout
 returns-clause-throughout c = λ w moments lines held ready.

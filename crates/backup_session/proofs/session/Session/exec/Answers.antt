@@ -5,7 +5,7 @@ use Rattle.backup_session.specs.Views.{SessionView}
 use Rattle.backup_session.specs.Worlds.{Turn, at_moment}
 use Rattle.backup_session.specs.Machine.{done}
 use Rattle.backup_session.specs.Fitting.{Turned, OnTheWay}
-use Rattle.backup_session.proofs.Carrying.{turn_done, fits_at, turned_at, in_ok}
+use Rattle.backup_session.proofs.Carrying.{turn_done, fits_at, turned_at, some_at, in_ok}
 use Rattle.backup_session.proofs.session.Session.exec.Goals as goal
 
 pub returns-clause-turned : goal.returns-clause-turned
@@ -20,6 +20,17 @@ returns-clause-turned g c = λ told seen w fits held.
     let here = fits_at P C w old c.args.cell.now c.args.self.now fits c.args.now later (ap (λ (s : SessionView). s.budb) c.self.view_is) (ap (λ (s : SessionView). s.config) c.self.view_is) time in
     subst (λ (t : Turn). IfOk c.run.result (λ reply. Turned P C w t old c.run.new.plant c.run.new.cell c.run.new.self reply)) (sym (turn_done w c.args.now c.args.command.now))
     (in_ok c.run.result _ _ (λ reply turned. turned_at P C w c.args.now (done moment c.args.command.now) old c.run.new.plant c.run.new.cell c.run.new.self reply turned) (c.run.ensures.turned told seen moment here held))
+
+pub returns-clause-some_turn : goal.returns-clause-some_turn
+returns-clause-some_turn g c = λ told seen w fits.
+    let P = g.P.Plant in
+    let C = g.C.Cell in
+    let old = c.args.plant.now in
+    let later : SessionView = record { config = c.self.inside.config; budb = c.self.inside.budb; time = c.max-self-inside.result } in
+    let was = ap (λ (s : SessionView). s.time) c.self.view_is in
+    let time : c.max-self-inside.result ≡ max c.args.self.now.time (min c.args.now 4294967295) = omega (arith, c.max-self-inside.ensures, c.min.ensures, was) in
+    let here = fits_at P C w old c.args.cell.now c.args.self.now fits c.args.now later (ap (λ (s : SessionView). s.budb) c.self.view_is) (ap (λ (s : SessionView). s.config) c.self.view_is) time in
+    some_at P C w c.args.now old c.run.new.plant c.run.new.cell c.run.new.self c.run.result (c.run.ensures.some_turn told seen (at_moment w c.args.now) here)
 
 pub returns-clause-leaves : goal.returns-clause-leaves
 returns-clause-leaves g c = λ told seen w fits.

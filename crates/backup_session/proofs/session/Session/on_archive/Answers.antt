@@ -1,7 +1,7 @@
 use Rattle.std.proofs.Common.{ap}
 use Rattle.backup_session.specs.Views.{SessionView}
 use Rattle.backup_session.specs.Worlds.{archive_of}
-use Rattle.backup_session.proofs.RestoreLaws.{restore_leaves, archive_stands, restore_turned, restore_way}
+use Rattle.backup_session.proofs.RestoreLaws.{restore_leaves, restored_somehow, archive_stands, restore_turned, restore_way}
 use Rattle.backup_session.proofs.session.Session.on_archive.Goals as goal
 
 pub returns-in-Ok-clause-turned : goal.returns-in-Ok-clause-turned
@@ -17,6 +17,10 @@ returns-in-Ok-clause-turned g c = λ told ctold w fits held.
     let stands = archive_stands P C w old site s fits c.self.inside.budb budb held (read.count w.setting.slots w.setting.present w.state.tape) (read.here w.setting.slots w.setting.present w.state.tape) (read.items w.setting.slots w.setting.present w.state.tape) in
     restore_turned P C w old site s fits c.self.inside.budb c.self.inside.time c.args.command.now budb time c.restored.new.plant c.restored.new.cell c.in-Ok.text c.new.result told
     (c.restored.ensures.done (λ is. absurd (cc))) c.restored.ensures.stays.stays c.new.ensures (c.in-Ok.ensures.answer told ctold (archive_of w) stands)
+
+pub returns-in-Ok-clause-some_turn : goal.returns-in-Ok-clause-some_turn
+returns-in-Ok-clause-some_turn g c = λ told ctold w fits.
+    restored_somehow g.P.Plant g.C.Cell w c.args.plant.now c.args.cell.now c.args.self.now fits c.restored.new.plant c.restored.new.cell c.new.result told (c.restored.ensures.done (λ is. absurd (cc))) c.restored.ensures.stays.stays
 
 pub returns-in-Ok-clause-leaves : goal.returns-in-Ok-clause-leaves
 returns-in-Ok-clause-leaves g c = λ told ctold w fits. restore_leaves g.P.Plant g.C.Cell w c.args.plant.now c.args.cell.now c.args.self.now fits c.restored.new.plant c.restored.ensures.leaves

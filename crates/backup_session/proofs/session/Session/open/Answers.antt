@@ -12,3 +12,9 @@ pub returns-in_err-time-clause-cell_cause : goal.returns-in_err-time-clause-cell
 returns-in_err-time-clause-cell_cause g c =
     let p = err_from_is_err_and c.from_residual-in_err-time.result c.from_residual-in_err-time.ensures.1 in
     rw (p.1, p.2) (cause_handed_on _ _ _ c.in_err-time.ensures.cause)
+
+pub returns-in_err-time-clause-untouched : goal.returns-in_err-time-clause-untouched
+returns-in_err-time-clause-untouched g c = λ told none. let o = c.in_ok-budb.ensures.opened told in absurd (none (o.0, o.1.form, o.1.is))
+
+pub returns-clause-untouched : goal.returns-clause-untouched
+returns-clause-untouched g c = λ told none. let o = c.in_ok-budb.ensures.opened told in absurd (none (o.0, o.1.form, o.1.is))
