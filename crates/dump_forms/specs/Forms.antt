@@ -1,7 +1,6 @@
 -- The forms of what a dump has between two events, and of what stands around it: each number fits its bytes, and each text is one of its kind.
 use Rattle.std.specs.Prelude.{◌≡◌, ℕ, ◌≤◌, Some, IfSome, List, map, slice_get, All}
 use Rattle.byte_formats.specs.Forms.{IsFour}
-use Rattle.cell_core.specs.declared.stored.Stored.{Stored}
 use Rattle.cell_core.specs.Forms.{IsStoredForm}
 use Rattle.tape_frames.specs.Layouts.{FitsLabel, FitsDumpHead, FitsVolHead}
 use Rattle.budb_changes.specs.Forms.{IsTapePart, IsFrag, IsVolRecord, IsDumpRecord, AreChanges}

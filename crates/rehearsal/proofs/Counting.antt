@@ -1,5 +1,5 @@
 -- Counts over lists, one element after the other.
-use Rattle.std.proofs.Common.{◌≡◌, ℕ, zero, suc, ◌+◌, ◌*◌, ◌<◌, ◌≤◌, Bool, true, false, List, [], ◌∷◌, ◌++◌, length, map, take, refl, sym, ◌∙◌, ap, subst, arith, length-append, append_assoc}
+use Rattle.std.proofs.Common.{◌≡◌, ℕ, zero, suc, ◌+◌, ◌*◌, ◌≤◌, Bool, true, false, List, [], ◌∷◌, ◌++◌, length, map, take, refl, sym, ◌∙◌, ap, arith, length-append, append_assoc}
 use Rattle.std.specs.Prelude.{Option, Some, None, IfSome, if◌then◌else◌, cond, slice_get}
 use Rattle.std.specs.List.{filter, flat_map, sum_by, count_by, range_with_len}
 use Rattle.std.proofs.lemmas.List.{append-nil, map-append, flat_map_more}
@@ -7,13 +7,12 @@ use Rattle.std.proofs.lemmas.List.Elements.{filter-append}
 use Rattle.std.proofs.lemmas.List.Sums.{sum_by-append, sum_by-cons, count_by_more_yes, count_by_more_no}
 use Rattle.std.proofs.lemmas.Option.{slice_get_within, get_or_from_slice_get}
 use Rattle.vnode_model.specs.declared.vnodes.Vnode.{Vnode}
-use Rattle.vnode_model.specs.declared.increments.Entry.{Entry}
 use Rattle.vnode_model.specs.declared.increments.Entry.TheVariants.{Whole}
 use Rattle.vnode_model.specs.Limits.{AreVolume, data_len}
 use Rattle.cell_core.specs.declared.stored.Stored.{Stored}
 use Rattle.rehearsal.specs.declared.copies.Copies.{Copies}
 use Rattle.rehearsal.specs.Names.{volumes, copy_name}
-use Rattle.rehearsal.specs.Copies.{bytes_in, data_of, volume_under, is_restored_equal, equal_copies, copied_data, data_at, with_data, counted}
+use Rattle.rehearsal.specs.Copies.{bytes_in, data_of, volume_under, is_restored_equal, equal_copies, data_at, with_data, counted}
 
 -- the data of a volume are within the limit
 sum_same : (xs : List Vnode) → sum_by data_len (map Whole xs) ≡ bytes_in xs

@@ -1,6 +1,6 @@
 -- The commands of a rehearsal have their forms, and make no volume under the name of a backup volume.
-use Rattle.std.proofs.Common.{◌≡◌, ℕ, ◌-◌, zero, suc, ◌+◌, ◌*◌, ◌<◌, ◌≤◌, Bool, true, false, not, List, [], ◌∷◌, ◌++◌, length, map, refl, sym, ◌∙◌, ap, subst, arith, IsTrue, All, drop, length-append}
-use Rattle.std.specs.Prelude.{◌↔◌, ◌&&◌, nat_eq, Option, Some, None}
+use Rattle.std.proofs.Common.{◌≡◌, ℕ, ◌-◌, zero, suc, ◌+◌, ◌*◌, ◌≤◌, Bool, true, false, not, List, [], ◌∷◌, ◌++◌, length, map, refl, sym, ◌∙◌, ap, arith, IsTrue, All, drop, length-append}
+use Rattle.std.specs.Prelude.{◌↔◌, ◌&&◌, nat_eq}
 use Rattle.std.specs.Cmp.Lexicographic.{pointwise}
 use Rattle.std.specs.Fmt.{digits}
 use Rattle.std.specs.List.{list_all, filter, flat_map, range_with_len}
@@ -12,7 +12,7 @@ use Rattle.bk_text.specs.LevelPaths.{IsLevelPath}
 use Rattle.bk_text.specs.Tests.{word_test, name_test, host_test, set_name_test, level_path_test}
 use Rattle.budb_changes.specs.Printable.{IsPatternBytes}
 use Rattle.backup_words.specs.declared.command.Command.{Command}
-use Rattle.backup_words.specs.declared.command.Command.TheVariants.{Addhost, Addvolset, Addvolentry, Adddump, Scantape, Dump, Volrestore, VosCreate, VosWrite}
+use Rattle.backup_words.specs.declared.command.Command.TheVariants.{Addhost, Scantape}
 use Rattle.backup_words.specs.Forms.{ends_in_backup}
 use Rattle.backup_session.specs.Asks.{asks_dump}
 use Rattle.backup_session.specs.Worlds.{World}

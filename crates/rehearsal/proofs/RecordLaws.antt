@@ -1,12 +1,11 @@
 -- The records of tapes, one after the other.
-use Rattle.std.proofs.Common.{◌≡◌, ℕ, ◌+◌, ◌<◌, List, [], ◌∷◌, length, take, refl, sym, ◌∙◌, ap, subst, arith}
-use Rattle.std.specs.Prelude.{cond, ◌==◌, if◌then◌else◌, Bool, true, false, Option, Some, None, slice_get}
+use Rattle.std.proofs.Common.{◌≡◌, ℕ, ◌+◌, ◌<◌, List, [], ◌∷◌, length, take, refl, sym, ◌∙◌, ap, arith}
+use Rattle.std.specs.Prelude.{cond, ◌==◌, if◌then◌else◌, Bool, true, false, Option, Some, None}
 use Rattle.std.specs.List.{count_by}
 use Rattle.plant_core.specs.declared.record.Kind.{Kind}
 use Rattle.plant_core.specs.Records.{Record, block_with, mark, bad, Shows, ShowsAt}
 use Rattle.plant_core.specs.Crashes.{State, Alike, IsSettled}
-use Rattle.plant_core.specs.Effects.{Effect, settles, comes, come, putting_away}
-use Rattle.plant_effects.proofs.States.{alike_both}
+use Rattle.plant_core.specs.Effects.{settles, comes, come, putting_away}
 use Rattle.rehearsal.specs.Counts.{is_block, is_mark, on_tapes, one_of}
 use Rattle.rehearsal.proofs.Counting.{count_more}
 

@@ -1,5 +1,5 @@
 -- A session over a plant begins in the world in which the plant and the cell stand, and leaves them in one.
-use Rattle.std.proofs.Common.{◌≡◌, ℕ, ◌+◌, ◌-◌, Bool, List, length, take, Some, refl, sym, ◌∙◌, ap, subst, arith}
+use Rattle.std.proofs.Common.{◌≡◌, ℕ, ◌+◌, ◌-◌, Bool, List, length, take, Some, sym, ◌∙◌, ap, subst, arith}
 use Rattle.std.proofs.lemmas.List.{take_all}
 use Rattle.media_core.specs.Media.{Image}
 use Rattle.plant_core.specs.declared.plant.Plant.{Ghosts as Plant}
@@ -20,7 +20,7 @@ use Rattle.backup_session.specs.Views.{SessionView}
 use Rattle.backup_session.specs.Opening.{opened, first_time}
 use Rattle.backup_session.specs.Fitting.{Fits}
 use Rattle.rehearsal.specs.Playing.{StandsOn}
-use Rattle.rehearsal.specs.Sessions.{Begins, Stands, HasFiles, settings}
+use Rattle.rehearsal.specs.Sessions.{Stands, HasFiles}
 
 -- ---- states
 

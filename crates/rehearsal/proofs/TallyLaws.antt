@@ -1,7 +1,6 @@
 -- What is counted of a rehearsal, one number after the other.
-use Rattle.std.proofs.Common.{◌≡◌, ℕ, ◌+◌, Bool, List, length, ap}
+use Rattle.std.proofs.Common.{◌≡◌, ℕ, Bool, List, length, ap}
 use Rattle.std.specs.Prelude.{codes}
-use Rattle.std.specs.List.{count_by}
 use Rattle.plant_core.specs.Records.{Record}
 use Rattle.rehearsal.specs.declared.lines.Tally.{Tally}
 use Rattle.rehearsal.specs.Sessions.{dumped, scanned, restored}

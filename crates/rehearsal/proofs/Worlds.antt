@@ -1,5 +1,5 @@
 -- The worlds in which the sessions of a rehearsal begin, and the media that stand in them.
-use Rattle.std.proofs.Common.{◌≡◌, ◌≢◌, ℕ, zero, suc, ◌+◌, ◌-◌, ◌<◌, ◌≤◌, Bool, true, false, not, List, [], ◌∷◌, length, Some, refl, sym, ◌∙◌, ap, subst, arith, IsTrue, inl, inr, ◌⊎◌}
+use Rattle.std.proofs.Common.{◌≡◌, ◌≢◌, ℕ, zero, suc, ◌+◌, ◌-◌, ◌<◌, ◌≤◌, Bool, true, false, not, List, [], ◌∷◌, Some, refl, sym, ◌∙◌, ap, arith, IsTrue, inl, inr, ◌⊎◌}
 use Rattle.std.specs.Prelude.{nat_lt, ◌&&◌, ◌==◌}
 use Rattle.std.proofs.lemmas.Bool.{cases_lt}
 use Rattle.std.proofs.lemmas.List.Elements.{All-nil}
@@ -7,18 +7,17 @@ use Rattle.media_core.specs.Media.{Image, nothing}
 use Rattle.media_core.specs.declared.event.Event.{Event}
 use Rattle.media_core.specs.Events.{seen_after}
 use Rattle.media_core.specs.Emptied.{NoJournal}
-use Rattle.plant_core.specs.Crashes.{State}
-use Rattle.plant_media.specs.Stock.{stock_of, journal_of, tape_of}
+use Rattle.plant_media.specs.Stock.{journal_of, tape_of}
 use Rattle.plant_media.specs.Records.{records_of}
 use Rattle.cell_core.specs.declared.stored.Stored.{Stored}
 use Rattle.budb_changes.specs.Bytes.{encoded}
 use Rattle.backup_words.specs.declared.command.Command.{Command}
-use Rattle.backup_session.specs.Worlds.{World, Setting, after_turn}
+use Rattle.backup_session.specs.Worlds.{Setting}
 use Rattle.backup_session.specs.Machine.{turn}
 use Rattle.rehearsal.specs.declared.batch.Batch.{Batch}
 use Rattle.rehearsal.specs.Playing.{Stage, then_turn, given, played}
-use Rattle.rehearsal.specs.Commands.{first_session, second_session, third_session}
-use Rattle.rehearsal.specs.Sessions.{blank_world, all_here, one_out, setting, start, dumped, lost, scanned, put_back, restored, Begins, Stands, HasFiles}
+use Rattle.rehearsal.specs.Commands.{first_session, second_session}
+use Rattle.rehearsal.specs.Sessions.{blank_world, all_here, one_out, setting, start, dumped, lost, scanned, put_back, Begins, Stands, HasFiles}
 
 -- ---- a session keeps its setting
 

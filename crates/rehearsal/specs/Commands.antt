@@ -1,5 +1,5 @@
 -- WHAT A REHEARSAL DOES: the commands of its three sessions, at their moments.
-use Rattle.std.specs.Prelude.{ℕ, ◌+◌, ◌*◌, ◌%◌, List, [], ◌∷◌, ◌++◌, map, Bool, true, false, ◌==◌, Option, Some, None}
+use Rattle.std.specs.Prelude.{ℕ, ◌+◌, ◌*◌, ◌%◌, List, [], ◌∷◌, ◌++◌, map, Bool, true, false, ◌==◌, Some, None}
 use Rattle.std.specs.List.{filter, flat_map}
 use Rattle.bk_text.specs.declared.expiry.Expiry.TheVariants.{Unset}
 use Rattle.backup_words.specs.declared.command.Command.{Command}

@@ -1,5 +1,5 @@
 -- THE THREE SESSIONS OF A REHEARSAL: in which world each one begins, and what comes of it.
-use Rattle.std.specs.Prelude.{◌≡◌, ℕ, ◌+◌, ◌-◌, Bool, not, ◌&&◌, ◌==◌, nat_lt, List, [], ◌∷◌, length, Option, Some, None, Err}
+use Rattle.std.specs.Prelude.{◌≡◌, ℕ, ◌+◌, ◌-◌, Bool, not, ◌&&◌, ◌==◌, nat_lt, List, [], ◌∷◌, length, Some, None, Err}
 use Rattle.plant_core.specs.Crashes.{State, IsSettled, blank}
 use Rattle.media_core.specs.Media.{Image}
 use Rattle.plant_media.specs.Stock.{stock_of}

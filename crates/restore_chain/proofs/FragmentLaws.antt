@@ -1,8 +1,8 @@
 -- How far a fragment was played.
-use Rattle.std.proofs.Common.{◌≡◌, ℕ, ◌+◌, List, [], ◌∷◌, ◌++◌, length, Some, refl, sym, ◌∙◌, ap, subst, arith}
+use Rattle.std.proofs.Common.{ℕ, ◌+◌, List, [], ◌∷◌, ◌++◌, sym, ◌∙◌, subst, arith}
 use Rattle.plant_core.specs.declared.plant.Plant.{Ghosts as Plant}
 use Rattle.plant_core.specs.Records.{Record}
-use Rattle.plant_effects.specs.Runs.{state_of, Done, SameNumbers}
+use Rattle.plant_effects.specs.Runs.{Done, SameNumbers}
 use Rattle.tape_frames.specs.declared.data.DataFields.{DataFields}
 use Rattle.tape_text.specs.Items.{Item, Read}
 use Rattle.tape_text.specs.Wholes.{Lying}

@@ -4,7 +4,6 @@ use Rattle.std.specs.Prelude.{Result, Ok, Err, Some, slice_get}
 use Rattle.crash_moments.specs.Moments.{HasCauseAt}
 use Rattle.plant_core.specs.declared.plant.Plant.{Ghosts as Plant}
 use Rattle.plant_effects.specs.Runs.{loaded_of, Done, Leaves, SameNumbers, StaysQuiet}
-use Rattle.tape_text.specs.Items.{Item}
 use Rattle.tape_scan.specs.Slots.{Slot}
 use Rattle.tape_scan.specs.Looking.{HasSlots, Loads, LooksAt}
 use Rattle.restore_chain.specs.Playing.{ReadsLoaded}

@@ -1,9 +1,9 @@
 -- A fragment that is called for, as far as it stands.
-use Rattle.std.proofs.Common.{◌≡◌, ◌⊎◌, inl, inr, ℕ, zero, suc, ◌+◌, ◌-◌, ◌<◌, ◌≤◌, Bool, true, false, Option, Some, None, List, [], ◌∷◌, ◌++◌, length, map, take, drop, get_or, replicate, slice_get, refl, sym, ◌∙◌, ap, subst, arith, append_assoc, length-append, length-take, length-drop}
-use Rattle.std.specs.Prelude.{sum_by, All, ◌==◌}
+use Rattle.std.proofs.Common.{◌≡◌, ◌⊎◌, inl, inr, ℕ, zero, suc, ◌+◌, ◌-◌, ◌<◌, ◌≤◌, Bool, true, false, Option, Some, None, List, [], ◌∷◌, ◌++◌, length, map, take, drop, replicate, slice_get, refl, sym, ◌∙◌, ap, subst, arith, append_assoc, length-append, length-take, length-drop}
+use Rattle.std.specs.Prelude.{All, ◌==◌}
 use Rattle.std.proofs.lemmas.Bool.Decides.{nat_tests}
 use Rattle.std.proofs.lemmas.Bool.{false≢true}
-use Rattle.std.proofs.lemmas.List.{length-replicate, drop-replicate, take_more, take-append-drop}
+use Rattle.std.proofs.lemmas.List.{length-replicate, drop-replicate}
 use Rattle.std.proofs.lemmas.List.Sums.{sum_by-cons, sum_by-append}
 use Rattle.std.proofs.lemmas.List.Elements.{All-nil, All-cons, All-head, All-tail, All-push, All-append, All-replicate}
 use Rattle.std.proofs.lemmas.Option.{slice_get_within, slice_get_cases}
@@ -12,13 +12,12 @@ use Rattle.tape_frames.specs.declared.frame.Frame.TheVariants as frames
 use Rattle.tape_frames.specs.declared.vol_head.VolHeadFields.{VolHeadFields}
 use Rattle.tape_frames.specs.declared.data.DataFields.{DataFields}
 use Rattle.tape_frames.specs.declared.vol_end.VolEndFields.{VolEndFields}
-use Rattle.tape_frames.specs.Layouts.{FitsVolHead, FitsData, FitsVolEnd}
+use Rattle.tape_frames.specs.Layouts.{FitsData, FitsVolEnd}
 use Rattle.tape_text.specs.Items.{Item, Says, IsFitItem}
-use Rattle.tape_text.specs.Texts.{Fragment, data_item, fragment_frames, room, AreFilled, IsPiece, used_of, IsFragment}
+use Rattle.tape_text.specs.Texts.{Fragment, data_item, fragment_frames, room, AreFilled, IsPiece, used_of}
 use Rattle.tape_text.specs.Wholes.{Lying}
-use Rattle.archive_model.specs.Plays.{IsCalled, BeginsCalled, GoesOnCalled, up_to, StandsAt, IsFirstBad}
+use Rattle.archive_model.specs.Plays.{IsCalled, BeginsCalled, GoesOnCalled, StandsAt, IsFirstBad}
 use Rattle.restore_chain.specs.declared.play_called.Seen.{Seen}
-use Rattle.restore_chain.specs.declared.play_judge.Judged.{Judged}
 use Rattle.restore_chain.specs.declared.play_judge.Judged.TheVariants as judged
 use Rattle.restore_chain.specs.Playing.{IsSaidAt, IsFitCall, end_of, TakesPiece, Judges, AreOpen, HasSeen, StandsBefore}
 

@@ -1,5 +1,5 @@
 -- Where a dump's record has the first volume of a name.
-use Rattle.std.proofs.Common.{◌≡◌, ℕ, zero, suc, ◌+◌, ◌<◌, true, false, Option, Some, None, List, [], ◌∷◌, length, get_or, slice_get, refl, sym, ◌∙◌, ap, arith}
+use Rattle.std.proofs.Common.{◌≡◌, ℕ, zero, suc, ◌+◌, ◌<◌, true, false, Some, None, List, [], ◌∷◌, length, get_or, slice_get, sym, ◌∙◌, ap, arith}
 use Rattle.std.specs.Prelude.{find, nat_lt, cond}
 use Rattle.std.specs.List.{position, position_or_len}
 use Rattle.std.proofs.lemmas.Bool.{lt-ltb}
@@ -8,7 +8,6 @@ use Rattle.std.proofs.lemmas.List.Quantifiers.{position-Some}
 use Rattle.std.proofs.lemmas.Option.{slice_get_within, get_or_from_slice_get}
 use Rattle.bk_text.specs.Blanks.{is_same_text}
 use Rattle.budb_changes.specs.declared.records.VolRecordFields.{VolRecordFields}
-use Rattle.tape_text.specs.Wholes.{Lying}
 use Rattle.archive_model.specs.Holding.{called_frags, called_of, placed_from}
 
 first_at : (name : List ℕ) (n : ℕ) (vs : List VolRecordFields) (i : ℕ) (v : VolRecordFields) → slice_get vs i ≡ Some v → is_same_text v.name name ≡ true → ((k : ℕ) → k < i → is_same_text (get_or vs k v).name name ≡ false)

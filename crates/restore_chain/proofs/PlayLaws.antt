@@ -1,5 +1,5 @@
 -- How dumps that are played one after the other give what their chain gives.
-use Rattle.std.proofs.Common.{◌≡◌, ℕ, zero, suc, ◌+◌, ◌<◌, ◌≤◌, true, false, Option, Some, None, Ok, Err, List, [], ◌∷◌, ◌++◌, length, map, drop, get_or, slice_get, refl, sym, ◌∙◌, ap, subst, arith, inl, inr, ◌⊎◌, add-one, drop-cons}
+use Rattle.std.proofs.Common.{◌≡◌, ℕ, zero, suc, ◌+◌, ◌<◌, ◌≤◌, Option, Some, None, Ok, Err, List, [], ◌∷◌, ◌++◌, length, map, drop, get_or, slice_get, refl, sym, ◌∙◌, ap, subst, arith, inl, inr, add-one, drop-cons}
 use Rattle.std.specs.Prelude.{Result, reverse}
 use Rattle.std.specs.List.{flat_map, cons_option}
 use Rattle.std.proofs.lemmas.List.Elements.{All-head, All-tail}

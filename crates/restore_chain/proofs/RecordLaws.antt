@@ -1,12 +1,10 @@
 -- What a record of a tape is as a frame, by what was shown of it.
-use Rattle.std.proofs.Common.{◌≡◌, ℕ, zero, suc, ◌<◌, ◌≤◌, List, [], ◌∷◌, length, Option, Some, None, slice_get, refl, sym, ◌∙◌, ap, subst, arith}
+use Rattle.std.proofs.Common.{◌≡◌, ℕ, zero, suc, ◌≤◌, List, [], ◌∷◌, length, Option, Some, None, slice_get, refl, ◌∙◌, ap, subst, arith}
 use Rattle.std.proofs.lemmas.Option.{slice_get_within}
-use Rattle.plant_core.specs.declared.record.Kind.{Kind}
 use Rattle.plant_core.specs.declared.record.Kind.TheVariants.{Block, Mark, Bad}
 use Rattle.plant_core.specs.Records.{Record, block_with, mark, bad, Shows, ShowsAt}
 use Rattle.tape_frames.specs.declared.frame.Frame.{Frame}
-use Rattle.tape_frames.specs.Frames.{Fits, spelling}
-use Rattle.tape_text.specs.Items.{Item, Says, Filemark, Nothing, ReadsAs, Read}
+use Rattle.tape_text.specs.Items.{Item, Says, ReadsAs, Read}
 use Rattle.restore_chain.specs.Playing.{IsFrameOf, IsSaidAt}
 
 -- a record says one thing

@@ -6,7 +6,7 @@ use Rattle.budb_changes.specs.declared.records.DumpRecordFields.{DumpRecordField
 use Rattle.budb_fold.specs.Lookups.{VolumeDump, latest}
 use Rattle.plant_core.specs.Stock.{Stock}
 use Rattle.tape_scan.specs.Slots.{Slot}
-use Rattle.archive_model.specs.Plays.{PlayFault, BadOnTape, Lacks, Large, records_of, PlaysOver, Plays}
+use Rattle.archive_model.specs.Plays.{PlayFault, BadOnTape, Lacks, Large, records_of, Plays}
 use Rattle.archive_model.specs.Archives.{Archive, Holds, listed_of, needs, refused_by, LooksUp}
 use Rattle.archive_model.specs.Clones.{Cloned, AreWritten, last_of}
 use Rattle.archive_model.proofs.KeepLaws.{written_plays}

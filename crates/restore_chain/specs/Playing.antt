@@ -1,5 +1,5 @@
 -- How a fragment is played, record by record.
-use Rattle.std.specs.Prelude.{◌≡◌, ◌≢◌, ◌⊎◌, ℕ, ◌+◌, ◌-◌, ◌^◌, ◌<◌, ◌≤◌, Bool, true, false, if◌then◌else◌, Option, Some, None, IsSomeAnd, Result, Ok, Err, List, [], ◌∷◌, ◌++◌, length, map, take, drop, sum_by, slice_get, All}
+use Rattle.std.specs.Prelude.{◌≡◌, ◌⊎◌, ℕ, ◌+◌, ◌-◌, ◌^◌, ◌<◌, ◌≤◌, Bool, true, false, if◌then◌else◌, Option, Some, None, IsSomeAnd, Result, Ok, Err, List, [], ◌∷◌, ◌++◌, length, map, take, drop, sum_by, slice_get, All}
 use Rattle.std.specs.List.{flat_map}
 use Rattle.plant_core.specs.declared.plant.Plant.{Ghosts as Plant}
 use Rattle.plant_effects.specs.Runs.{state_of, loaded_of}
@@ -7,7 +7,6 @@ use Rattle.dump_stream.specs.Reads.{Begins, IsCut}
 use Rattle.dump_stream.specs.Inputs.{HasTaken}
 use Rattle.tape_frames.specs.declared.frame.Frame.{Frame}
 use Rattle.tape_frames.specs.declared.frame.Frame.TheVariants as frames
-use Rattle.tape_frames.specs.declared.vol_head.VolHeadFields.{VolHeadFields}
 use Rattle.tape_frames.specs.declared.data.DataFields.{DataFields}
 use Rattle.tape_frames.specs.declared.vol_end.VolEndFields.{VolEndFields}
 use Rattle.tape_frames.specs.Frames.{Fits, spelling, IsSpelled}

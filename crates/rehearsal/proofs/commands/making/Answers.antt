@@ -1,6 +1,5 @@
-use Rattle.std.proofs.Common.{◌≡◌, ℕ, ◌+◌, ◌-◌, ◌*◌, ◌++◌, ◌∷◌, [], List, refl, sym, ◌∙◌, ap, arith}
+use Rattle.std.proofs.Common.{◌≡◌, ℕ, ◌+◌, ◌-◌, ◌*◌, ◌++◌, ◌∷◌, [], refl, sym, ◌∙◌, ap, arith}
 use Rattle.std.specs.List.{flat_map}
-use Rattle.backup_words.specs.declared.command.Command.{Command}
 use Rattle.rehearsal.specs.Names.{volumes}
 use Rattle.rehearsal.specs.Commands.{adding, creating, writing, making}
 use Rattle.rehearsal.proofs.Counting.{flat_more}

@@ -1,4 +1,4 @@
-use Rattle.std.proofs.Common.{ℕ, List, rules, tests, refl, ◌∙◌}
+use Rattle.std.proofs.Common.{rules, tests, refl, ◌∙◌}
 use Rattle.std.specs.Prelude.{nat_eq}
 use Rattle.std.specs.List.{slice_split, starts_with}
 use Rattle.std.proofs.lemmas.Iterator.Consumers.{YieldsList-at, YieldsList-from_filter, count_from_yields_List}

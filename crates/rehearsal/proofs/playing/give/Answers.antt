@@ -1,4 +1,4 @@
-use Rattle.std.proofs.Common.{◌≡◌, ℕ, List, [], ◌∷◌, ◌++◌, ◌∙◌, ap, subst}
+use Rattle.std.proofs.Common.{ℕ, List, [], ◌∷◌, ◌++◌, ◌∙◌, ap, subst}
 use Rattle.plant_core.specs.Effects.{tells}
 use Rattle.plant_effects.specs.Runs.{Done}
 use Rattle.backup_session.specs.Machine.{turn}

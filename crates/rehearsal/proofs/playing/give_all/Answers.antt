@@ -1,4 +1,4 @@
-use Rattle.std.proofs.Common.{◌≡◌, length, take, sym, ap, subst, arith}
+use Rattle.std.proofs.Common.{take, sym, ap, subst, arith}
 use Rattle.std.proofs.lemmas.List.{take_all}
 use Rattle.rehearsal.specs.Playing.{Stage, given, Reached}
 use Rattle.rehearsal.proofs.PlayLaws.{given_more, finds_at}

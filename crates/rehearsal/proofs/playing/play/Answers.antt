@@ -1,4 +1,4 @@
-use Rattle.std.proofs.Common.{◌≡◌, List, length, take, sym, ◌∙◌, ap, subst, arith}
+use Rattle.std.proofs.Common.{List, take, sym, ◌∙◌, ap, subst, arith}
 use Rattle.std.proofs.lemmas.List.{take_all}
 use Rattle.backup_words.specs.declared.command.Command.{Command}
 use Rattle.rehearsal.specs.Playing.{Stage, given, played, FindsHeld, Reached}

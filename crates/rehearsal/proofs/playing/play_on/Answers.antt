@@ -1,6 +1,5 @@
-use Rattle.std.proofs.Common.{◌≡◌, ◌∙◌}
-use Rattle.backup_session.specs.Worlds.{World}
-use Rattle.rehearsal.specs.Playing.{played, Reached}
+use Rattle.std.proofs.Common.{◌∙◌}
+use Rattle.rehearsal.specs.Playing.{played}
 use Rattle.rehearsal.specs.Sessions.{start}
 use Rattle.rehearsal.proofs.Standing.{opened_stands, left_stands}
 use Rattle.rehearsal.proofs.playing.play_on.Goals as goal

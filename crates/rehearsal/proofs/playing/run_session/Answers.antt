@@ -1,5 +1,5 @@
-use Rattle.std.proofs.Common.{◌≡◌, ℕ, Bool, sym, ◌∙◌, ap, subst}
-use Rattle.plant_media.specs.State.{shown_of, media_of}
+use Rattle.std.proofs.Common.{ℕ, Bool, sym, ◌∙◌, subst}
+use Rattle.plant_media.specs.State.{shown_of}
 use Rattle.rehearsal.specs.Playing.{played}
 use Rattle.rehearsal.specs.Sessions.{start, HasFiles}
 use Rattle.rehearsal.proofs.Standing.{files_opened, files_left, back_stands}

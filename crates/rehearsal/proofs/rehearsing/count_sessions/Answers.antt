@@ -1,11 +1,9 @@
-use Rattle.std.proofs.Common.{◌≡◌, List, length, sym, ◌∙◌, ap}
+use Rattle.std.proofs.Common.{List, length, ◌∙◌, ap}
 use Rattle.std.specs.Prelude.{codes}
 use Rattle.cell_core.specs.declared.stored.Stored.{Stored}
-use Rattle.plant_core.specs.Records.{Record}
-use Rattle.rehearsal.specs.Sessions.{dumped, scanned, restored}
-use Rattle.rehearsal.specs.Counts.{lines_with, on_tapes, is_block, is_mark}
+use Rattle.rehearsal.specs.Sessions.{dumped, restored}
+use Rattle.rehearsal.specs.Counts.{lines_with, is_block, is_mark}
 use Rattle.rehearsal.specs.Copies.{equal_copies, copied_data}
-use Rattle.rehearsal.specs.Rehearsed.{tally}
 use Rattle.rehearsal.proofs.Standing.{stands_same, files_same}
 use Rattle.rehearsal.proofs.TallyLaws.{on_tapes_of, tally_is}
 use Rattle.rehearsal.proofs.rehearsing.count_sessions.Goals as goal

@@ -1,16 +1,14 @@
-use Rattle.std.proofs.Common.{◌≡◌, ◌≢◌, ℕ, ◌-◌, ◌<◌, Bool, List, sym, ◌∙◌, ap, subst, arith}
-use Rattle.std.specs.Prelude.{IfOk}
+use Rattle.std.proofs.Common.{◌≡◌, ◌-◌, List, sym, ◌∙◌, ap, subst, arith}
 use Rattle.media_core.specs.declared.event.Event.{Event}
 use Rattle.media_core.specs.Events.{seen_after}
-use Rattle.media_core.specs.Files.{seen_of, events_of, count_of, present_of}
-use Rattle.media_core.specs.Presence.{here_below}
+use Rattle.media_core.specs.Files.{seen_of, count_of, present_of}
 use Rattle.cell_core.specs.Mem.{cell_list}
 use Rattle.backup_session.specs.Worlds.{Setting}
 use Rattle.rehearsal.specs.declared.batch.Batch.{Batch}
-use Rattle.rehearsal.specs.Commands.{first_session, second_session, third_session}
-use Rattle.rehearsal.specs.Playing.{Stage, played, AllFindHeld}
-use Rattle.rehearsal.specs.Sessions.{blank_world, start, dumped, lost, scanned, put_back, restored, Stands, HasFiles}
-use Rattle.rehearsal.proofs.Worlds.{dumped_setting, scanned_setting, blank_begins, lost_begins, put_back_begins, blank_stands, lost_stands, back_in_stands, blank_files, lost_files, put_back_files}
+use Rattle.rehearsal.specs.Commands.{third_session}
+use Rattle.rehearsal.specs.Playing.{played, AllFindHeld}
+use Rattle.rehearsal.specs.Sessions.{start, scanned, put_back, restored, Stands}
+use Rattle.rehearsal.proofs.Worlds.{scanned_setting, put_back_begins, back_in_stands, put_back_files}
 use Rattle.rehearsal.proofs.rehearsing.restore_all.Goals as goal
 
 pub put_back-requires-clause-below : goal.put_back-requires-clause-below

@@ -1,7 +1,4 @@
-use Rattle.std.proofs.Common.{◌≡◌, ℕ, ◌+◌, Bool, ◌∙◌, ap}
-use Rattle.std.specs.List.{count_by}
-use Rattle.plant_core.specs.Records.{Record}
-use Rattle.plant_core.specs.Crashes.{State, Alike, IsSettled}
+use Rattle.std.proofs.Common.{ℕ, ◌+◌, ◌∙◌, ap}
 use Rattle.plant_effects.specs.Runs.{state_of}
 use Rattle.plant_effects.proofs.States.{alike_both}
 use Rattle.rehearsal.specs.Counts.{is_block, is_mark}

@@ -1,6 +1,5 @@
-use Rattle.std.proofs.Common.{◌≡◌, List, sym, ◌∙◌, ap}
+use Rattle.std.proofs.Common.{◌∙◌, ap}
 use Rattle.std.specs.List.{count_by}
-use Rattle.plant_core.specs.Crashes.{Alike}
 use Rattle.plant_core.specs.Effects.{come, putting_away}
 use Rattle.plant_effects.specs.Runs.{state_of, loaded_of}
 use Rattle.plant_effects.proofs.States.{alike_both}

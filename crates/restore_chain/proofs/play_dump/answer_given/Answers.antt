@@ -1,4 +1,4 @@
-use Rattle.std.proofs.Common.{◌≡◌, Err, subst}
+use Rattle.std.proofs.Common.{◌≡◌, subst}
 use Rattle.vnode_model.specs.Increments.{applied}
 use Rattle.restore_chain.specs.declared.fault.RestoreFault.TheVariants.{Failed}
 use Rattle.restore_chain.specs.declared.play_volume.Given.{Given}

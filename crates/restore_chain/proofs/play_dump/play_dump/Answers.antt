@@ -1,10 +1,10 @@
-use Rattle.std.proofs.Common.{◌≡◌, ◌<◌, Some, Err, List, [], ◌∷◌, length, sym, ap, subst}
+use Rattle.std.proofs.Common.{◌≡◌, Err, List, [], ◌∷◌, sym, ap, subst}
 use Rattle.tape_text.specs.Wholes.{Lying}
 use Rattle.archive_model.specs.Holding.{called_of, called_at, called_for}
 use Rattle.archive_model.specs.Plays.{PlaysOver}
 use Rattle.restore_chain.specs.declared.fault.RestoreFault.TheVariants as faults
 use Rattle.restore_chain.specs.Playing.{AreHeld}
-use Rattle.restore_chain.specs.Restoring.{Tells, PlaysFrags}
+use Rattle.restore_chain.specs.Restoring.{PlaysFrags}
 use Rattle.tape_scan.proofs.Looking.{looks_none}
 use Rattle.restore_chain.proofs.PlacedLaws.{placed_is, placed_within, none_placed}
 use Rattle.restore_chain.proofs.PlayLaws.{tells_so}

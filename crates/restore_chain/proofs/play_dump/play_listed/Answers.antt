@@ -1,4 +1,4 @@
-use Rattle.std.proofs.Common.{◌≡◌, Some, None, Err, List, [], ◌∷◌, sym, ◌∙◌, subst}
+use Rattle.std.proofs.Common.{◌≡◌, Some, None, Err, [], ◌∷◌, sym, ◌∙◌, subst}
 use Rattle.budb_changes.specs.declared.records.DumpRecordFields.{DumpRecordFields}
 use Rattle.budb_fold.specs.Lookups.{record_of, volume_of}
 use Rattle.archive_model.specs.Holding.{called_for}

@@ -1,4 +1,4 @@
-use Rattle.std.proofs.Common.{◌≡◌, ◌≢◌, Some, Ok, Err, List, slice_get, sym, ap, subst}
+use Rattle.std.proofs.Common.{Ok, List, slice_get, sym, ap, subst}
 use Rattle.budb_changes.specs.declared.records.DumpRecordFields.{DumpRecordFields}
 use Rattle.tape_text.specs.Wholes.{Lying}
 use Rattle.archive_model.specs.Holding.{called_frags}

@@ -1,4 +1,4 @@
-use Rattle.std.proofs.Common.{◌≡◌, [], Some, slice_get, true, rules, refl, sym, ◌∙◌, ap, subst}
+use Rattle.std.proofs.Common.{◌≡◌, [], Some, true, rules, ◌∙◌, ap, subst}
 use Rattle.plant_effects.proofs.Joining.{done_both, leaves_both, numbers_both}
 use Rattle.tape_frames.specs.declared.frame.Frame.{Frame}
 use Rattle.tape_frames.specs.declared.frame.Frame.TheVariants as frames

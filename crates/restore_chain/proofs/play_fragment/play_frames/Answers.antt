@@ -1,4 +1,4 @@
-use Rattle.std.proofs.Common.{◌≡◌, ◌+◌, ◌≤◌, ℕ, List, [], ◌++◌, ◌∷◌, Some, length, refl, sym, ◌∙◌, ap, subst, arith}
+use Rattle.std.proofs.Common.{◌≡◌, ◌+◌, ◌≤◌, [], length, refl, sym, ◌∙◌, subst, arith}
 use Rattle.plant_effects.specs.Runs.{state_of}
 use Rattle.plant_effects.proofs.Joining.{nothing_done, nothing_left, same_numbers, nothing_quiet, done_both, leaves_both, numbers_both, quiet_both}
 use Rattle.archive_model.specs.Plays.{pieces_from, IsFirstBad}

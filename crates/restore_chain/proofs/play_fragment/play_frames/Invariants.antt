@@ -1,4 +1,4 @@
-use Rattle.std.proofs.Common.{ℕ, ◌≡◌, [], List, Some, slice_get}
+use Rattle.std.proofs.Common.{◌≡◌, [], List, Some, slice_get}
 use Rattle.plant_effects.specs.Runs.{Done, Leaves, SameNumbers, StaysQuiet}
 use Rattle.dump_stream.specs.Inputs.{IsOpen}
 use Rattle.tape_frames.specs.declared.frame.Frame.TheVariants as frames

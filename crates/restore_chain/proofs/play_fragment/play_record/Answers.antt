@@ -1,9 +1,8 @@
-use Rattle.std.proofs.Common.{◌≡◌, ◌∷◌, ◌++◌, [], Some, refl, sym, ap, ◌∙◌, subst, slice_get}
+use Rattle.std.proofs.Common.{◌≡◌, ◌∷◌, ◌++◌, [], Some, refl, sym, subst, slice_get}
 use Rattle.tape_frames.specs.declared.frame.Frame.TheVariants as frames
 use Rattle.tape_frames.specs.declared.data.DataFields.{DataFields}
 use Rattle.tape_frames.specs.Layouts.{FitsData}
 use Rattle.tape_text.specs.Items.{Says}
-use Rattle.restore_chain.specs.declared.play_called.Seen.{Seen}
 use Rattle.restore_chain.specs.Playing.{lying_of, end_of, TakesPiece, HasSeen}
 use Rattle.restore_chain.proofs.PieceLaws.{bad_here, stands_whole, stands_more, seen_more, said_of, same_of, other_of}
 use Rattle.restore_chain.proofs.play_fragment.play_record.Goals as goal

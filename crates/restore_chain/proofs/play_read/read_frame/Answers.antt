@@ -1,4 +1,4 @@
-use Rattle.std.proofs.Common.{arith, List, ℕ, subst}
+use Rattle.std.proofs.Common.{arith, subst}
 use Rattle.plant_core.specs.declared.record.Kind.{Kind}
 use Rattle.plant_core.specs.Records.{ShowsAt}
 use Rattle.plant_effects.specs.Runs.{state_of}

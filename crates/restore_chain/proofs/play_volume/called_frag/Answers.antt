@@ -1,4 +1,4 @@
-use Rattle.std.proofs.Common.{◌≡◌, ◌+◌, length, refl, sym, ◌∙◌, ap, arith}
+use Rattle.std.proofs.Common.{◌≡◌, ◌+◌, length, refl, ◌∙◌, ap, arith}
 use Rattle.archive_model.specs.Holding.{called_head}
 use Rattle.restore_chain.proofs.VolumeLaws.{called_at, last_is, last_not}
 use Rattle.restore_chain.proofs.play_volume.called_frag.Goals as goal

@@ -1,4 +1,4 @@
-use Rattle.std.proofs.Common.{◌≡◌, true, Ok, Err, refl, sym, ◌∙◌, ap, subst, rules}
+use Rattle.std.proofs.Common.{◌≡◌, true, Ok, Err, sym, ◌∙◌, subst, rules}
 use Rattle.restore_chain.specs.declared.fault.LookFault.TheVariants.{Failed, Memory}
 use Rattle.restore_chain.specs.declared.play_volume.Turn.TheVariants as turns
 use Rattle.restore_chain.specs.declared.play_fragment.Ended.{Ended}

@@ -1,13 +1,10 @@
-use Rattle.std.proofs.Common.{◌≡◌, ◌<◌, ◌≤◌, Some, Ok, Err, List, length, take, slice_get, refl, sym, ◌∙◌, ap, subst, arith, rules}
+use Rattle.std.proofs.Common.{◌<◌, ◌≤◌, Ok, Err, length, refl, sym, ◌∙◌, subst, arith}
 use Rattle.plant_effects.proofs.Joining.{nothing_quiet, quiet_both}
-use Rattle.tape_text.specs.Wholes.{Lying}
-use Rattle.archive_model.specs.Holding.{called_frags, holder_here}
-use Rattle.tape_scan.specs.Looking.{LooksAt}
-use Rattle.restore_chain.specs.declared.chain_plan.TapeNeed.{TapeNeed}
+use Rattle.archive_model.specs.Holding.{called_frags}
 use Rattle.restore_chain.specs.declared.fault.LookFault.TheVariants.{Failed}
 use Rattle.restore_chain.specs.declared.play_volume.Turn.{Turn}
 use Rattle.restore_chain.specs.declared.play_volume.Turn.TheVariants as turns
-use Rattle.restore_chain.specs.Playing.{Turns, HaveStood}
+use Rattle.restore_chain.specs.Playing.{Turns}
 use Rattle.tape_scan.proofs.Looking.{loads_none, loads_both, slots_later, looks_well, looks_after}
 use Rattle.restore_chain.proofs.LoadLaws.{looks_ok}
 use Rattle.restore_chain.proofs.VolumeLaws.{length_called, stood_none, stood_more, bad_turn, all_taken, held_at, held_some}

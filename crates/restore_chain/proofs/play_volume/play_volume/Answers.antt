@@ -1,4 +1,4 @@
-use Rattle.std.proofs.Common.{◌≡◌, ◌<◌, ◌≤◌, inl, Ok, Err, List, length, refl, sym, ◌∙◌, subst, arith}
+use Rattle.std.proofs.Common.{◌<◌, ◌≤◌, inl, length, subst, arith}
 use Rattle.archive_model.specs.Holding.{called_frags}
 use Rattle.archive_model.specs.Plays.{pieces_of}
 use Rattle.restore_chain.specs.declared.fault.LookFault.TheVariants.{Failed}

@@ -1,6 +1,3 @@
-use Rattle.std.proofs.Common.{[], refl}
-use Rattle.std.proofs.lemmas.List.Elements.{All-nil}
-use Rattle.tape_frames.specs.Layouts.{FitsData}
 use Rattle.restore_chain.proofs.JoinLaws.{no_data}
 use Rattle.restore_chain.proofs.play_joined.Joined.new.Goals as goal
 

@@ -1,4 +1,4 @@
-use Rattle.std.proofs.Common.{◌≡◌, ℕ, [], ◌∷◌, ◌++◌, Some, refl}
+use Rattle.std.proofs.Common.{Some, refl}
 use Rattle.archive_model.specs.Plays.{Piece}
 use Rattle.restore_chain.specs.declared.play_joined.Joined.{Joined}
 use Rattle.restore_chain.specs.Playing.{spot_of, joined_bytes}
