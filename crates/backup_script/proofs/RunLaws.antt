@@ -1,5 +1,5 @@
 -- How a session is opened and runs a script.
-use Rattle.std.proofs.Common.{◌≡◌, ℕ, Bool, List, [], ◌++◌, Err, refl, sym, ◌∙◌, ap, subst}
+use Rattle.std.proofs.Common.{◌≡◌, ℕ, Bool, List, [], ◌++◌, Err, sym, ◌∙◌, ap, subst}
 use Rattle.std.specs.Str.Lines.{lines}
 use Rattle.std.proofs.lemmas.List.{append_cancel_left}
 use Rattle.plant_core.specs.declared.plant.Plant.{Ghosts as Plant}
@@ -18,21 +18,11 @@ use Rattle.backup_replies.specs.Texts.{has_refusal}
 use Rattle.backup_session.specs.Worlds.{World, Contents}
 use Rattle.backup_session.specs.Views.{SessionView}
 use Rattle.backup_session.specs.Fitting.{Fits}
-use Rattle.backup_session.specs.declared.stops.OpenStop.{OpenStop}
-use Rattle.backup_session.specs.declared.stops.OpenStop.TheVariants as stops
-use Rattle.backup_session.specs.Opening.{UnlessFailed}
 use Rattle.backup_script.specs.Lines.{ended}
 use Rattle.backup_script.specs.Scripts.{Outcome, between, script}
 use Rattle.backup_script.specs.Running.{Went, Left, WentShort, HasTold}
 use Rattle.backup_script.specs.Ended.{world_on, Ends, EndsShort}
 use Rattle.backup_script.proofs.StageLaws.{stage_front}
-
--- an opening that no failed call of the plant has ended
-pub unless_plant : (T : Type 0) (stop : OpenStop) (Holds : Type 0) → UnlessFailed {T = T} (Err stop) Holds → (stop ≡ stops.Plant → ⊥) → Holds
-unless_plant T stops.Plant Holds holds well = absurd (well refl)
-unless_plant T stops.Cell Holds holds well = holds
-unless_plant T (stops.BadLog at) Holds holds well = holds
-unless_plant T stops.Memory Holds holds well = holds
 
 -- some contents, which no call reads
 pub no_contents : Contents

@@ -9,7 +9,7 @@ ghost use Rattle.budb_changes.specs.Bytes.{encoded};
 ghost use Rattle.budb_changes.specs.Forms.{AreChanges, IsLog};
 ghost use Rattle.plant_core.specs.Crashes.{IsSettled};
 ghost use Rattle.plant_core.specs.Effects.{told_by};
-ghost use Rattle.plant_effects.specs.Runs.{state_of, Done, Stays};
+ghost use Rattle.plant_effects.specs.Runs.{state_of, Done, OnlyLooks, Stays};
 ghost use Rattle.backup_replies.specs.Texts.{has_refusal};
 ghost use Rattle.backup_session.specs.Worlds.{Contents};
 ghost use Rattle.backup_script.specs.Scripts.{script};
@@ -129,10 +129,11 @@ pub fn run_on<P: Plant, C: Cell, K: Clock, S: Source>(
     ensures bad_log { P.tells → (at : ℕ) → result ≡ Err (RunStop.BadLog at) → FailsAt IsLog (state_of P.Plant plant.old).log at }
     ensures only_bad_log { P.tells → (IsLog (state_of P.Plant plant.old).log → ⊥) → IsRefusedLog result }
     ensures bad_log_done { (at : ℕ) → result ≡ Err (RunStop.BadLog at) → Done P.Plant [] plant.old plant.new }
+    ensures bad_log_looks { (at : ℕ) → result ≡ Err (RunStop.BadLog at) → OnlyLooks P.Plant plant.old plant.new }
     ensures bad_log_cell { (at : ℕ) → result ≡ Err (RunStop.BadLog at) → cell.new ≡ cell.old }
     ensures bad_log_clock { (at : ℕ) → result ≡ Err (RunStop.BadLog at) → (clock.new ≡ clock.old) × (source.new ≡ source.old) }
 
-    ensures refused_log_done { P.tells → (IsLog (state_of P.Plant plant.old).log → ⊥) → result ≢ Err RunStop.Plant → Done P.Plant [] plant.old plant.new }
+    ensures refused_log_looks { P.tells → (IsLog (state_of P.Plant plant.old).log → ⊥) → OnlyLooks P.Plant plant.old plant.new }
     ensures refused_log_cell { P.tells → (IsLog (state_of P.Plant plant.old).log → ⊥) → cell.new ≡ cell.old }
     ensures refused_log_clock { P.tells → (IsLog (state_of P.Plant plant.old).log → ⊥) → (clock.new ≡ clock.old) × (source.new ≡ source.old) }
 

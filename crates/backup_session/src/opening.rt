@@ -3,7 +3,7 @@
 ghost use Rattle.std.specs.Prelude.{◌≡◌, ◌≢◌, [], ℕ, None, Err, IfOk};
 ghost use Rattle.std.specs.List.{fold};
 ghost use Rattle.crash_moments.specs.Moments.{HasCauseAt};
-ghost use Rattle.plant_effects.specs.Runs.{state_of, Done, Leaves, SameNumbers, StaysQuiet};
+ghost use Rattle.plant_effects.specs.Runs.{state_of, Done, Leaves, OnlyLooks, SameNumbers, StaysQuiet};
 ghost use Rattle.cell_core.specs.Answers.{OnlyFromOutside};
 ghost use Rattle.backup_session.specs.Opening.{with_clones, database_time, with_state, with_stored, OpensDatabase, UnlessFailed};
 
@@ -22,6 +22,7 @@ pub(crate) fn open_database<P: Plant>(alloc: Global, plant: &mut P) -> Result<Bu
     ensures nothing { IfOk result (λ budb. budb.prepared ≡ None) }
     ensures done { UnlessFailed result (Done P.Plant [] plant.old plant.new) }
     ensures leaves { Leaves P.Plant [] plant.old plant.new }
+    ensures looks { OnlyLooks P.Plant plant.old plant.new }
     ensures numbers { UnlessFailed result (SameNumbers P.Plant plant.old plant.new) }
     ensures stays { StaysQuiet P.Plant plant.old plant.new }
     ensures cause { HasCauseAt OpenStop.Plant (P.view plant.old).faults (P.view plant.new).faults result }

@@ -8,7 +8,7 @@ ghost use Rattle.budb_changes.specs.Bytes.{encoded};
 ghost use Rattle.budb_changes.specs.Forms.{AreChanges, IsLog};
 ghost use Rattle.budb_fold.specs.Database.{after};
 ghost use Rattle.plant_core.specs.Crashes.{IsSettled};
-ghost use Rattle.plant_effects.specs.Runs.{state_of, Done, Leaves, SameNumbers, StaysQuiet};
+ghost use Rattle.plant_effects.specs.Runs.{state_of, Done, Leaves, OnlyLooks, SameNumbers, StaysQuiet};
 ghost use Rattle.backup_session.specs.declared.verdict.Verdict.TheVariants.{Makes, Shortens};
 ghost use Rattle.backup_session.specs.Worlds.{World, Contents, at_moment};
 ghost use Rattle.backup_session.specs.Verdicts.{verdict};
@@ -70,6 +70,7 @@ impl Session {
         ensures listed { P.tells → result ≡ Err OpenStop.Cell → IsLog (state_of P.Plant plant.old).log }
         ensures done { UnlessFailed result (Done P.Plant [] plant.old plant.new) }
         ensures leaves { Leaves P.Plant [] plant.old plant.new }
+        ensures looks { OnlyLooks P.Plant plant.old plant.new }
         ensures numbers { UnlessFailed result (SameNumbers P.Plant plant.old plant.new) }
         ensures stays { StaysQuiet P.Plant plant.old plant.new }
         ensures cell { C.tells → C.list cell.new ≡ C.list cell.old }

@@ -1,21 +1,23 @@
 -- From a plant over media to the media.
-use Rattle.std.proofs.Common.{◌≡◌, inl, zero, suc, ℕ, ◌+◌, ◌-◌, ◌≤◌, Bool, true, IsTrue, List, [], ◌∷◌, length, take, Some, None, refl, sym, ◌∙◌, ap, subst, arith}
-use Rattle.std.proofs.lemmas.List.{take_all}
+use Rattle.std.proofs.Common.{◌≡◌, inl, zero, suc, ℕ, ◌+◌, ◌-◌, ◌≤◌, Bool, true, IsTrue, List, [], ◌∷◌, ◌++◌, length, take, Some, None, refl, sym, ◌∙◌, ap, subst, arith}
+use Rattle.std.proofs.lemmas.List.{take_all, append-nil}
 use Rattle.crash_moments.specs.Moments.{Moments, Leads, LeavesSince}
 use Rattle.crash_moments.specs.Telling.{IsFront, Extends}
+use Rattle.crash_moments.proofs.Fronts.{whole_front}
 use Rattle.crash_moments.proofs.Joining.{joined, weakened, whole, mapped_leads, part_leaves}
 use Rattle.media_core.specs.Media.{Image, Same}
 use Rattle.media_core.specs.Still.{AreStill}
 use Rattle.crash_log.specs.Log.{log_of, is_damaged}
-use Rattle.plant_core.specs.Crashes.{State, LeftIn, IsSettled, Alike, seen_in, settled_part}
-use Rattle.plant_core.specs.Effects.{Effect, commits, replaces, tells, puts, settles, cuts, comes, come, Joint}
+use Rattle.plant_core.specs.Crashes.{State, LeftIn, IsSettled, Alike, seen_in}
+use Rattle.plant_core.specs.Effects.{Effect, commits, replaces, tells, puts, settles, cuts, comes, come, told_by, Joint}
 use Rattle.plant_core.specs.Stock.{Stock}
-use Rattle.plant_effects.proofs.States.{grows_none, joint_none}
+use Rattle.plant_effects.specs.Runs.{IsStartOf}
+use Rattle.plant_effects.proofs.States.{told_is, grows_none, joint_none}
 use Rattle.plant_media.specs.Stock.{stock_of, journal_of, log_shown, tape_of}
 use Rattle.plant_media.specs.Slots.{slots_here, shown}
 use Rattle.plant_media.specs.State.{media_of, moments_of, shown_of}
 use Rattle.plant_media.specs.declared.plant.MediaPlant.{MediaPlant}
-use Rattle.backup_top.specs.Courses.{at_rest, SameFiles}
+use Rattle.backup_top.specs.Courses.{at_rest, SameFiles, SameStock}
 
 -- ---- states
 
@@ -36,14 +38,6 @@ opened_rests bytes stock s shown is settled =
 
 pub shown_log : (bytes : List ℕ) (stock : Stock) (s : State) → stock ≡ seen_in s → stock.log ≡ Some bytes → s.log ≡ bytes
 shown_log bytes stock s shown is = sym (some_same bytes s.log (sym is ∙ ap (λ (x : Stock). x.log) shown))
-
--- where all is settled, a plant hands back what it shows
-pub settled_whole : (s : State) → IsSettled s → settled_part s ≡ seen_in s
-settled_whole s settled = λ i. record {
-  log = Some ((ap (λ (n : ℕ). take n s.log) settled.log ∙ take_all (length s.log) s.log (omega arith)) i);
-  tape = λ k. (ap (λ (n : ℕ). take n (s.tape k)) (settled.tapes k) ∙ take_all (length (s.tape k)) (s.tape k) (omega arith)) i;
-  told = s.told;
-}
 
 -- effects settle the log
 log_comes : (e : Effect) (s : State) → s.log_settled ≡ length s.log → (comes e s).log_settled ≡ length (comes e s).log
@@ -83,6 +77,13 @@ same_files {D = D} count present media first last back is some here counted show
 pub shown_told : {D : Type 0} (seen : D → Image) (plant : MediaPlant D) (back : D) → back ≡ plant.media → (stock_of (seen back)).told ≡ (shown_of seen plant).told
 unfolding shown
 shown_told {D = D} seen plant back is = ap (λ (m : D). (seen m).told) is
+
+-- what was told at the exit is a front of what was told at the entry and by these effects
+pub told_to : (before after shown : List ℕ) (es : List Effect) (s : State) → before ≡ s.told → after ≡ shown → IsStartOf shown (come es s).told → IsFront after (before ++ told_by es)
+told_to before after shown es s before_is after_is start = (length shown, after_is ∙ start ∙ ap (take (length shown)) (told_is es s ∙ ap (λ (l : List ℕ). l ++ told_by es) (sym before_is)))
+
+pub untold_to : (before after : List ℕ) → after ≡ before → IsFront after (before ++ [])
+untold_to before after same = whole_front after (before ++ []) (same ∙ sym (append-nil before))
 
 -- a damaged journal has no log
 pub journal_damaged : (file : List ℕ) → is_damaged file ≡ true → journal_of file ≡ None
@@ -134,6 +135,17 @@ module _ {D : Type 0} (time : Moments D Image) (seen : D → Image) (media : D) 
 
       pub images_later : time.moment media ≤ time.moment back
       images_later = subst (λ (m : D). time.moment media ≤ time.moment m) (sym back_is) all.later
+
+  -- where it was only read
+  pub nothing_same : (back : D) → Leads time media back Same → LeavesSince time media back SameStock
+  nothing_same back leads = whole time media back SameStock (weakened time media back Same SameStock leads (λ a b was same. ap stock_of same)) (λ a was. refl)
+
+  pub images_same : (back : D) (plant end : MediaPlant D) → back ≡ end.media → Leads time media plant.media Same → Leads (moments_of time) plant end (λ a b. b ≡ a) → LeavesSince time media back SameStock
+  images_same back plant end back_is opening looks =
+      let first : MediaPlant D = record plant { media = media } in
+      let lead : Leads (moments_of time) first plant (λ a b. b ≡ a) = mapped_leads time media_of stock_of first plant Same (λ a b. b ≡ a) opening (λ a b was same. ap stock_of same) in
+      let all : Leads (moments_of time) first end (λ a b. b ≡ a) = joined (moments_of time) first plant end (λ a b. b ≡ a) (λ a b. b ≡ a) (λ a b. b ≡ a) lead looks (λ a b was same. same) (λ a b c was same left next. next ∙ same) in
+      subst (λ (m : D). LeavesSince time media m SameStock) (sym back_is) (part_leaves time media_of stock_of first end (λ a b. b ≡ a) all (λ a was. refl))
 
   pub same_later : (back : D) → Leads time media back Same → time.moment media ≤ time.moment back
   same_later back leads = leads.later

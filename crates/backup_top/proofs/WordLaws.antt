@@ -1,13 +1,11 @@
 -- A rehearsal is asked for with at most 200 volumes.
-use Rattle.std.proofs.Common.{◌≡◌, ℕ, ◌≤◌, Bool, true, false, List, [], ◌∷◌, refl, sym, ◌∙◌, subst, arith, Option, Some, None}
+use Rattle.std.proofs.Common.{◌≡◌, ℕ, ◌≤◌, Bool, true, false, List, [], ◌∷◌, refl, subst, arith, Option, Some, None}
 use Rattle.std.specs.Prelude.{◌&&◌, nat_le, if◌then◌else◌, codes}
 use Rattle.std.specs.Str.{bytes_eq}
 use Rattle.bk_text.specs.Digits.{digits_of}
-use Rattle.backup_words.specs.declared.modes.Mode.{Mode}
 use Rattle.backup_words.specs.declared.modes.Mode.TheVariants.{Run as RunMode, Examine as ExamineMode, Rehearse as RehearseMode}
 use Rattle.backup_words.specs.Modes.{Text, rehearsal, mode_of}
-use Rattle.backup_top.specs.declared.words.Asked.{Asked}
-use Rattle.backup_top.specs.declared.words.Asked.TheVariants.{Run, Examine, Rehearse, Nothing}
+use Rattle.backup_top.specs.declared.words.Asked.TheVariants.{Rehearse}
 use Rattle.backup_top.specs.Words.{asked_of}
 
 second : (a b : Bool) → (a && b) ≡ true → b ≡ true

@@ -3,6 +3,7 @@ use Rattle.std.specs.Prelude.{◌≡◌, ◌≢◌, ◌⊎◌, ℕ, ◌+◌, ◌
 use Rattle.std.specs.Str.Lines.{lines}
 use Rattle.bk_text.specs.Places.{FailsAt}
 use Rattle.crash_moments.specs.Moments.{Moments, Stepped, LeavesSince, Rose}
+use Rattle.crash_moments.specs.Telling.{IsFront}
 use Rattle.media_core.specs.Media.{Image}
 use Rattle.plant_core.specs.Crashes.{State, settled_part}
 use Rattle.plant_core.specs.Effects.{Effect, tells, come, told_by, Joint}
@@ -242,15 +243,21 @@ pub record LeftImage (c : Course) (effects : List Effect) (old new : Stock) : Ty
   pub listed : HoldsWorld c.world → FindsFit c → EachKeepsListed c.world (take joint.count effects)
   pub settled : HoldsWorld c.world → FindsFit c → RepliesSettle c.world effects
 
+-- an image stands for the same journal, tapes and told bytes as another one
+abbrev pub SameStock : Image → Image → Type 0
+SameStock old new = stock_of new ≡ stock_of old
+
 -- each image since the entry
 abbrev pub LeavesImages : {D : Type 0} → Moments D Image → D → D → Course → List Effect → Type 0
 LeavesImages time old new c effects = LeavesSince time old new (λ a b. LeftImage c effects (stock_of a) (stock_of b))
 
--- the cell has the list of a stage of the script
+-- The cell has the list of a stage of the script, and no more was told than its effects tell: so the cell has the changes of each command
+-- whose reply was told.
 pub record CellAtStage (c : Course) : Type 0 where
   pub stage : Stage
   pub on_the_way : IsStage [] c.world c.moments (lines c.input) stage
   pub is : c.cell ≡ stage.cell
+  pub told : IsFront c.after.told (c.before.told ++ told_by stage.effects)
 
 -- However a run ends, what reads give is such an image of a stage of the script, and the cell has the list of this stage. So the cell has
 -- the changes of each command whose reply was told.

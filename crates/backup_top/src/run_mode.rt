@@ -1,6 +1,7 @@
 //! The mode `run`: a script is run by the bytes of a configuration.
 
-ghost use Rattle.std.specs.Prelude.{◌≡◌, ◌≢◌, ◌⊎◌, ◌-◌, ◌^◌, ◌≤◌, ℕ, min, None, Ok, Err};
+ghost use Rattle.std.specs.Prelude.{◌≡◌, ◌≢◌, ◌⊎◌, ◌-◌, ◌^◌, ◌≤◌, ℕ, min, Ok, Err};
+ghost use Rattle.crash_moments.specs.Moments.{LeavesSince};
 ghost use Rattle.media_core.specs.Still.{AreStill};
 ghost use Rattle.plant_media.specs.Stock.{stock_of};
 ghost use Rattle.tape_config.specs.Configs.{Settings, config_of};
@@ -8,7 +9,7 @@ ghost use Rattle.tape_config.specs.declared.fault.ConfigFault.{ConfigFault as An
 ghost use Rattle.backup_top.specs.declared.status.Status.TheVariants.{Usage, ReadFault, MediaFault, CellFault, OutputFault, BadConfig, BadLog, Memory};
 ghost use Rattle.backup_top.specs.Answers.{config_status};
 ghost use Rattle.backup_session.specs.Worlds.{Contents};
-ghost use Rattle.backup_top.specs.Courses.{course_of, Entry, Journal, IsBadLog, IsRefusedAt, RefusesJournal, Runs, TellsLines, SameFiles, TakesBy, CellAtStage, EndsAt, LeavesImages, FindsHeld, outcome, HasCauseAs};
+ghost use Rattle.backup_top.specs.Courses.{course_of, Entry, Journal, IsBadLog, SameStock, IsRefusedAt, RefusesJournal, Runs, TellsLines, SameFiles, TakesBy, CellAtStage, EndsAt, LeavesImages, FindsHeld, outcome, HasCauseAs};
 
 use crate::running::run_media;
 use crate::status::Status;
@@ -49,10 +50,10 @@ pub fn run_mode<M: Media, C: Cell, K: Clock, S: Source>(
     ensures bad_log { M.tells → (at : ℕ) → result.0 ≡ BadLog at → IsBadLog (stock_of (M.seen media)).log at }
     ensures bad_log_config { (at : ℕ) → result.0 ≡ BadLog at → (settings : Settings) × (config_of config.now ≡ Ok settings) }
     ensures only_bad_log { M.tells → (settings : Settings) → config_of config.now ≡ Ok settings → (Journal (stock_of (M.seen media)) → ⊥) → RefusesJournal result.0 }
-    ensures damaged_same { M.tells → (stock_of (M.seen media)).log ≡ None → (M.seen result.1 ≡ M.seen media) × (cell.new ≡ cell.old) × (clock.new ≡ clock.old) × (source.new ≡ source.old) }
-    ensures refused_log_media { M.tells → (Journal (stock_of (M.seen media)) → ⊥) → result.0 ≢ MediaFault → stock_of (M.seen result.1) ≡ stock_of (M.seen media) }
+    ensures refused_log_media { M.tells → (Journal (stock_of (M.seen media)) → ⊥) → M.seen result.1 ≡ M.seen media }
+    ensures refused_log_images { M.tells → (Journal (stock_of (M.seen media)) → ⊥) → LeavesSince M.time media result.1 SameStock }
     ensures refused_log_same { M.tells → (Journal (stock_of (M.seen media)) → ⊥) → (cell.new ≡ cell.old) × (clock.new ≡ clock.old) × (source.new ≡ source.old) }
-    ensures bad_log_media { M.tells → (at : ℕ) → result.0 ≡ BadLog at → stock_of (M.seen result.1) ≡ stock_of (M.seen media) }
+    ensures bad_log_media { M.tells → (at : ℕ) → result.0 ≡ BadLog at → M.seen result.1 ≡ M.seen media }
     ensures bad_log_same { (at : ℕ) → result.0 ≡ BadLog at → (cell.new ≡ cell.old) × (clock.new ≡ clock.old) × (source.new ≡ source.old) }
     ensures refused_config_same { (fault : AnyFault) → config_of config.now ≡ Err fault → (result.1 ≡ media) × (cell.new ≡ cell.old) × (clock.new ≡ clock.old) × (source.new ≡ source.old) }
     ensures cell_at_end { M.tells → C.tells → K.tells → S.tells → (entry : Entry config.now (stock_of (M.seen media))) → (contents : Contents)

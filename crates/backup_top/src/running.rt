@@ -1,12 +1,13 @@
 //! A run of a script over media and a cell.
 
-ghost use Rattle.std.specs.Prelude.{◌≡◌, ◌≢◌, ◌-◌, ◌^◌, ◌≤◌, ℕ, min, List, None, Ok};
+ghost use Rattle.std.specs.Prelude.{◌≡◌, ◌≢◌, ◌-◌, ◌^◌, ◌≤◌, ℕ, min, List, Ok};
+ghost use Rattle.crash_moments.specs.Moments.{LeavesSince};
 ghost use Rattle.media_core.specs.Still.{AreStill};
 ghost use Rattle.plant_media.specs.Stock.{stock_of};
 ghost use Rattle.tape_config.specs.Configs.{config_of};
 ghost use Rattle.backup_top.specs.declared.status.Status.TheVariants.{ReadFault, MediaFault, CellFault, OutputFault, BadLog};
 ghost use Rattle.backup_session.specs.Worlds.{Contents};
-ghost use Rattle.backup_top.specs.Courses.{course, Journal, IsBadLog, IsRunStatus, RefusesJournal, Runs, TellsLines, SameFiles, TakesBy, CellAtStage, EndsAt, LeavesImages, FindsHeld, outcome, HasCauseAs};
+ghost use Rattle.backup_top.specs.Courses.{course, Journal, IsBadLog, SameStock, IsRunStatus, RefusesJournal, Runs, TellsLines, SameFiles, TakesBy, CellAtStage, EndsAt, LeavesImages, FindsHeld, outcome, HasCauseAs};
 
 use crate::status::Status;
 use crate::statuses::{of_opening, of_run};
@@ -44,10 +45,10 @@ pub fn run_media<M: Media, C: Cell, K: Clock, S: Source>(
     ensures takes { S.tells → TakesBy (S.left source.old) (S.left source.new) result.0 }
     ensures bad_log { M.tells → (at : ℕ) → result.0 ≡ BadLog at → IsBadLog (stock_of (M.seen media)).log at }
     ensures only_bad_log { M.tells → (Journal (stock_of (M.seen media)) → ⊥) → RefusesJournal result.0 }
-    ensures damaged_same { M.tells → (stock_of (M.seen media)).log ≡ None → (M.seen result.1 ≡ M.seen media) × (cell.new ≡ cell.old) × (clock.new ≡ clock.old) × (source.new ≡ source.old) }
-    ensures refused_log_media { M.tells → (Journal (stock_of (M.seen media)) → ⊥) → result.0 ≢ MediaFault → stock_of (M.seen result.1) ≡ stock_of (M.seen media) }
+    ensures refused_log_media { M.tells → (Journal (stock_of (M.seen media)) → ⊥) → M.seen result.1 ≡ M.seen media }
+    ensures refused_log_images { M.tells → (Journal (stock_of (M.seen media)) → ⊥) → LeavesSince M.time media result.1 SameStock }
     ensures refused_log_same { M.tells → (Journal (stock_of (M.seen media)) → ⊥) → (cell.new ≡ cell.old) × (clock.new ≡ clock.old) × (source.new ≡ source.old) }
-    ensures bad_log_media { M.tells → (at : ℕ) → result.0 ≡ BadLog at → stock_of (M.seen result.1) ≡ stock_of (M.seen media) }
+    ensures bad_log_media { M.tells → (at : ℕ) → result.0 ≡ BadLog at → M.seen result.1 ≡ M.seen media }
     ensures bad_log_same { (at : ℕ) → result.0 ≡ BadLog at → (cell.new ≡ cell.old) × (clock.new ≡ clock.old) × (source.new ≡ source.old) }
     ensures cell_at_end { M.tells → C.tells → K.tells → S.tells → (journal : Journal (stock_of (M.seen media))) → (contents : Contents)
         → let c = course M.seen M.count M.present config journal.log contents media result.1 (C.list cell.old) (C.list cell.new) (K.moments clock.old) (K.moments clock.new) (S.left source.old) (S.left source.new) in

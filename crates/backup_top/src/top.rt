@@ -1,7 +1,7 @@
 //! The top call.
 
-ghost use Rattle.std.specs.Prelude.{◌≡◌, ◌≢◌, ◌⊎◌, ◌-◌, ◌^◌, ◌≤◌, ℕ, min, None, Ok, Err};
-ghost use Rattle.crash_moments.specs.Moments.{Leads, Rose};
+ghost use Rattle.std.specs.Prelude.{◌≡◌, ◌≢◌, ◌⊎◌, ◌-◌, ◌^◌, ◌≤◌, ℕ, min, Ok, Err};
+ghost use Rattle.crash_moments.specs.Moments.{Leads, LeavesSince, Rose};
 ghost use Rattle.media_core.specs.Still.{AreStill};
 ghost use Rattle.plant_media.specs.Stock.{stock_of};
 ghost use Rattle.tape_config.specs.Configs.{Settings, config_of};
@@ -15,7 +15,7 @@ ghost use Rattle.backup_top.specs.Answers.{config_status};
 ghost use Rattle.backup_session.specs.Held.{HoldsArchive};
 ghost use Rattle.backup_session.specs.Worlds.{Contents};
 ghost use Rattle.session_archives.specs.Held.{HoldsWorld};
-ghost use Rattle.backup_top.specs.Courses.{course_of, Entry, Journal, IsBadLog, IsRefusedAt, RefusesJournal, IsExamineStatus, Runs, TellsLines, SameFiles, TakesBy, CellAtStage, EndsAt, LeavesImages, FindsHeld, FindsFit, FindsVolumes, outcome, HasCauseAs, IsWithin, IsComplete};
+ghost use Rattle.backup_top.specs.Courses.{course_of, Entry, Journal, IsBadLog, SameStock, IsRefusedAt, RefusesJournal, IsExamineStatus, Runs, TellsLines, SameFiles, TakesBy, CellAtStage, EndsAt, LeavesImages, FindsHeld, FindsFit, FindsVolumes, outcome, HasCauseAs, IsWithin, IsComplete};
 ghost use Rattle.backup_top.specs.declared.words.Asked.TheVariants.{Run, Examine, Rehearse, Nothing};
 ghost use Rattle.backup_top.specs.declared.status.Status.TheVariants.{Done, Usage, ReadFault, MediaFault, CellFault, Memory, BadConfig, BadLog, OutputFault};
 
@@ -207,7 +207,8 @@ pub fn run<M: Media, C: Cell, K: Clock, S: Source>(
     ensures ends { asked words.now.items ≡ Run → M.tells → C.tells → K.tells → S.tells → AreStill M.time M.seen media → (entry : Entry config.now (stock_of (M.seen media))) → (contents : Contents)
         → let c = course_of M.seen M.count M.present contents media entry result.1 (C.list cell.old) (C.list cell.new) (K.moments clock.old) (K.moments clock.new) (S.left source.old) (S.left source.new) in
         FindsHeld c → EndsAt M.time M.seen media result.1 c }
-    // Also where a write waited for a sync at the entry, the cell has the list of a stage of the script.
+    // Also where a write waited for a sync at the entry, the cell has the list of a stage of the script, and no more was told than the effects
+    // of this stage tell: so it has the changes of each command whose reply was told.
     ensures cell_at_end { asked words.now.items ≡ Run → M.tells → C.tells → K.tells → S.tells → (entry : Entry config.now (stock_of (M.seen media))) → (contents : Contents)
         → let c = course_of M.seen M.count M.present contents media entry result.1 (C.list cell.old) (C.list cell.new) (K.moments clock.old) (K.moments clock.new) (S.left source.old) (S.left source.new) in
         FindsHeld c → CellAtStage c }
@@ -226,13 +227,13 @@ pub fn run<M: Media, C: Cell, K: Clock, S: Source>(
     ensures bad_log { M.tells → (at : ℕ) → result.0 ≡ BadLog at → IsBadLog (stock_of (M.seen media)).log at }
     ensures bad_log_config { (at : ℕ) → result.0 ≡ BadLog at → (asked words.now.items ≡ Run) × ((settings : Settings) × (config_of config.now ≡ Ok settings)) }
     ensures only_bad_log { asked words.now.items ≡ Run → M.tells → (settings : Settings) → config_of config.now ≡ Ok settings → (Journal (stock_of (M.seen media)) → ⊥) → RefusesJournal result.0 }
-    ensures bad_log_media { M.tells → (at : ℕ) → result.0 ≡ BadLog at → stock_of (M.seen result.1) ≡ stock_of (M.seen media) }
+    ensures bad_log_media { M.tells → (at : ℕ) → result.0 ≡ BadLog at → M.seen result.1 ≡ M.seen media }
     ensures bad_log_same { (at : ℕ) → result.0 ≡ BadLog at → (cell.new ≡ cell.old) × (clock.new ≡ clock.old) × (source.new ≡ source.old) }
-    // However a run over a journal that is no list of changes ends, cell, clock and source stay, and so do journal, tapes and what was told unless
-    // a call on the media failed. Where the journal's file is damaged, all files stay.
-    ensures refused_log_media { asked words.now.items ≡ Run → M.tells → (Journal (stock_of (M.seen media)) → ⊥) → result.0 ≢ MediaFault → stock_of (M.seen result.1) ≡ stock_of (M.seen media) }
+    // However a run over a journal that is no list of changes ends, or one whose file is damaged, all files stay to the byte, and what was told,
+    // cell, clock and source; each image since the entry stands for the same as one of the entry.
+    ensures refused_log_media { asked words.now.items ≡ Run → M.tells → (Journal (stock_of (M.seen media)) → ⊥) → M.seen result.1 ≡ M.seen media }
+    ensures refused_log_images { asked words.now.items ≡ Run → M.tells → (Journal (stock_of (M.seen media)) → ⊥) → LeavesSince M.time media result.1 SameStock }
     ensures refused_log_same { asked words.now.items ≡ Run → M.tells → (Journal (stock_of (M.seen media)) → ⊥) → (cell.new ≡ cell.old) × (clock.new ≡ clock.old) × (source.new ≡ source.old) }
-    ensures damaged_same { asked words.now.items ≡ Run → M.tells → (stock_of (M.seen media)).log ≡ None → (M.seen result.1 ≡ M.seen media) × (cell.new ≡ cell.old) × (clock.new ≡ clock.old) × (source.new ≡ source.old) }
 
     // As many files come back, and the same of them are here. Each fault has its cause, and no count rises at another status, nor falls; that of
     // the media ends at 2^64 - 1.

@@ -4,7 +4,7 @@ ghost use Rattle.std.specs.Prelude.{◌≡◌, ◌⊎◌, ◌+◌, ◌<◌, ◌+
 ghost use Rattle.std.specs.Option.{option_copied};
 ghost use Rattle.crash_moments.specs.Moments.{HasCauseAt};
 ghost use Rattle.plant_core.specs.Effects.{commits};
-ghost use Rattle.plant_effects.specs.Runs.{state_of, Done, Leaves, SameTape, SameNumbers, StaysQuiet};
+ghost use Rattle.plant_effects.specs.Runs.{state_of, Done, Leaves, OnlyLooks, SameTape, SameNumbers, StaysQuiet};
 ghost use Rattle.budb_changes.specs.declared.change.Change.{Change as AnyChange};
 ghost use Rattle.budb_changes.specs.Bytes.{encoded};
 ghost use Rattle.budb_changes.specs.Forms.{AreChanges};
@@ -69,6 +69,7 @@ impl Budb {
         ensures nothing { IfOk result (λ budb. budb.prepared ≡ None) }
         ensures done { UnlessFailed result (Done P.Plant [] plant.old plant.new) }
         ensures leaves { Leaves P.Plant [] plant.old plant.new }
+        ensures looks { OnlyLooks P.Plant plant.old plant.new }
         ensures numbers { UnlessFailed result (SameNumbers P.Plant plant.old plant.new) }
         ensures stays { StaysQuiet P.Plant plant.old plant.new }
         ensures cause { HasCauseAt BudbFault.Failed (P.view plant.old).faults (P.view plant.new).faults result }

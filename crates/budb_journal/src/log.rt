@@ -3,7 +3,7 @@
 ghost use Rattle.std.specs.Prelude.{◌≡◌, ◌⊎◌, ◌+◌, ◌<◌, [], ◌∷◌, length, Err, IfOk, OnOk, OnErr};
 ghost use Rattle.crash_moments.specs.Moments.{HasCauseAt};
 ghost use Rattle.plant_core.specs.Effects.{commits};
-ghost use Rattle.plant_effects.specs.Runs.{state_of, Done, Leaves, SameTape, SameNumbers, StaysQuiet};
+ghost use Rattle.plant_effects.specs.Runs.{state_of, Done, Leaves, OnlyLooks, SameTape, SameNumbers, StaysQuiet};
 ghost use Rattle.budb_changes.specs.Bytes.{encoded};
 ghost use Rattle.budb_changes.specs.Forms.{AreChanges};
 ghost use Rattle.budb_journal.specs.Replays.{Replays, UnlessFailed};
@@ -52,6 +52,7 @@ fn log_bytes<P: Plant>(alloc: Global, plant: &mut P) -> Result<Vec<u8>, ReplayFa
     ensures memory_same { result ≡ Err ReplayFault.Memory → plant.new ≡ plant.old }
     ensures done { OnOk result (Done P.Plant [] plant.old plant.new) }
     ensures leaves { Leaves P.Plant [] plant.old plant.new }
+    ensures looks { OnlyLooks P.Plant plant.old plant.new }
     ensures numbers { OnOk result (SameNumbers P.Plant plant.old plant.new) }
     ensures stays { StaysQuiet P.Plant plant.old plant.new }
     ensures cause { HasCauseAt ReplayFault.Failed (P.view plant.old).faults (P.view plant.new).faults result }
@@ -67,12 +68,13 @@ fn log_bytes<P: Plant>(alloc: Global, plant: &mut P) -> Result<Vec<u8>, ReplayFa
 }
 
 /// The changes of a plant's log. It is read only: whatever the answer is but `Failed`, log, tapes, the loaded tape and what
-/// was told are as they were.
+/// was told are as they were, and at each answer what lies beneath the plant.
 pub fn replay<P: Plant>(alloc: Global, plant: &mut P) -> Result<List<Change>, ReplayFault>
     requires { P.sound plant.old }
     ensures changes { P.tells → Replays (state_of P.Plant plant.old).log result }
     ensures done { UnlessFailed result (Done P.Plant [] plant.old plant.new) }
     ensures leaves { Leaves P.Plant [] plant.old plant.new }
+    ensures looks { OnlyLooks P.Plant plant.old plant.new }
     ensures numbers { UnlessFailed result (SameNumbers P.Plant plant.old plant.new) }
     ensures stays { StaysQuiet P.Plant plant.old plant.new }
     ensures cause { HasCauseAt ReplayFault.Failed (P.view plant.old).faults (P.view plant.new).faults result }

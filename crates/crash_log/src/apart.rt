@@ -29,6 +29,7 @@ pub fn write_apart<M: Media>(
     ensures before { M.tells → OnOk result ((a n : ℕ) → a + n ≤ at → span a n ((M.seen media.new).file log.now.file) ≡ span a n ((M.seen media.old).file log.now.file)) }
     ensures settled { M.tells → OnOk result (settled_bytes log.now ((M.seen media.new).file log.now.file) ≡ settled_bytes log.now ((M.seen media.old).file log.now.file)) }
     ensures frame { M.tells → OnOk result (AtFile log.now.file Any (M.seen media.old) (M.seen media.new)) }
+    ensures told { M.tells → (M.seen media.new).told ≡ (M.seen media.old).told }
     ensures crash { M.tells → IsReady M.time M.seen log.now media.old → Leads M.time media.old media.new (AtFile log.now.file (HasLog (settled_bytes log.now ((M.seen media.old).file log.now.file)))) }
     ensures count { M.count media.new ≡ M.count media.old }
     ensures present { M.present media.new ≡ M.present media.old }

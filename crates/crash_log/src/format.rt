@@ -32,6 +32,7 @@ fn write_front<M: Media>(media: &mut M, f: u32) -> Result<(), Failed>
     ensures front { M.tells → OnOk result (Has (as_read M.seen) M.seen IsFront f media.new) }
     ensures still { M.tells → OnOk result (IsStill M.time M.seen f media.new) }
     ensures frame { M.tells → OnOk result (AtFile f Any (M.seen media.old) (M.seen media.new)) }
+    ensures told { M.tells → (M.seen media.new).told ≡ (M.seen media.old).told }
     ensures crash { M.tells → IsStill M.time M.seen f media.old → Leads M.time media.old media.new (AtFile f (HasLog [])) }
     ensures count { M.count media.new ≡ M.count media.old }
     ensures present { M.present media.new ≡ M.present media.old }
@@ -49,6 +50,7 @@ fn write_end<M: Media>(media: &mut M, f: u32) -> Result<(), Failed>
     ensures formatted { M.tells → OnOk result (Has (as_read M.seen) M.seen IsFormatted f media.new) }
     ensures still { M.tells → OnOk result (IsStill M.time M.seen f media.new) }
     ensures frame { M.tells → OnOk result (AtFile f Any (M.seen media.old) (M.seen media.new)) }
+    ensures told { M.tells → (M.seen media.new).told ≡ (M.seen media.old).told }
     ensures crash { M.tells → Has M.time M.seen IsFront f media.old → Leads M.time media.old media.new (AtFile f (HasLog [])) }
     ensures count { M.count media.new ≡ M.count media.old }
     ensures present { M.present media.new ≡ M.present media.old }
@@ -66,6 +68,7 @@ pub fn format_blank<M: Media>(media: &mut M, f: u32) -> Result<(), Failed>
     ensures formatted { M.tells → OnOk result (Has (as_read M.seen) M.seen IsFormatted f media.new) }
     ensures still { M.tells → OnOk result (IsStill M.time M.seen f media.new) }
     ensures frame { M.tells → OnOk result (AtFile f Any (M.seen media.old) (M.seen media.new)) }
+    ensures told { M.tells → (M.seen media.new).told ≡ (M.seen media.old).told }
     ensures crash { M.tells → IsStill M.time M.seen f media.old → Leads M.time media.old media.new (AtFile f (HasLog [])) }
     ensures count { M.count media.new ≡ M.count media.old }
     ensures present { M.present media.new ≡ M.present media.old }
@@ -88,6 +91,7 @@ fn close_gate<M: Media>(media: &mut M, f: u32, base: u64, is_open: bool) -> Resu
     ensures shut { M.tells → OnOk result (gate_at base ((M.seen media.new).file f) ≢ 1) }
     ensures others { M.tells → OnOk result ((o : ℕ) → (o + 1 ≤ base) ⊎ (base + 1 ≤ o) → gate_at o ((M.seen media.new).file f) ≡ gate_at o ((M.seen media.old).file f)) }
     ensures frame { M.tells → OnOk result (AtFile f Any (M.seen media.old) (M.seen media.new)) }
+    ensures told { M.tells → (M.seen media.new).told ≡ (M.seen media.old).told }
     ensures crash { M.tells → Has M.time M.seen HasNoGood f media.old → Leads M.time media.old media.new (AtFile f (HasLog [])) }
     ensures count { M.count media.new ≡ M.count media.old }
     ensures present { M.present media.new ≡ M.present media.old }
@@ -110,6 +114,7 @@ fn close_gates<M: Media>(media: &mut M, f: u32, first: bool, second: bool) -> Re
     ensures shut { M.tells → OnOk result (Has (as_read M.seen) M.seen IsShut f media.new) }
     ensures survives { M.tells → Has M.time M.seen HasNoGood f media.old → OnOk result (Has M.time M.seen IsShut f media.new) }
     ensures frame { M.tells → OnOk result (AtFile f Any (M.seen media.old) (M.seen media.new)) }
+    ensures told { M.tells → (M.seen media.new).told ≡ (M.seen media.old).told }
     ensures crash { M.tells → Has M.time M.seen HasNoGood f media.old → Leads M.time media.old media.new (AtFile f (HasLog [])) }
     ensures count { M.count media.new ≡ M.count media.old }
     ensures present { M.present media.new ≡ M.present media.old }
@@ -128,6 +133,7 @@ fn write_place<M: Media>(media: &mut M, f: u32) -> Result<(), Failed>
     ensures placed { M.tells → OnOk result (Has (as_read M.seen) M.seen IsPlaced f media.new) }
     ensures still { M.tells → OnOk result (IsStill M.time M.seen f media.new) }
     ensures frame { M.tells → OnOk result (AtFile f Any (M.seen media.old) (M.seen media.new)) }
+    ensures told { M.tells → (M.seen media.new).told ≡ (M.seen media.old).told }
     ensures crash { M.tells → Has M.time M.seen IsShut f media.old → Leads M.time media.old media.new (AtFile f (HasLog [])) }
     ensures count { M.count media.new ≡ M.count media.old }
     ensures present { M.present media.new ≡ M.present media.old }
@@ -146,6 +152,7 @@ fn open_first<M: Media>(media: &mut M, f: u32) -> Result<(), Failed>
     ensures formatted { M.tells → OnOk result (Has (as_read M.seen) M.seen IsFormatted f media.new) }
     ensures still { M.tells → OnOk result (IsStill M.time M.seen f media.new) }
     ensures frame { M.tells → OnOk result (AtFile f Any (M.seen media.old) (M.seen media.new)) }
+    ensures told { M.tells → (M.seen media.new).told ≡ (M.seen media.old).told }
     ensures crash { M.tells → Has M.time M.seen IsPlaced f media.old → Leads M.time media.old media.new (AtFile f (HasLog [])) }
     ensures count { M.count media.new ≡ M.count media.old }
     ensures present { M.present media.new ≡ M.present media.old }
@@ -170,6 +177,7 @@ pub fn format_damaged<M: Media>(
     ensures formatted { M.tells → OnOk result (Has (as_read M.seen) M.seen IsFormatted f media.new) }
     ensures still { M.tells → OnOk result (IsStill M.time M.seen f media.new) }
     ensures frame { M.tells → OnOk result (AtFile f Any (M.seen media.old) (M.seen media.new)) }
+    ensures told { M.tells → (M.seen media.new).told ≡ (M.seen media.old).told }
     ensures crash { M.tells → Has M.time M.seen HasNoGood f media.old → Leads M.time media.old media.new (AtFile f (HasLog [])) }
     ensures count { M.count media.new ≡ M.count media.old }
     ensures present { M.present media.new ≡ M.present media.old }

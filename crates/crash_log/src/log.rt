@@ -117,6 +117,7 @@ impl CrashLog {
         ensures bytes { M.tells → OnOk result (log_bytes self.new ((M.seen media.new).file (file_of self.old)) ≡ log_bytes self.old ((M.seen media.old).file (file_of self.old)) ++ piece.now) }
         ensures settled { M.tells → OnOk result (settled_log self.new ((M.seen media.new).file (file_of self.old)) ≡ settled_log self.old ((M.seen media.old).file (file_of self.old))) }
         ensures frame { M.tells → OnOk result (AtFile (file_of self.old) Any (M.seen media.old) (M.seen media.new)) }
+        ensures told { M.tells → (M.seen media.new).told ≡ (M.seen media.old).told }
         ensures crash { M.tells → Survives M.time M.seen self.old media.old → Leads M.time media.old media.new (AtFile (file_of self.old) (HasLog (settled_log self.old ((M.seen media.old).file (file_of self.old))))) }
         ensures count { M.count media.new ≡ M.count media.old }
         ensures present { M.present media.new ≡ M.present media.old }
@@ -144,6 +145,7 @@ impl CrashLog {
         ensures bytes { M.tells → OnOk result (log_bytes self.new ((M.seen media.new).file (file_of self.old)) ≡ log_bytes self.old ((M.seen media.old).file (file_of self.old)) ++ piece.now) }
         ensures settled { M.tells → OnOk result (settled_log self.new ((M.seen media.new).file (file_of self.old)) ≡ settled_log self.old ((M.seen media.old).file (file_of self.old))) }
         ensures frame { M.tells → OnOk result (AtFile (file_of self.old) Any (M.seen media.old) (M.seen media.new)) }
+        ensures told { M.tells → (M.seen media.new).told ≡ (M.seen media.old).told }
         ensures crash { M.tells → Survives M.time M.seen self.old media.old → Leads M.time media.old media.new (AtFile (file_of self.old) (HasLog (settled_log self.old ((M.seen media.old).file (file_of self.old))))) }
         ensures count { M.count media.new ≡ M.count media.old }
         ensures present { M.present media.new ≡ M.present media.old }
@@ -170,6 +172,7 @@ impl CrashLog {
         ensures still { M.tells → OnOk result (IsStill M.time M.seen (file_of self.old) media.new) }
         ensures whole { M.tells → OnOk result (is_damaged ((M.seen media.new).file (file_of self.old)) ≡ false) }
         ensures frame { M.tells → OnOk result (AtFile (file_of self.old) Any (M.seen media.old) (M.seen media.new)) }
+        ensures told { M.tells → (M.seen media.new).told ≡ (M.seen media.old).told }
         ensures crash { M.tells → Survives M.time M.seen self.old media.old → Leads M.time media.old media.new (AtFile (file_of self.old) (HasOneOf (settled_log self.old ((M.seen media.old).file (file_of self.old))) (log_bytes self.old ((M.seen media.old).file (file_of self.old))))) }
         ensures count { M.count media.new ≡ M.count media.old }
         ensures present { M.present media.new ≡ M.present media.old }
@@ -194,6 +197,7 @@ impl CrashLog {
         ensures still { M.tells → OnOk result (IsStill M.time M.seen (file_of self.old) media.new) }
         ensures whole { M.tells → OnOk result (is_damaged ((M.seen media.new).file (file_of self.old)) ≡ false) }
         ensures frame { M.tells → OnOk result (AtFile (file_of self.old) Any (M.seen media.old) (M.seen media.new)) }
+        ensures told { M.tells → (M.seen media.new).told ≡ (M.seen media.old).told }
         ensures crash { M.tells → Survives M.time M.seen self.old media.old → Leads M.time media.old media.new (AtFile (file_of self.old) (HasOneOf (settled_log self.old ((M.seen media.old).file (file_of self.old))) (take n (log_bytes self.old ((M.seen media.old).file (file_of self.old)))))) }
         ensures count { M.count media.new ≡ M.count media.old }
         ensures present { M.present media.new ≡ M.present media.old }
@@ -221,6 +225,7 @@ impl CrashLog {
         ensures still { M.tells → OnOk result (IsStill M.time M.seen (file_of self.old) media.new) }
         ensures whole { M.tells → OnOk result (is_damaged ((M.seen media.new).file (file_of self.old)) ≡ false) }
         ensures frame { M.tells → OnOk result (AtFile (file_of self.old) Any (M.seen media.old) (M.seen media.new)) }
+        ensures told { M.tells → (M.seen media.new).told ≡ (M.seen media.old).told }
         ensures crash { M.tells → Survives M.time M.seen self.old media.old → Leads M.time media.old media.new (AtFile (file_of self.old) (HasOneOf (settled_log self.old ((M.seen media.old).file (file_of self.old))) bytes.now)) }
         ensures count { M.count media.new ≡ M.count media.old }
         ensures present { M.present media.new ≡ M.present media.old }
@@ -249,6 +254,7 @@ impl CrashLog {
         ensures still { M.tells → OnOk result (IsStill M.time M.seen (file_of self.old) media.new) }
         ensures whole { M.tells → OnOk result (is_damaged ((M.seen media.new).file (file_of self.old)) ≡ false) }
         ensures frame { M.tells → OnOk result (AtFile (file_of self.old) Any (M.seen media.old) (M.seen media.new)) }
+        ensures told { M.tells → (M.seen media.new).told ≡ (M.seen media.old).told }
         ensures crash { M.tells → Survives M.time M.seen self.old media.old → Leads M.time media.old media.new (AtFile (file_of self.old) (HasOneOf (settled_log self.old ((M.seen media.old).file (file_of self.old))) bytes.now)) }
         ensures count { M.count media.new ≡ M.count media.old }
         ensures present { M.present media.new ≡ M.present media.old }

@@ -19,6 +19,7 @@ fn close_stale<M: Media>(log: &LogState, media: &mut M) -> Result<(), Failed>
     ensures same { M.tells → OnOk result (SameLog log.now ((M.seen media.old).file log.now.file) ((M.seen media.new).file log.now.file)) }
     ensures still { M.tells → OnOk result (IsStill M.time M.seen log.now.file media.new) }
     ensures frame { M.tells → OnOk result (AtFile log.now.file Any (M.seen media.old) (M.seen media.new)) }
+    ensures told { M.tells → (M.seen media.new).told ≡ (M.seen media.old).told }
     ensures crash { M.tells → IsStale M.time M.seen log.now media.old → Leads M.time media.old media.new (AtFile log.now.file (HasLog (settled_bytes log.now ((M.seen media.old).file log.now.file)))) }
     ensures count { M.count media.new ≡ M.count media.old }
     ensures present { M.present media.new ≡ M.present media.old }
@@ -37,6 +38,7 @@ pub fn mend<M: Media>(log: &LogState, media: &mut M) -> Result<(), Failed>
     ensures survives { M.tells → Fits M.time M.seen log.now media.old → OnOk result (IsReady M.time M.seen log.now media.new) }
     ensures same { M.tells → OnOk result (SameLog log.now ((M.seen media.old).file log.now.file) ((M.seen media.new).file log.now.file)) }
     ensures frame { M.tells → OnOk result (AtFile log.now.file Any (M.seen media.old) (M.seen media.new)) }
+    ensures told { M.tells → (M.seen media.new).told ≡ (M.seen media.old).told }
     ensures crash { M.tells → Fits M.time M.seen log.now media.old → Leads M.time media.old media.new (AtFile log.now.file (HasLog (settled_bytes log.now ((M.seen media.old).file log.now.file)))) }
     ensures count { M.count media.new ≡ M.count media.old }
     ensures present { M.present media.new ≡ M.present media.old }

@@ -12,6 +12,7 @@ pub fn settle<M: Media>(media: &mut M, f: u32, at: u64, bytes: &[u8]) -> Result<
     requires within { M.tells → at ≤ length ((M.seen media.old).file f) }
     requires small { at + length bytes.now < 2 ^ 62 }
     ensures written { M.tells → OnOk result (AtFile f (Holds at bytes.now) (M.seen media.old) (M.seen media.new)) }
+    ensures told { M.tells → (M.seen media.new).told ≡ (M.seen media.old).told }
     ensures durable { M.tells → OnOk result (IsStill M.time M.seen f media.new) }
     ensures crash { M.tells → Leads M.time media.old media.new (AtFile f (Torn at (length bytes.now))) }
     ensures count { M.count media.new ≡ M.count media.old }

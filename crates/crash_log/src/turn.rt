@@ -47,6 +47,7 @@ pub fn settle_fields<M: Media>(
     requires base { base ≤ SLOT }
     requires within { M.tells → base + 1 ≤ length ((M.seen media.old).file f) }
     ensures written { M.tells → OnOk result (AtFile f (Holds (base + 1) fields.now) (M.seen media.old) (M.seen media.new)) }
+    ensures told { M.tells → (M.seen media.new).told ≡ (M.seen media.old).told }
     ensures durable { M.tells → OnOk result (IsStill M.time M.seen f media.new) }
     ensures crash { M.tells → Leads M.time media.old media.new (AtFile f (Torn (base + 1) 23)) }
     ensures count { M.count media.new ≡ M.count media.old }
@@ -65,6 +66,7 @@ fn close_other<M: Media>(log: &LogState, media: &mut M) -> Result<(), Failed>
     ensures survives { M.tells → IsReady M.time M.seen log.now media.old → OnOk result (IsClosed M.time M.seen log.now media.new) }
     ensures same { M.tells → OnOk result (SameBehind ((M.seen media.old).file log.now.file) ((M.seen media.new).file log.now.file)) }
     ensures frame { M.tells → OnOk result (AtFile log.now.file Any (M.seen media.old) (M.seen media.new)) }
+    ensures told { M.tells → (M.seen media.new).told ≡ (M.seen media.old).told }
     ensures crash { M.tells → IsReady M.time M.seen log.now media.old → Leads M.time media.old media.new (AtFile log.now.file (HasLog (settled_bytes log.now ((M.seen media.old).file log.now.file)))) }
     ensures count { M.count media.new ≡ M.count media.old }
     ensures present { M.present media.new ≡ M.present media.old }
@@ -87,6 +89,7 @@ fn name_place<M: Media>(log: &LogState, media: &mut M, start: u64, size: u64) ->
     ensures still { M.tells → OnOk result (IsStill M.time M.seen log.now.file media.new) }
     ensures same { M.tells → OnOk result (SameBehind ((M.seen media.old).file log.now.file) ((M.seen media.new).file log.now.file)) }
     ensures frame { M.tells → OnOk result (AtFile log.now.file Any (M.seen media.old) (M.seen media.new)) }
+    ensures told { M.tells → (M.seen media.new).told ≡ (M.seen media.old).told }
     ensures crash { M.tells → IsClosed M.time M.seen log.now media.old → Leads M.time media.old media.new (AtFile log.now.file (HasLog (settled_bytes log.now ((M.seen media.old).file log.now.file)))) }
     ensures count { M.count media.new ≡ M.count media.old }
     ensures present { M.present media.new ≡ M.present media.old }
@@ -107,6 +110,7 @@ fn open_other<M: Media>(log: &LogState, media: &mut M, start: u64, size: u64) ->
     ensures still { M.tells → OnOk result (IsStill M.time M.seen log.now.file media.new) }
     ensures same { M.tells → OnOk result (SameBehind ((M.seen media.old).file log.now.file) ((M.seen media.new).file log.now.file)) }
     ensures frame { M.tells → OnOk result (AtFile log.now.file Any (M.seen media.old) (M.seen media.new)) }
+    ensures told { M.tells → (M.seen media.new).told ≡ (M.seen media.old).told }
     ensures crash { M.tells → IsNamed M.time M.seen log.now (place_for log.now start size) media.old → Leads M.time media.old media.new (AtFile log.now.file (HasOneOf (settled_bytes log.now ((M.seen media.old).file log.now.file)) (span start size ((M.seen media.old).file log.now.file)))) }
     ensures count { M.count media.new ≡ M.count media.old }
     ensures present { M.present media.new ≡ M.present media.old }
@@ -133,6 +137,7 @@ pub fn turn_over<M: Media>(
     ensures still { M.tells → OnOk result (IsStill M.time M.seen log.now.file media.new) }
     ensures same { M.tells → OnOk result (SameBehind ((M.seen media.old).file log.now.file) ((M.seen media.new).file log.now.file)) }
     ensures frame { M.tells → OnOk result (AtFile log.now.file Any (M.seen media.old) (M.seen media.new)) }
+    ensures told { M.tells → (M.seen media.new).told ≡ (M.seen media.old).told }
     ensures crash { M.tells → IsReady M.time M.seen log.now media.old → Leads M.time media.old media.new (AtFile log.now.file (HasOneOf (settled_bytes log.now ((M.seen media.old).file log.now.file)) (span start size ((M.seen media.old).file log.now.file)))) }
     ensures count { M.count media.new ≡ M.count media.old }
     ensures present { M.present media.new ≡ M.present media.old }

@@ -10,7 +10,7 @@ use Rattle.plant_core.specs.Crashes.{State, IsTorn, LeftIn, Alike, IsSettled, Is
 use Rattle.plant_core.specs.Effects.{Effect, commits, replaces, tells, puts, settles, cuts, comes, come, Joint}
 use Rattle.plant_core.specs.Records.{Record}
 use Rattle.plant_core.specs.Stock.{Stock}
-use Rattle.plant_effects.specs.Runs.{state_of, Done, Leaves}
+use Rattle.plant_effects.specs.Runs.{state_of, Done, IsStartOf, Leaves}
 use Rattle.plant_effects.proofs.States.{come_append, grows_twice, joint_more}
 use Rattle.dump_commands.specs.Running.{IsAhead, DoneAhead}
 
@@ -186,6 +186,10 @@ ahead_then s mid es fs away a b c ahead grows joint =
       grows = grows_twice a b c grows joint.grows;
     }
 
+-- what is told by them, of which the first are ahead
+told_ahead_then : (s mid : State) (es fs : List Effect) (away : List ℕ) (told : List ℕ) → IsAhead (come es s) mid → IsStartOf told (come (map settles away ++ fs) mid).told → IsStartOf told (come (es ++ fs) s).told
+told_ahead_then s mid es fs away told ahead start = subst (λ (t : State). IsStartOf told t.told) (sym (come_append es fs s)) (subst (IsStartOf told) (ahead_away away fs (come es s) mid ahead).told start)
+
 module _ {D : Type 0} (P : Plant D) where
   pub nothing_ahead : (s : D) → P.sound s → (P.tells → IsWithin (state_of P s)) → DoneAhead P [] s s
   nothing_ahead s sound within = record { sound = sound; survives = λ told survives. survives; state = λ told. ahead_within (state_of P s) (within told) }
@@ -212,6 +216,7 @@ module _ {D : Type 0} (P : Plant D) where
         (first.crash told survives) (second.crash told (done.survives told survives))
         (λ a b was step. joint_more (state_of P old) es fs a b step)
         (λ a b c was step left next. ahead_then (state_of P old) (state_of P mid) es fs away a b c (done.state told) step.grows next);
+    told = λ told. told_ahead_then (state_of P old) (state_of P mid) es fs away (state_of P new).told (done.state told) (second.told told);
   }
 
   -- all is settled in the end

@@ -6,7 +6,7 @@ use Rattle.plant_core.specs.declared.fault.Failed.{Failed}
 use Rattle.plant_core.specs.declared.plant.Plant.{Ghosts as Plant}
 use Rattle.plant_core.specs.Crashes.{State, Alike}
 use Rattle.plant_core.specs.Effects.{Effect, settles, come, putting_away, Joint}
-use Rattle.plant_effects.specs.Runs.{state_of, loaded_of, Done, Leaves, StaysQuiet}
+use Rattle.plant_effects.specs.Runs.{state_of, loaded_of, Done, IsStartOf, Leaves, StaysQuiet}
 use Rattle.plant_effects.proofs.Joining.{leaves_both, leaves_more, done_both, quiet_both}
 use Rattle.tape_writer.specs.declared.fault.WriteFault.{WriteFault}
 use Rattle.tape_writer.specs.declared.fault.WriteFault.TheVariants as write
@@ -115,6 +115,7 @@ module _ {D : Type 0} (P : Plant D) where
     lost = turns.lost;
     leaves = record {
       crash = λ tells survives. subst (λ (xs : List Effect). Leads P.time old new (Joint (state_of P old) (putting_away (loaded_of P old) slot ++ xs))) (same tells) (turns.leaves.crash tells survives);
+      told = λ tells. subst (λ (xs : List Effect). IsStartOf (state_of P new).told (come (putting_away (loaded_of P old) slot ++ xs) (state_of P old)).told) (same tells) (turns.leaves.told tells);
     };
     loaded = turns.loaded;
     log_size = turns.log_size;

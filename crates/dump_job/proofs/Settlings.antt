@@ -4,7 +4,7 @@ use Rattle.crash_moments.specs.Moments.{Leads}
 use Rattle.plant_core.specs.declared.plant.Plant.{Ghosts as Plant}
 use Rattle.plant_core.specs.Crashes.{Alike}
 use Rattle.plant_core.specs.Effects.{Effect, come, Joint}
-use Rattle.plant_effects.specs.Runs.{state_of, Done, Leaves}
+use Rattle.plant_effects.specs.Runs.{state_of, Done, IsStartOf, Leaves}
 
 module _ {D : Type 0} (P : Plant D) where
   -- The effects are others that are the same where contents are told.
@@ -18,4 +18,5 @@ module _ {D : Type 0} (P : Plant D) where
   pub leaves_told : (es fs : List Effect) (old new : D) → (P.tells → es ≡ fs) → Leaves P es old new → Leaves P fs old new
   leaves_told es fs old new same left = record {
     crash = λ tells survives. subst (λ (xs : List Effect). Leads P.time old new (Joint (state_of P old) xs)) (same tells) (left.crash tells survives);
+    told = λ tells. subst (λ (xs : List Effect). IsStartOf (state_of P new).told (come xs (state_of P old)).told) (same tells) (left.told tells);
   }

@@ -75,12 +75,13 @@ pub trait Media {
         ensures tell_faults { tell_faults self.new ≡ tell_faults self.old };
 
     /// Writes over what is there from `at` on, and past the end. Until the next sync of the file a crash may leave any
-    /// bytes in the range and past the old end, and any length between.
+    /// bytes in the range and past the old end, and any length between. It tells nothing, also where it fails.
     fn write(&mut self, f: u32, at: u64, from: &[u8]) -> Result<(), Failed>
         requires here { IsTrue (present self.old f) }
         requires at { tells → at ≤ length ((seen self.old).file f) }
         requires small { at + length from.now < 2 ^ 62 }
         ensures written { tells → OnOk result (AtFile f (Holds at from.now) (seen self.old) (seen self.new)) }
+        ensures told { tells → (seen self.new).told ≡ (seen self.old).told }
         ensures crash { tells → Leads time self.old self.new (AtFile f (Torn at (length from.now))) }
         ensures count { count self.new ≡ count self.old }
         ensures present { present self.new ≡ present self.old }

@@ -129,6 +129,7 @@ impl Media for MemMedia {
         requires at { at ≤ length ((seen_of self.old).file f) }
         requires small { at + length from.now < 2 ^ 62 }
         ensures written { OnOk result (AtFile f (Holds at from.now) (seen_of self.old) (seen_of self.new)) }
+        ensures told { (seen_of self.new).told ≡ (seen_of self.old).told }
         ensures crash { Leads moments_of self.old self.new (AtFile f (Torn at (length from.now))) }
         ensures count { count_of self.new ≡ count_of self.old }
         ensures present { present_of self.new ≡ present_of self.old }

@@ -1,19 +1,20 @@
 -- What the calls of a plant in memory do to it and what they leave, by what was asked.
-use Rattle.std.proofs.Common.{◌≡◌, ℕ, ◌+◌, List, [], ◌∷◌, ◌++◌, length, Option, Some, Result, Ok, Err, OnOk, OnErr, refl, sym, ◌∙◌, ap, subst}
+use Rattle.std.proofs.Common.{◌≡◌, ℕ, ◌+◌, List, [], ◌∷◌, ◌++◌, length, Option, Some, Result, Ok, Err, OnOk, OnErr, refl, sym, ◌∙◌, ap, subst, arith}
+use Rattle.std.specs.Prelude.{nat_lt, vec_len}
 use Rattle.crash_moments.specs.Moments.{Leads}
 use Rattle.plant_core.specs.declared.event.Event.{Event}
 use Rattle.plant_core.specs.declared.event.Event.TheVariants.{Put, Settle, Cut}
 use Rattle.plant_core.specs.declared.mem.MemPlant.{MemPlant}
 use Rattle.plant_core.specs.declared.stored.Stored.{Stored}
 use Rattle.plant_core.specs.declared.stored.Stored.TheVariants.{Mark}
-use Rattle.plant_core.specs.Crashes.{Alike}
+use Rattle.plant_core.specs.Crashes.{Alike, blank}
 use Rattle.plant_core.specs.Effects.{puts, settles, comes, come}
-use Rattle.plant_core.specs.Past.{GainsPut}
+use Rattle.plant_core.specs.Past.{GainsPut, after}
 use Rattle.plant_core.specs.Records.{Record, mark}
 use Rattle.plant_core.specs.Shown.{events_of, state_of, count_at, view_of, moments_of}
 use Rattle.plant_core.specs.Steps.{MayGain, MayKeep}
 use Rattle.plant_core.specs.Tapes.{record_of}
-use Rattle.plant_core.specs.Views.{OnlyTape}
+use Rattle.plant_core.specs.Views.{OnlyTape, OnlyFaults}
 use Rattle.plant_core.proofs.Keeping.{put_state, mark_past, mark_state, put_count}
 use Rattle.plant_core.proofs.Leading.{same_slot, put_leads, mark_leads, cut_leads}
 
@@ -56,6 +57,20 @@ module _ (old new : MemPlant) (slot k : ℕ) (is : old.loaded ≡ Some slot) (at
   -- it is cut
   pub cut_crash : (n : ℕ) → events_of new ≡ events_of old ++ Cut slot n ∷ [] → Leads moments_of old new (MayKeep n k (state_of old))
   cut_crash n more = subst (λ (i : ℕ). Leads moments_of old new (MayKeep n i (state_of old))) (same_slot old.loaded slot k at is) (cut_leads old new slot n more)
+
+-- A call on the log or a tape changes of slots and counts only its own count, and tells nothing.
+pub only_faults : (old new : MemPlant) → vec_len new.tapes ≡ vec_len old.tapes → new.loads ≡ old.loads → new.refusals.tell_faults ≡ old.refusals.tell_faults → (state_of new).told ≡ (state_of old).told
+    → OnlyFaults (Unit {0}) (view_of old) (view_of new)
+only_faults old new slots loads faults told =
+    let same : length new.tapes.items ≡ length old.tapes.items = omega (arith, slots) in
+    record { slots = same; present = ap (λ (n : ℕ). λ (k : ℕ). nat_lt k n) same; loads = loads; tell_faults = faults; output = λ tells. told }
+
+-- a record that was put tells nothing
+pub put_untold : (old new : MemPlant) (slot : ℕ) (kept : Stored) → events_of new ≡ events_of old ++ Put slot kept ∷ [] → (state_of new).told ≡ (state_of old).told
+put_untold old new slot kept more = (put_state (events_of old) (events_of new) slot kept (record_of kept) refl more).told
+
+pub same_untold : (old new : MemPlant) → events_of new ≡ events_of old → (state_of new).told ≡ (state_of old).told
+same_untold old new same = ap (λ (es : List Event). (after es blank).told) same
 
 -- how many records there are then
 module _ (old new : MemPlant) (slot : ℕ) (is : old.loaded ≡ Some slot) (loaded : new.loaded ≡ old.loaded) where

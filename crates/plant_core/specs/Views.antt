@@ -51,19 +51,21 @@ pub record OnlyOutput (told : Type 0) (text : List ℕ) (old new : View) : Type 
   pub records : new.records ≡ old.records
   pub log_size : new.log_size ≡ old.log_size
 
--- whatever a call on the log or a tape answered: of slots and counts only its own count may have changed
-pub record OnlyFaults (old new : View) : Type 0 where
+-- whatever a call on the log or a tape answered: of slots and counts only its own count may have changed, and it told nothing
+pub record OnlyFaults (told : Type 0) (old new : View) : Type 0 where
   pub slots : new.slots ≡ old.slots
   pub present : new.present ≡ old.present
   pub loads : new.loads ≡ old.loads
   pub tell_faults : new.tell_faults ≡ old.tell_faults
+  pub output : told → new.state.told ≡ old.state.told
 
 -- the same of a load, where loads are counted too
-pub record OnlyLoadFaults (old new : View) : Type 0 where
+pub record OnlyLoadFaults (told : Type 0) (old new : View) : Type 0 where
   pub slots : new.slots ≡ old.slots
   pub present : new.present ≡ old.present
   pub loads : old.loads ≤ new.loads
   pub tell_faults : new.tell_faults ≡ old.tell_faults
+  pub output : told → new.state.told ≡ old.state.told
 
 -- the same of a call on the output
 pub record OnlyTellFaults (old new : View) : Type 0 where

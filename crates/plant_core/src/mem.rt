@@ -41,14 +41,19 @@ pub struct MemPlant {
 
 impl Plant for MemPlant {
     ghost use Rattle.plant_core.specs.Kept.{always_within, settled_is_left, is_below, below_is, records_are, short_log};
-    ghost use Rattle.plant_core.specs.Shown.{IsSound, Survives, view_of, moments_of};
-    ghost use Rattle.std.specs.Prelude.{refl};
+    ghost use Rattle.plant_core.specs.Shown.{IsSound, Survives, events_of, view_of, moments_of};
+    ghost use Rattle.plant_core.specs.declared.event.Event.{Event};
+    ghost use Rattle.std.specs.Prelude.{refl, List};
 
     ghost tells = { Unit {0} };
 
     ghost view = { view_of };
 
     ghost time = { moments_of };
+
+    ghost under = { List Event };
+
+    ghost beneath = { events_of };
 
     ghost sound = { IsSound };
 

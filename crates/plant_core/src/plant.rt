@@ -18,8 +18,8 @@ use crate::record::{Block, Kind};
 ///
 /// What a call does is said over one view of the plant. The clauses on its state hold where the type tells contents, those on
 /// its numbers always. What a crash may leave is told at each moment, also inside a call: each image since the call's start
-/// is one of its start, changed as the clause `crash` says. This, slots and counts are told after a `Failed` too, and all
-/// else is owed after an Ok alone.
+/// is one of its start, changed as the clause `crash` says. This, slots, counts and what was told are said after a `Failed` too,
+/// and all else is owed after an Ok alone.
 ///
 /// What is said of a crash, the clauses `crash` of calls that may write and the law on images, holds of a plant that
 /// survives one: `survives`. All else holds of each sound plant.
@@ -35,6 +35,12 @@ pub trait Plant {
 
     /// What a crash may leave, now and at the moments before.
     ghost time: { Moments Self Stock };
+
+    /// What lies beneath the plant, and calls that only read leave as it is, whatever they answer: of a plant over files these with all
+    /// their bytes, and what was told.
+    ghost under: { Type 0 };
+
+    ghost beneath: { Self → under };
 
     /// A state in which calls may be made. Each call keeps it, but for one that answers `Failed`. It says nothing of a crash.
     ghost sound: { Self → Type 0 };
@@ -60,10 +66,11 @@ pub trait Plant {
         requires here { IsTrue ((view self.old).present slot) }
         ensures first { tells → IfOk result (λ shown. ShowsFirst ((view self.old).state.tape slot) shown into.new) }
         ensures only { OnOk result (OnlyReads tells (view self.old) (view self.new)) }
+        ensures beneath { tells → beneath self.new ≡ beneath self.old }
         ensures sound { OnOk result (sound self.new) }
         ensures survives { tells → survives self.old → OnOk result (survives self.new) }
         ensures crash { tells → Leads time self.old self.new Same }
-        ensures stays { OnlyFaults (view self.old) (view self.new) }
+        ensures stays { OnlyFaults tells (view self.old) (view self.new) }
         ensures cause { HasCause (view self.old).faults (view self.new).faults result };
 
     /// Loads the tape of a slot that is here. Where another tape was loaded, what was put on that one is settled first. Where
@@ -77,7 +84,7 @@ pub trait Plant {
         ensures sound { OnOk result (sound self.new) }
         ensures survives { tells → survives self.old → OnOk result (survives self.new) }
         ensures crash { tells → survives self.old → Leads time self.old self.new (MaySettle (view self.old).loaded slot (view self.old).state) }
-        ensures stays { OnlyLoadFaults (view self.old) (view self.new) }
+        ensures stays { OnlyLoadFaults tells (view self.old) (view self.new) }
         ensures cause { HasCause (view self.old).faults (view self.new).faults result };
 
     /// The slot of the loaded tape.
@@ -98,10 +105,11 @@ pub trait Plant {
         requires within { i < (view self.old).records }
         ensures found { tells → (k : ℕ) → (view self.old).loaded ≡ Some k → IfOk result (λ kind. ShowsAt ((view self.old).state.tape k) i kind into.new) }
         ensures only { OnOk result (OnlyReads tells (view self.old) (view self.new)) }
+        ensures beneath { tells → beneath self.new ≡ beneath self.old }
         ensures sound { OnOk result (sound self.new) }
         ensures survives { tells → survives self.old → OnOk result (survives self.new) }
         ensures crash { tells → Leads time self.old self.new Same }
-        ensures stays { OnlyFaults (view self.old) (view self.new) }
+        ensures stays { OnlyFaults tells (view self.old) (view self.new) }
         ensures cause { HasCause (view self.old).faults (view self.new).faults result };
 
     /// Puts a block on the loaded tape. Where contents are told it has fewer than 524,288 records and no bad one (this
@@ -117,7 +125,7 @@ pub trait Plant {
         ensures sound { OnOk result (sound self.new) }
         ensures survives { tells → survives self.old → OnOk result (survives self.new) }
         ensures crash { tells → survives self.old → (k : ℕ) → (view self.old).loaded ≡ Some k → Leads time self.old self.new (MayGain (block_with block.now) k (view self.old).state) }
-        ensures stays { OnlyFaults (view self.old) (view self.new) }
+        ensures stays { OnlyFaults tells (view self.old) (view self.new) }
         ensures cause { HasCause (view self.old).faults (view self.new).faults result };
 
     /// Puts a mark on the loaded tape, under the same conditions. All that was put on the tape is settled.
@@ -131,7 +139,7 @@ pub trait Plant {
         ensures sound { OnOk result (sound self.new) }
         ensures survives { tells → survives self.old → OnOk result (survives self.new) }
         ensures crash { tells → survives self.old → (k : ℕ) → (view self.old).loaded ≡ Some k → Leads time self.old self.new (MayGain mark k (view self.old).state) }
-        ensures stays { OnlyFaults (view self.old) (view self.new) }
+        ensures stays { OnlyFaults tells (view self.old) (view self.new) }
         ensures cause { HasCause (view self.old).faults (view self.new).faults result };
 
     /// Keeps the first records of the loaded tape, settled. Where a record is bad, none is kept.
@@ -145,7 +153,7 @@ pub trait Plant {
         ensures sound { OnOk result (sound self.new) }
         ensures survives { tells → survives self.old → OnOk result (survives self.new) }
         ensures crash { tells → survives self.old → (k : ℕ) → (view self.old).loaded ≡ Some k → Leads time self.old self.new (MayKeep n k (view self.old).state) }
-        ensures stays { OnlyFaults (view self.old) (view self.new) }
+        ensures stays { OnlyFaults tells (view self.old) (view self.new) }
         ensures cause { HasCause (view self.old).faults (view self.new).faults result };
 
     /// The length of the log in bytes, with what was put.
@@ -159,10 +167,11 @@ pub trait Plant {
         requires within { at + length into.old ≤ (view self.old).log_size }
         ensures bytes { tells → OnOk result (into.new ≡ take (length into.old) (drop at (view self.old).state.log)) }
         ensures only { OnOk result (OnlyReads tells (view self.old) (view self.new)) }
+        ensures beneath { tells → beneath self.new ≡ beneath self.old }
         ensures sound { OnOk result (sound self.new) }
         ensures survives { tells → survives self.old → OnOk result (survives self.new) }
         ensures crash { tells → Leads time self.old self.new Same }
-        ensures stays { OnlyFaults (view self.old) (view self.new) }
+        ensures stays { OnlyFaults tells (view self.old) (view self.new) }
         ensures cause { HasCause (view self.old).faults (view self.new).faults result };
 
     /// Puts bytes behind the log. A crash leaves none of them before the next commit. It is `LogFull` exactly where the log would
@@ -175,7 +184,7 @@ pub trait Plant {
         ensures sound { OnOk result (sound self.new) }
         ensures survives { tells → survives self.old → OnOk result (survives self.new) }
         ensures crash { tells → survives self.old → Leads time self.old self.new Same }
-        ensures stays { OnlyFaults (view self.old) (view self.new) }
+        ensures stays { OnlyFaults tells (view self.old) (view self.new) }
         ensures cause { HasCauseAt PutFault.Failed (view self.old).faults (view self.new).faults result };
 
     /// Settles the log: from then on a crash leaves all that was put.
@@ -185,7 +194,7 @@ pub trait Plant {
         ensures sound { OnOk result (sound self.new) }
         ensures survives { tells → survives self.old → OnOk result (survives self.new) }
         ensures crash { tells → survives self.old → Leads time self.old self.new (OldOr (view self.old).state.log) }
-        ensures stays { OnlyFaults (view self.old) (view self.new) }
+        ensures stays { OnlyFaults tells (view self.old) (view self.new) }
         ensures cause { HasCause (view self.old).faults (view self.new).faults result };
 
     /// Makes these bytes the whole log, settled. It is `LogFull` exactly where there are more than 268,435,456, and then nothing
@@ -198,7 +207,7 @@ pub trait Plant {
         ensures sound { OnOk result (sound self.new) }
         ensures survives { tells → survives self.old → OnOk result (survives self.new) }
         ensures crash { tells → survives self.old → Leads time self.old self.new (OldOr bytes.now) }
-        ensures stays { OnlyFaults (view self.old) (view self.new) }
+        ensures stays { OnlyFaults tells (view self.old) (view self.new) }
         ensures cause { HasCauseAt PutFault.Failed (view self.old).faults (view self.new).faults result };
 
     /// Takes a front of a piece for the output, and says how many bytes of it. It takes none only where the piece is empty.

@@ -8,8 +8,8 @@ use Rattle.plant_core.specs.Effects.{Effect, come, Joint}
 use Rattle.plant_core.specs.Steps.{Same}
 use Rattle.plant_core.specs.Stock.{Stock}
 use Rattle.plant_core.specs.Views.{OnlyFaults, OnlyLoadFaults, OnlyTellFaults}
-use Rattle.plant_effects.specs.Runs.{state_of, Done, Leaves, SameNumbers, Stays, StaysQuiet, StaysTelling}
-use Rattle.plant_effects.proofs.States.{alike_self, alike_both, alike_come, come_append, grows_none, joint_none, joint_more, joint_then}
+use Rattle.plant_effects.specs.Runs.{state_of, Done, Leaves, OnlyLooks, SameNumbers, Stays, StaysQuiet, StaysTelling}
+use Rattle.plant_effects.proofs.States.{alike_self, alike_both, alike_come, come_append, told_kept, told_ahead, told_then, grows_none, joint_none, joint_more, joint_then}
 
 module _ {D : Type 0} (P : Plant D) where
   -- each image of now is what the crash model leaves of what is seen
@@ -24,12 +24,14 @@ module _ {D : Type 0} (P : Plant D) where
   nothing_left es s fits = record {
     crash = λ told survives. weakened P.time s s (λ a b. b ≡ a) (Joint (state_of P s) es) (stays P.time s)
         (λ a b was same. joint_none (state_of P s) es a b (subst (LeftIn (state_of P s)) (sym same) (fits told survives a was)) (grows_none a b (ap (λ (c : Stock). c.told) same)));
+    told = λ told. told_kept es (state_of P s) (state_of P s).told refl;
   }
 
   -- more is to come
   pub leaves_more : (es fs : List Effect) (old new : D) → Leaves P es old new → Leaves P (es ++ fs) old new
   leaves_more es fs old new leaves = record {
     crash = λ told survives. weakened P.time old new (Joint (state_of P old) es) (Joint (state_of P old) (es ++ fs)) (leaves.crash told survives) (λ a b was step. joint_more (state_of P old) es fs a b step);
+    told = λ told. told_ahead es fs (state_of P old) (state_of P new).told (leaves.told told);
   }
 
   -- one after the other
@@ -47,6 +49,17 @@ module _ {D : Type 0} (P : Plant D) where
         (first.crash told survives) (second.crash told (done.survives told survives))
         (λ a b was step. joint_more (state_of P old) es fs a b step)
         (λ a b c was step left next. joint_then (state_of P old) (state_of P mid) es fs a b c (done.state told) step.grows next);
+    told = λ told. told_then (state_of P old) (state_of P mid) es fs (state_of P new).told (done.state told) (second.told told);
+  }
+
+  -- only reads
+  pub nothing_looked : (s : D) → OnlyLooks P s s
+  nothing_looked s = record { beneath = λ told. refl; crash = λ told. stays P.time s }
+
+  pub looks_both : (old mid new : D) → OnlyLooks P old mid → OnlyLooks P mid new → OnlyLooks P old new
+  looks_both old mid new first second = record {
+    beneath = λ told. second.beneath told ∙ first.beneath told;
+    crash = λ told. joined P.time old mid new Same Same Same (first.crash told) (second.crash told) (λ a b was step. step) (λ a b c was step left next. next ∙ step);
   }
 
   -- the numbers
@@ -85,13 +98,13 @@ module _ {D : Type 0} (P : Plant D) where
   telling_both old mid new first second = record { stays = stays_both old mid new first.stays second.stays; loads = second.loads ∙ first.loads; faults = second.faults ∙ first.faults }
 
   -- By what was asked of one call: the counts that a call isn't about stay.
-  pub quiet_call : (old new : D) → OnlyFaults (P.view old) (P.view new) → (P.view old).faults ≤ (P.view new).faults → StaysQuiet P old new
+  pub quiet_call : (old new : D) → OnlyFaults P.tells (P.view old) (P.view new) → (P.view old).faults ≤ (P.view new).faults → StaysQuiet P old new
   quiet_call old new only later = record {
     stays = record { slots = only.slots; present = only.present; loads = omega (arith, only.loads); faults = later; tell_faults = omega (arith, only.tell_faults) };
     tell_faults = only.tell_faults;
   }
 
-  pub quiet_load : (old new : D) → OnlyLoadFaults (P.view old) (P.view new) → (P.view old).faults ≤ (P.view new).faults → StaysQuiet P old new
+  pub quiet_load : (old new : D) → OnlyLoadFaults P.tells (P.view old) (P.view new) → (P.view old).faults ≤ (P.view new).faults → StaysQuiet P old new
   quiet_load old new only later = record {
     stays = record { slots = only.slots; present = only.present; loads = only.loads; faults = later; tell_faults = omega (arith, only.tell_faults) };
     tell_faults = only.tell_faults;
@@ -105,8 +118,9 @@ module _ {D : Type 0} (P : Plant D) where
   }
 
   -- a call that only reads
-  pub reads_left : (es : List Effect) (old new : D) → Fits old → (P.tells → Leads P.time old new Same) → Leaves P es old new
-  reads_left es old new fits leads = record {
+  pub reads_left : (es : List Effect) (old new : D) → Fits old → (P.tells → Leads P.time old new Same) → OnlyFaults P.tells (P.view old) (P.view new) → Leaves P es old new
+  reads_left es old new fits leads only = record {
     crash = λ told survives. weakened P.time old new Same (Joint (state_of P old) es) (leads told)
         (λ a b was same. joint_none (state_of P old) es a b (subst (LeftIn (state_of P old)) (sym same) (fits told survives a was)) (grows_none a b (ap (λ (c : Stock). c.told) same)));
+    told = λ told. told_kept es (state_of P old) (state_of P new).told (only.output told);
   }

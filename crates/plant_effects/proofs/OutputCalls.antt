@@ -4,19 +4,17 @@ use Rattle.std.proofs.lemmas.List.{append-nil, take-append-drop, take_rest, take
 use Rattle.std.proofs.Math.Seq.{take-add}
 use Rattle.crash_moments.specs.Moments.{Leads}
 use Rattle.crash_moments.specs.Telling.{IsFront}
+use Rattle.crash_moments.proofs.Fronts.{front_more, front_part, front_size}
 use Rattle.crash_moments.proofs.Joining.{joined, weakened}
 use Rattle.plant_core.specs.declared.plant.Plant.{Ghosts as Plant}
 use Rattle.plant_core.specs.Crashes.{State, IsTorn, LeftIn, Alike}
 use Rattle.plant_core.specs.Effects.{Effect, commits, replaces, tells, comes, Joint, log_with, log_kept}
 use Rattle.plant_core.specs.Steps.{Same, OldOr, TellsTo}
 use Rattle.plant_core.specs.Stock.{Stock}
-use Rattle.plant_effects.specs.Runs.{state_of, Done, Leaves, SameNumbers, StaysTelling}
-use Rattle.plant_effects.proofs.States.{grows_none, grows_twice, joint_none}
+use Rattle.plant_effects.specs.Runs.{state_of, Done, IsStartOf, Leaves, SameNumbers, StaysTelling}
+use Rattle.plant_core.specs.Views.{OnlyFaults}
+use Rattle.plant_effects.proofs.States.{told_kept, grows_none, grows_twice, joint_none}
 use Rattle.plant_effects.proofs.Joining.{Fits}
-
--- a front of a front
-pub front_more : (xs ys zs : List ℕ) → IsFront xs ys → IsFront xs (ys ++ zs)
-front_more xs ys zs front = (min front.0 (length ys), front.1 ∙ sym (take_min front.0 ys) ∙ sym (take-append-le (min front.0 (length ys)) ys zs (omega arith)))
 
 -- what is behind a place, as the code slices it
 rest_is : (at : ℕ) (p : List ℕ) → take (length p - at) (drop at p) ≡ drop at p
@@ -40,6 +38,11 @@ parts_err at text = ap (λ (l : List ℕ). take at text ++ l) (append-nil (take 
 
 pub taken_more : (at n : ℕ) (text : List ℕ) → take at text ++ take n (take (length text - at) (drop at text)) ≡ take (at + n) text
 taken_more = part_taken
+
+-- a front of a text, and then a front of the rest, was told
+pub told_part : (text : List ℕ) (at n : ℕ) (old mid new : List ℕ) → mid ≡ old ++ take at text → new ≡ mid ++ take n (take (length text - at) (drop at text)) → IsStartOf new (old ++ text)
+told_part text at n old mid new so_far more = front_size new (old ++ text) (front_part old text (at + n) new
+    (more ∙ ap (λ (l : List ℕ). l ++ take n (take (length text - at) (drop at text))) so_far ∙ append_assoc old (take at text) (take n (take (length text - at) (drop at text))) ∙ ap (λ (l : List ℕ). old ++ l) (part_taken at n text)))
 
 module _ {D : Type 0} (P : Plant D) where
   -- ---- telling
@@ -137,14 +140,15 @@ module _ {D : Type 0} (P : Plant D) where
       step.here)
 
   -- images while the log is replaced
-  pub replaces_step : (bytes : List ℕ) (old new : D) → Fits P old → (P.tells → P.survives old → Leads P.time old new (OldOr bytes)) → Leaves P (replaces bytes ∷ []) old new
-  replaces_step bytes old new fits leads = record {
+  pub replaces_step : (bytes : List ℕ) (old new : D) → Fits P old → (P.tells → P.survives old → Leads P.time old new (OldOr bytes)) → OnlyFaults P.tells (P.view old) (P.view new) → Leaves P (replaces bytes ∷ []) old new
+  replaces_step bytes old new fits leads only = record {
     crash = λ told survives. weakened P.time old new (OldOr bytes) (Joint (state_of P old) (replaces bytes ∷ [])) (leads told survives) (λ a c was step.
         let a_left = fits told survives a was in
         ⊎_elim
         (λ (old_log : c.log ≡ a.log). log_as old (state_of P old) a c a_left step.tapes step.told (replaces bytes) old_log)
         (λ (new_log : c.log ≡ Some bytes). log_replaced old (state_of P old) a c a_left step.tapes step.told bytes new_log)
         step.here);
+    told = λ told. told_kept (replaces bytes ∷ []) (state_of P old) (state_of P new).told (only.output told);
   }
 
   -- a state in which bytes were put, and then committed

@@ -4,10 +4,12 @@ use Rattle.std.specs.Prelude.{if◌then◌else◌, ◌==◌}
 use Rattle.std.proofs.lemmas.List.{append-nil, take-append-le}
 use Rattle.std.proofs.Math.Seq.{take-append-add}
 use Rattle.crash_moments.specs.Telling.{IsFront, Extends}
+use Rattle.crash_moments.proofs.Fronts.{whole_front, front_more, front_size}
 use Rattle.plant_core.specs.Crashes.{State, IsTorn, LeftIn, Alike}
 use Rattle.plant_core.specs.Effects.{Effect, commits, replaces, tells, puts, settles, cuts, comes, come, told_by, Joint}
 use Rattle.plant_core.specs.Records.{Record}
 use Rattle.plant_core.specs.Stock.{Stock}
+use Rattle.plant_effects.specs.Runs.{IsStartOf}
 
 pub alike_self : (s : State) → Alike s s
 alike_self s = record { log = refl; tape = λ k. refl; told = refl; log_settled = refl; settled = λ k. refl }
@@ -76,6 +78,21 @@ told_is (tells text ∷ es) s = told_is es (comes (tells text) s) ∙ append_ass
 told_is (puts k r ∷ es) s = told_is es (comes (puts k r) s)
 told_is (settles k ∷ es) s = told_is es (comes (settles k) s)
 told_is (cuts k n ∷ es) s = told_is es (comes (cuts k n) s)
+
+-- where no more was told than before, there is no more than these effects tell
+told_front : (es : List Effect) (s : State) (told : List ℕ) → IsFront told s.told → IsStartOf told (come es s).told
+told_front es s told front = front_size told (come es s).told (subst (IsFront told) (sym (told_is es s)) (front_more told s.told (told_by es) front))
+
+pub told_kept : (es : List Effect) (s : State) (told : List ℕ) → told ≡ s.told → IsStartOf told (come es s).told
+told_kept es s told same = told_front es s told (whole_front told s.told same)
+
+-- the same with more effects to come
+pub told_ahead : (es fs : List Effect) (s : State) (told : List ℕ) → IsStartOf told (come es s).told → IsStartOf told (come (es ++ fs) s).told
+told_ahead es fs s told start = subst (λ (t : State). IsStartOf told t.told) (sym (come_append es fs s)) (told_front fs (come es s) told (length told, start))
+
+-- all of the first effects were done, and then of the others
+pub told_then : (s mid : State) (es fs : List Effect) (told : List ℕ) → Alike (come es s) mid → IsStartOf told (come fs mid).told → IsStartOf told (come (es ++ fs) s).told
+told_then s mid es fs told alike start = subst (λ (t : State). IsStartOf told t.told) (sym (come_append es fs s)) (subst (IsStartOf told) (alike_come fs (come es s) mid alike).told start)
 
 -- what a crash leaves of a state it leaves of one alike
 pub left_alike : (s t : State) (c : Stock) → Alike s t → LeftIn t c → LeftIn s c

@@ -1,11 +1,12 @@
 -- What a function that is lent a plant did to it, as its effects. Two relations go up through all layers: `Done`, of what was done
 -- whole, and `Leaves`, of what was done in part or whole; beside them `Stays`, which is owed whatever was done.
-use Rattle.std.specs.Prelude.{◌≡◌, ℕ, ◌<◌, ◌≤◌, List, length, Option, Some}
+use Rattle.std.specs.Prelude.{◌≡◌, ℕ, ◌<◌, ◌≤◌, List, length, take, Option, Some}
 use Rattle.crash_moments.specs.Moments.{Leads}
 use Rattle.plant_core.specs.declared.plant.Plant.{Ghosts as Plant}
 use Rattle.plant_core.specs.Crashes.{State, Alike}
 use Rattle.plant_core.specs.Effects.{Effect, come, Joint}
 use Rattle.plant_core.specs.Records.{Record, NoBad}
+use Rattle.plant_core.specs.Steps.{Same}
 
 -- what reads give of a plant, and what is settled of it
 abbrev pub state_of : {D : Type 0} → Plant D → D → State
@@ -29,9 +30,20 @@ pub record Done {D : Type 0} (P : Plant D) (effects : List Effect) (old new : D)
   pub survives : P.tells → P.survives old → P.survives new
   pub state : P.tells → Alike (come effects (state_of P old)) (state_of P new)
 
--- Whatever of these effects was done: each image since is one of the crash model after the first of them.
+-- these bytes are the start of those
+abbrev pub IsStartOf : List ℕ → List ℕ → Type 0
+IsStartOf start whole = start ≡ take (length start) whole
+
+-- Whatever of these effects was done: each image since is one of the crash model after the first of them. What was told has no more than
+-- they tell, also of a plant that wouldn't survive a crash.
 pub record Leaves {D : Type 0} (P : Plant D) (effects : List Effect) (old new : D) : Type 0 where
   pub crash : P.tells → P.survives old → Leads P.time old new (Joint (state_of P old) effects)
+  pub told : P.tells → IsStartOf (state_of P new).told (come effects (state_of P old)).told
+
+-- Whatever was answered, it was only read: what lies beneath is as it was, and each image since is one of before.
+pub record OnlyLooks {D : Type 0} (P : Plant D) (old new : D) : Type 0 where
+  pub beneath : P.tells → P.beneath new ≡ P.beneath old
+  pub crash : P.tells → Leads P.time old new Same
 
 -- the loaded tape is the same, and has as many records
 pub record SameTape {D : Type 0} (P : Plant D) (old new : D) : Type 0 where

@@ -2,7 +2,7 @@
 ghost use Rattle.std.specs.Prelude.{◌≡◌, ◌↔◌, ◌+◌, ◌<◌, ◌≤◌, [], ◌∷◌, length, take, drop, Err, OnOk};
 ghost use Rattle.crash_moments.specs.Moments.{HasCause, HasCauseAt};
 ghost use Rattle.plant_core.specs.Effects.{commits, replaces};
-ghost use Rattle.plant_effects.specs.Runs.{state_of, Done, Leaves, SameTape, SameNumbers, StaysQuiet};
+ghost use Rattle.plant_effects.specs.Runs.{state_of, Done, Leaves, OnlyLooks, SameTape, SameNumbers, StaysQuiet};
 
 use plant_core::{Failed, Plant, PutFault};
 
@@ -50,6 +50,7 @@ pub fn read_log<P: Plant>(plant: &mut P, at: u64, into: &mut [u8]) -> Result<(),
     ensures bytes { P.tells → OnOk result (into.new ≡ take (length into.old) (drop at (state_of P.Plant plant.old).log)) }
     ensures done { OnOk result (Done P.Plant [] plant.old plant.new) }
     ensures leaves { Leaves P.Plant [] plant.old plant.new }
+    ensures looks { OnlyLooks P.Plant plant.old plant.new }
     ensures numbers { OnOk result (SameNumbers P.Plant plant.old plant.new) }
     ensures stays { StaysQuiet P.Plant plant.old plant.new }
     ensures cause { HasCause (P.view plant.old).faults (P.view plant.new).faults result }

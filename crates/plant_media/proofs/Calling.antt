@@ -1,5 +1,5 @@
 -- What the calls of a plant do, by those of the journal, of the loaded tape and of the media.
-use Rattle.std.proofs.Common.{◌≡◌, ◌≢◌, inl, inr, ℕ, ◌+◌, Bool, true, false, List, ◌++◌, length, Option, Some, IfSome, IsTrue, refl, sym, ◌∙◌, ap, subst, arith}
+use Rattle.std.proofs.Common.{◌≡◌, ◌≢◌, inl, inr, ℕ, ◌+◌, ◌-◌, Bool, true, false, List, ◌++◌, length, Option, Some, IfSome, IsTrue, refl, sym, ◌∙◌, ap, subst, arith}
 use Rattle.std.proofs.lemmas.List.{take_all}
 use Rattle.std.proofs.Math.Nat.{le_refl}
 use Rattle.std.proofs.lemmas.Bool.{cases_eq}
@@ -15,16 +15,34 @@ use Rattle.crash_log.specs.declared.log.CrashLog.{CrashLog}
 use Rattle.plant_core.specs.Crashes.{State, Alike}
 use Rattle.plant_core.specs.Steps.{Same, OldOr, MaySettle}
 use Rattle.plant_core.specs.Stock.{Stock}
+use Rattle.plant_core.specs.Views.{OnlyFaults}
 use Rattle.plant_media.specs.Stock.{tape_of, SameJournal, JournalOr}
 use Rattle.plant_media.specs.Loaded.{tape_in, TapeSuits, TapeFits}
 use Rattle.plant_media.specs.Slots.{slot_in, tape_at, shown, settled_in, slots_here}
-use Rattle.plant_media.specs.State.{shown_of, moments_of, loaded_of, Suits, IsSound, SameBut}
+use Rattle.plant_media.specs.State.{shown_of, moments_of, loaded_of, view_of, Suits, IsSound, SameBut}
 use Rattle.plant_media.specs.Slotting.{shown_tape, shown_log, at_loaded, at_other, settled_loaded, settled_other, which, some_is, of_loaded}
 use Rattle.plant_media.specs.Taping.{LeavesNow, at_file, tape_settled}
 use Rattle.plant_media.specs.declared.tape.Tape.{Tape}
 use Rattle.plant_media.specs.declared.plant.MediaPlant.{MediaPlant}
 use Rattle.plant_media.proofs.Lifting.{journal_same, journal_or, lift_journal_same, lift_journal_or, not_zero, whole_is, slot_is}
 use Rattle.plant_media.proofs.Keeping.{Alone, alone_at, still_alone, journal_alone, loaded_alone, others_alone, log_alike}
+
+-- what is told of plants over media that were told the same
+pub same_told : {D : Type 0} (seen : D → Image) (old new : MediaPlant D) → (seen new.media).told ≡ (seen old.media).told → (shown_of seen new).told ≡ (shown_of seen old).told
+unfolding shown
+same_told seen old new same = same
+
+-- A call on the journal or a tape: of slots and counts only its own count may have changed, and it told nothing.
+module _ {D : Type 0} (tells : Type 0) (seen : D → Image) (count : D → ℕ) (present : D → ℕ → Bool) (faults tell_faults : D → ℕ) (old : MediaPlant D) (media : D) where
+  pub only_faults : (journal : CrashLog) (tape : Option Tape) → count media ≡ count old.media → present media ≡ present old.media → tell_faults media ≡ tell_faults old.media → (tells → (seen media).told ≡ (seen old.media).told)
+      → OnlyFaults tells (view_of seen count present faults tell_faults old) (view_of seen count present faults tell_faults (record { media = media; journal = journal; tape = tape; loads = old.loads }))
+  only_faults journal tape counted shown told untold = record {
+    slots = ap (λ (n : ℕ). n - 1) counted;
+    present = ap slots_here shown;
+    loads = refl;
+    tell_faults = told;
+    output = λ is. same_told seen old (record { media = media; journal = journal; tape = tape; loads = old.loads }) (untold is);
+  }
 
 -- a file that is here, by its slot
 pub file_here : (here : ℕ → Bool) (k : ℕ) → IsTrue (slots_here here k) → IsTrue (here (k + 1))

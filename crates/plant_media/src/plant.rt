@@ -124,6 +124,7 @@ impl<M: Media> MediaPlant<M> {
         ensures loaded { OnOk result (loaded_of self.new ≡ loaded_of self.old) }
         ensures journal { self.new.journal ≡ self.old.journal }
         ensures seen { M.tells → OnOk result (SameBut (shown_of M.seen self.old) (shown_of M.seen self.new)) }
+        ensures told { M.tells → (shown_of M.seen self.new).told ≡ (shown_of M.seen self.old).told }
         ensures crash { M.tells → Survives M.tells M.time M.seen M.present self.old → Leads (moments_of M.time) self.old self.new (MaySettle (loaded_of self.old) slot (shown_of M.seen self.old)) }
         ensures count { M.count self.new.media ≡ M.count self.old.media }
         ensures present { M.present self.new.media ≡ M.present self.old.media }
@@ -152,6 +153,7 @@ impl<M: Media> MediaPlant<M> {
         ensures loaded { OnOk result (loaded_of self.new ≡ Some slot) }
         ensures journal { self.new.journal ≡ self.old.journal }
         ensures seen { M.tells → OnOk result (SameBut (shown_of M.seen self.old) (shown_of M.seen self.new)) }
+        ensures told { M.tells → (shown_of M.seen self.new).told ≡ (shown_of M.seen self.old).told }
         ensures all { M.tells → OnOk result ((k : ℕ) → (shown_of M.seen self.new).settled k ≡ length ((shown_of M.seen self.new).tape k)) }
         ensures crash { M.tells → Leads (moments_of M.time) self.old self.new SameStock }
         ensures count { M.count self.new.media ≡ M.count self.old.media }
@@ -181,6 +183,10 @@ impl<M: Media> Plant for MediaPlant<M> {
     ghost view = { view_of M.seen M.count M.present M.faults M.tell_faults };
 
     ghost time = { moments_of M.time };
+
+    ghost under = { Image };
+
+    ghost beneath = { λ s. M.seen s.media };
 
     ghost sound = { IsSound M.tells M.seen M.present };
 

@@ -42,6 +42,7 @@ fn append<M: Media>(log: &mut CrashLog, media: &mut M, bytes: &[u8]) -> Result<(
     ensures bytes { M.tells → OnOk result (log_bytes log.new ((M.seen media.new).file (file_of log.old)) ≡ log_bytes log.old ((M.seen media.old).file (file_of log.old)) ++ bytes.now) }
     ensures settled { M.tells → OnOk result (settled_log log.new ((M.seen media.new).file (file_of log.old)) ≡ settled_log log.old ((M.seen media.old).file (file_of log.old))) }
     ensures frame { M.tells → OnOk result (AtFile (file_of log.old) Any (M.seen media.old) (M.seen media.new)) }
+    ensures told { M.tells → (M.seen media.new).told ≡ (M.seen media.old).told }
     ensures crash { M.tells → Survives M.time M.seen log.old media.old → Leads M.time media.old media.new (AtFile (file_of log.old) (HasLog (settled_log log.old ((M.seen media.old).file (file_of log.old))))) }
     ensures count { M.count media.new ≡ M.count media.old }
     ensures present { M.present media.new ≡ M.present media.old }
@@ -149,6 +150,7 @@ impl Tape {
         ensures whole { OnOk result (damaged_of self.new.log ≡ false) }
         ensures tape { M.tells → OnOk result (tape_in self.new (M.seen media.new) ≡ tape_in self.old (M.seen media.old) ++ record_of (first ∷ rest.now) ∷ []) }
         ensures frame { M.tells → OnOk result (AtFile (self.old.slot + 1) Any (M.seen media.old) (M.seen media.new)) }
+        ensures told { M.tells → (M.seen media.new).told ≡ (M.seen media.old).told }
         ensures crash { M.tells → TapeSurvives M.tells M.time M.seen M.present self.old media.old → Leads M.time media.old media.new (AtFile (self.old.slot + 1) SameTape) }
         ensures count { M.count media.new ≡ M.count media.old }
         ensures present { M.present media.new ≡ M.present media.old }
@@ -173,6 +175,7 @@ impl Tape {
         ensures settled { OnOk result (self.new.settled ≡ self.old.settled) }
         ensures tape { M.tells → OnOk result (tape_in self.new (M.seen media.new) ≡ tape_in self.old (M.seen media.old) ++ block_with block.now ∷ []) }
         ensures frame { M.tells → OnOk result (AtFile (self.old.slot + 1) Any (M.seen media.old) (M.seen media.new)) }
+        ensures told { M.tells → (M.seen media.new).told ≡ (M.seen media.old).told }
         ensures crash { M.tells → TapeSurvives M.tells M.time M.seen M.present self.old media.old → Leads M.time media.old media.new (AtFile (self.old.slot + 1) SameTape) }
         ensures count { M.count media.new ≡ M.count media.old }
         ensures present { M.present media.new ≡ M.present media.old }
@@ -194,6 +197,7 @@ impl Tape {
         ensures settled { OnOk result (self.new.settled ≡ self.old.records) }
         ensures tape { M.tells → OnOk result (tape_in self.new (M.seen media.new) ≡ tape_in self.old (M.seen media.old)) }
         ensures frame { M.tells → OnOk result (AtFile (self.old.slot + 1) Any (M.seen media.old) (M.seen media.new)) }
+        ensures told { M.tells → (M.seen media.new).told ≡ (M.seen media.old).told }
         ensures crash { M.tells → TapeSurvives M.tells M.time M.seen M.present self.old media.old → Leads M.time media.old media.new (AtFile (self.old.slot + 1) (TapeOr (tape_in self.old (M.seen media.old)))) }
         ensures count { M.count media.new ≡ M.count media.old }
         ensures present { M.present media.new ≡ M.present media.old }
@@ -215,6 +219,7 @@ impl Tape {
         ensures settled { OnOk result (self.new.settled ≡ self.old.records) }
         ensures tape { M.tells → OnOk result (tape_in self.new (M.seen media.new) ≡ tape_in self.old (M.seen media.old)) }
         ensures frame { M.tells → OnOk result (AtFile (self.old.slot + 1) Any (M.seen media.old) (M.seen media.new)) }
+        ensures told { M.tells → (M.seen media.new).told ≡ (M.seen media.old).told }
         ensures crash { M.tells → TapeSurvives M.tells M.time M.seen M.present self.old media.old → Leads M.time media.old media.new (AtFile (self.old.slot + 1) (TapeOr (tape_in self.old (M.seen media.old)))) }
         ensures count { M.count media.new ≡ M.count media.old }
         ensures present { M.present media.new ≡ M.present media.old }
@@ -239,6 +244,7 @@ impl Tape {
         ensures settled { OnOk result (self.new.settled ≡ self.new.records) }
         ensures tape { M.tells → OnOk result (tape_in self.new (M.seen media.new) ≡ tape_in self.old (M.seen media.old) ++ mark ∷ []) }
         ensures frame { M.tells → OnOk result (AtFile (self.old.slot + 1) Any (M.seen media.old) (M.seen media.new)) }
+        ensures told { M.tells → (M.seen media.new).told ≡ (M.seen media.old).told }
         ensures crash { M.tells → TapeSurvives M.tells M.time M.seen M.present self.old media.old → Leads M.time media.old media.new (AtFile (self.old.slot + 1) (TapeOr (tape_in self.old (M.seen media.old) ++ mark ∷ []))) }
         ensures count { M.count media.new ≡ M.count media.old }
         ensures present { M.present media.new ≡ M.present media.old }
@@ -263,6 +269,7 @@ impl Tape {
         ensures settled { OnOk result (self.new.settled ≡ n) }
         ensures tape { M.tells → OnOk result (tape_in self.new (M.seen media.new) ≡ take n (tape_in self.old (M.seen media.old))) }
         ensures frame { M.tells → OnOk result (AtFile (self.old.slot + 1) Any (M.seen media.old) (M.seen media.new)) }
+        ensures told { M.tells → (M.seen media.new).told ≡ (M.seen media.old).told }
         ensures crash { M.tells → TapeSurvives M.tells M.time M.seen M.present self.old media.old → Leads M.time media.old media.new (AtFile (self.old.slot + 1) (TapeOr (take n (tape_in self.old (M.seen media.old))))) }
         ensures count { M.count media.new ≡ M.count media.old }
         ensures present { M.present media.new ≡ M.present media.old }

@@ -1,7 +1,6 @@
 -- The journal of a script: where it dumps, of a world that has its forms; where it doesn't, of any world whose journal is of changes.
 use Rattle.std.proofs.Common.{◌≡◌, ℕ, Bool, true, false, List, [], ◌∷◌, refl}
 use Rattle.std.specs.Prelude.{◌↔◌, ◌||◌, if◌then◌else◌, IsTrue}
-use Rattle.std.specs.List.{list_any}
 use Rattle.bk_text.specs.Alphabets.{IsName}
 use Rattle.bk_text.specs.Tests.{name_test}
 use Rattle.plant_core.specs.Effects.{tells, come}
@@ -23,7 +22,7 @@ use Rattle.dump_commands.specs.Forms.{AreShort}
 use Rattle.dump_forms.specs.Journals.{IsJournalAfter}
 use Rattle.dump_forms.proofs.JournalLaws.{journal_joined}
 use Rattle.script_journals.specs.Worlds.{IsWorldForm}
-use Rattle.script_journals.specs.Dumping.{item_asks_dump, line_asks_dump, IsFormedFor}
+use Rattle.script_journals.specs.Dumping.{item_asks_dump, dumps_from, dumps_among, IsFormedFor}
 use Rattle.script_journals.proofs.Following.{journal_form}
 use Rattle.script_journals.proofs.Scripts.{ItemForms, item_forms, item_form, further}
 use Rattle.script_journals.proofs.Turns.{plant_follows, dump_follows, dump_short, form_at}
@@ -77,13 +76,26 @@ module _ (w : World) (ms : List ℕ) (has : HasTapes w) (log : AreChanges w.log)
   item_tapes (Runs command) forms formed = turn_tapes w (first_of ms) has command forms formed
 
 -- one of two tests
-pub first_or : (a b : Bool) → a ≡ true → (a || b) ≡ true
+first_or : (a b : Bool) → a ≡ true → (a || b) ≡ true
 first_or true b is = refl
 first_or false b is = absurd cc
 
-pub second_or : (a b : Bool) → b ≡ true → (a || b) ≡ true
+second_or : (a b : Bool) → b ≡ true → (a || b) ≡ true
 second_or true b is = refl
 second_or false b is = is
+
+-- a line that dumps, and one that is run behind another one
+pub dump_here : (item : Item) (further : Bool) → item_asks_dump item ≡ true → dumps_from item further ≡ true
+dump_here Silent further is = absurd cc
+dump_here Quit further is = absurd cc
+dump_here (Refused text) further is = absurd cc
+dump_here (Runs command) further is = first_or (asks_dump command) further is
+
+pub dump_later : (w : World) (ms : List ℕ) (item : Item) (further : Bool) → (one_line w ms item).goes ≡ true → further ≡ true → dumps_from item further ≡ true
+dump_later w ms Silent further goes is = is
+dump_later w ms Quit further goes is = absurd cc
+dump_later w ms (Refused text) further goes is = is
+dump_later w ms (Runs command) further goes is = second_or (asks_dump command) further is
 
 module _ (tests : (text : List ℕ) → IsTrue (name_test text) ↔ IsName text) where
   pub follows : (w : World) (ms : List ℕ) (lines : List (List ℕ)) → HasTapes w → AreChanges w.log → IsFormedFor w lines → IsJournalAfter w.log (script w ms lines).effects (script w ms lines).world.log
@@ -91,8 +103,8 @@ module _ (tests : (text : List ℕ) → IsTrue (name_test text) ↔ IsName text)
   follows w ms [] has log formed = refl
   follows w ms (line ∷ lines) has log formed =
       let s = one_line w ms (item_of line) in
-      let here : item_asks_dump (item_of line) ≡ true → IsWorldForm w = λ asks. formed (first_or (line_asks_dump line) (list_any line_asks_dump lines) asks) in
+      let here : item_asks_dump (item_of line) ≡ true → IsWorldForm w = λ asks. formed (dump_here (item_of line) (dumps_among lines) asks) in
       let first = item_follows w ms has log (item_of line) (item_forms line) here in
       further w.log s (script s.world s.moments lines) s.goes first
-      (follows s.world s.moments lines (item_tapes w ms has log (item_of line) (item_forms line) here) (journal_form s.effects w.log s.world.log log first)
-      (λ asks. item_form w ms (formed (second_or (line_asks_dump line) (list_any line_asks_dump lines) asks)) tests (item_of line) (item_forms line)))
+      (λ goes. follows s.world s.moments lines (item_tapes w ms has log (item_of line) (item_forms line) here) (journal_form s.effects w.log s.world.log log first)
+      (λ asks. item_form w ms (formed (dump_later w ms (item_of line) (dumps_among lines) goes asks)) tests (item_of line) (item_forms line)))

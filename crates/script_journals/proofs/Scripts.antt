@@ -48,9 +48,9 @@ module _ (w : World) (ms : List ℕ) (form : IsWorldForm w) where
   item_form tests (Runs command) forms = turn_form tests w (first_of ms) command form forms
 
 -- further lines, where the script goes on
-pub further : (log : List Change) (s rest : Outcome) (b : Bool) → IsJournalAfter log s.effects s.world.log → IsJournalAfter s.world.log rest.effects rest.world.log
+pub further : (log : List Change) (s rest : Outcome) (b : Bool) → IsJournalAfter log s.effects s.world.log → (b ≡ true → IsJournalAfter s.world.log rest.effects rest.world.log)
     → let o = (if b then then_outcome s rest else s) in IsJournalAfter log o.effects o.world.log
-further log s rest true first second = journal_joined log s.world.log rest.world.log s.effects rest.effects first second
+further log s rest true first second = journal_joined log s.world.log rest.world.log s.effects rest.effects first (second refl)
 further log s rest false first second = first
 
 further_form : (s rest : Outcome) (b : Bool) → IsWorldForm s.world → IsWorldForm rest.world → IsWorldForm (if b then then_outcome s rest else s).world

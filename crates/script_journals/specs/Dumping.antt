@@ -1,6 +1,5 @@
 -- WHAT A SCRIPT THAT DUMPS asks of the world that it begins in.
-use Rattle.std.specs.Prelude.{◌≡◌, ℕ, List, Bool, true, false}
-use Rattle.std.specs.List.{list_any}
+use Rattle.std.specs.Prelude.{◌≡◌, ℕ, List, [], ◌∷◌, Bool, true, false, ◌||◌}
 use Rattle.backup_session.specs.Asks.{asks_dump}
 use Rattle.backup_session.specs.Worlds.{World}
 use Rattle.backup_script.specs.declared.item.Item.{Item}
@@ -15,9 +14,18 @@ item_asks_dump Quit = false
 item_asks_dump (Refused text) = false
 item_asks_dump (Runs command) = asks_dump command
 
-abbrev pub line_asks_dump : List ℕ → Bool
-line_asks_dump line = item_asks_dump (item_of line)
+-- a line dumps, or one of those that are run behind it
+abbrev pub dumps_from : Item → Bool → Bool
+dumps_from Silent further = further
+dumps_from Quit further = false
+dumps_from (Refused text) further = further
+dumps_from (Runs command) further = asks_dump command || further
 
--- Where one of the lines dumps, the world has its forms. Of lines without a dump nothing is asked.
+-- One of the lines that are run dumps: of those in front of the first `quit`.
+abbrev pub dumps_among : List (List ℕ) → Bool
+dumps_among [] = false
+dumps_among (line ∷ lines) = dumps_from (item_of line) (dumps_among lines)
+
+-- Where one of the lines that are run dumps, the world has its forms. Of lines without a dump nothing is asked.
 abbrev pub IsFormedFor : World → List (List ℕ) → Type 0
-IsFormedFor w lines = list_any line_asks_dump lines ≡ true → IsWorldForm w
+IsFormedFor w lines = dumps_among lines ≡ true → IsWorldForm w

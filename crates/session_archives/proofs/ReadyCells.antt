@@ -1,5 +1,5 @@
 -- Commands on the cell, and restores, leave the cell in order.
-use Rattle.std.proofs.Common.{◌≡◌, ℕ, ◌<◌, List, [], ◌∷◌, IsTrue, refl, sym, subst, arith}
+use Rattle.std.proofs.Common.{◌≡◌, ℕ, ◌<◌, true, false, List, [], ◌∷◌, IsTrue, refl, sym, subst, arith}
 use Rattle.std.specs.Prelude.{◌↔◌, All, Option, Some, None, IfSome, Result, Ok, Err}
 use Rattle.std.proofs.lemmas.List.Elements.{All-nil, All-cons, All-head, All-tail, All-replicate}
 use Rattle.bk_text.specs.Alphabets.{IsName}
@@ -27,7 +27,7 @@ use Rattle.backup_session.specs.Cells.{answered, created, data_for, cell_answer}
 use Rattle.backup_session.specs.Restores.{manner_at, restore_answer}
 use Rattle.session_archives.specs.Ready.{IsInOrder, targets_of, set_targets, RestoresApart}
 use Rattle.session_archives.proofs.Orders.{CellIsGood, DumpedBy, good_cell, created_good, written_good, removed_vnode_good, backed_up_good, removed_good}
-use Rattle.session_archives.proofs.ReadyRestores.{volume_good, all_good, disk_well, set_well}
+use Rattle.session_archives.proofs.ReadyRestores.{volume_good, volume_quiet, all_good, all_quiet, disk_well, set_well}
 
 -- ---- commands on the cell
 
@@ -86,18 +86,35 @@ module _ (tests : (text : List ℕ) → IsTrue (name_test text) ↔ IsName text)
       last_good P w.cell (all_answer (archive_of w) w.cell manner choices).cells here
       (all_good tests (archive_of w) order.fit.volumes (DumpedBy (archive_of w)) manner (subst IsFour (sym is) order.four) w.cell choices here (set_well (after w.log).listed manner.extension forms entries (each_apart manner.extension choices all))))
 
+  entries_quiet : (manner : Manner) → manner.time ≡ w.time → manner.is_trial ≡ true → (name : List ℕ) (entries : Option (List SetEntry)) → GoodHere (last_cell w.cell (entries_answer (archive_of w) w.cell manner name entries).cells)
+  entries_quiet manner is trial name None = good_here
+  entries_quiet manner is trial name (Some entries) =
+      let choices = set_choices (after w.log).listed entries in
+      let P : List Stored → Type 0 = λ (cell : List Stored). CellIsGood (DumpedBy (archive_of w)) manner.time cell in
+      subst (λ (n : ℕ). CellIsGood (DumpedBy (archive_of w)) n (last_cell w.cell (all_answer (archive_of w) w.cell manner choices).cells)) is
+      (last_good P w.cell (all_answer (archive_of w) w.cell manner choices).cells (subst (λ (n : ℕ). CellIsGood (DumpedBy (archive_of w)) n w.cell) (sym is) good_here)
+      (all_quiet tests (archive_of w) order.fit.volumes (DumpedBy (archive_of w)) manner (subst IsFour (sym is) order.four) trial w.cell choices))
+
   pub restored_in_order : (command : Command) → HasForms command → RestoresApart w command → GoodHere (last_cell w.cell (restore_answer (archive_of w) (after w.log).sets w.cell w.time command).cells)
-  restored_in_order (Volrestore server partition volume extension date n) form apart =
-      let manner = manner_at w.time extension n in
+  restored_in_order (Volrestore server partition volume extension date true) form apart =
+      last_good GoodHere w.cell _ good_here
+      (volume_quiet tests (archive_of w) order.fit.volumes (DumpedBy (archive_of w)) (manner_at w.time extension true) order.four refl w.cell (record { name = volume; before = date; server = server; partition = partition }))
+  restored_in_order (Volrestore server partition volume extension date false) form apart =
+      let manner = manner_at w.time extension false in
       last_good GoodHere w.cell _ good_here
       (volume_good tests (archive_of w) order.fit.volumes (DumpedBy (archive_of w)) manner order.four w.cell (record { name = volume; before = date; server = server; partition = partition }) good_here
       (record { server = form.0; partition = form.1; target = All-head IsApart (target_text volume extension) [] apart }))
-  restored_in_order (Diskrestore server partition newserver newpartition extension n) form apart =
-      let manner = manner_at w.time extension n in
+  restored_in_order (Diskrestore server partition newserver newpartition extension true) form apart =
+      let disk : Disk = record { server = server; partition = partition; new_server = newserver; new_partition = newpartition } in
+      last_good GoodHere w.cell _ good_here
+      (all_quiet tests (archive_of w) order.fit.volumes (DumpedBy (archive_of w)) (manner_at w.time extension true) order.four refl w.cell (disk_choices (after w.log).listed disk))
+  restored_in_order (Diskrestore server partition newserver newpartition extension false) form apart =
+      let manner = manner_at w.time extension false in
       let disk : Disk = record { server = server; partition = partition; new_server = newserver; new_partition = newpartition } in
       let choices = disk_choices (after w.log).listed disk in
       last_good GoodHere w.cell _ good_here
       (all_good tests (archive_of w) order.fit.volumes (DumpedBy (archive_of w)) manner order.four w.cell choices good_here
       (disk_well (after w.log).listed extension disk form.0 form.1 form.2 form.3 (each_apart extension choices apart)))
-  restored_in_order (Volsetrestore name extension n) form apart = entries_good (manner_at w.time extension n) refl name (entries_of name (after w.log).sets) apart
+  restored_in_order (Volsetrestore name extension true) form apart = entries_quiet (manner_at w.time extension true) refl refl name (entries_of name (after w.log).sets)
+  restored_in_order (Volsetrestore name extension false) form apart = entries_good (manner_at w.time extension false) refl name (entries_of name (after w.log).sets) apart
   restored_in_order command form apart = good_here

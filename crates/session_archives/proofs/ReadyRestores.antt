@@ -1,5 +1,5 @@
 -- Restores keep a cell in order: each list that the cell has on the way is a good one.
-use Rattle.std.proofs.Common.{◌≡◌, inl, inr, ℕ, Bool, true, false, List, [], ◌∷◌, ◌++◌, refl, subst, arith}
+use Rattle.std.proofs.Common.{◌≡◌, inl, inr, ℕ, Bool, true, false, List, [], ◌∷◌, ◌++◌, refl, sym, subst, arith}
 use Rattle.std.specs.Prelude.{◌↔◌, IsTrue, not, Result, Ok, Err, Option, Some, None, IfSome, All, Contains, if◌then◌else◌}
 use Rattle.std.specs.List.{flat_map, list_any}
 use Rattle.std.specs.Option.{unwrap_or}
@@ -106,6 +106,27 @@ module _ (tests : (text : List ℕ) → IsTrue (name_test text) ↔ IsName text)
 
   pub volume_good : (cell : List Stored) (wanted : Wanted) → Good cell → IsPutWell manner.extension wanted.name wanted.server wanted.partition → All Good (volume_answer a cell manner wanted).cells
   volume_good cell wanted good well = found_good cell wanted _ (looked_up a wanted.name wanted.before) good well (λ v is. looked_form a volumes v wanted.name wanted.before is)
+
+  -- a trial puts no volume
+  put_quiet : (target lines : List ℕ) (due : Result (List Stored) CellFault) → All Good (put_answer true target lines due).cells
+  put_quiet target lines (Ok new) = All-nil Good
+  put_quiet target lines (Err fault) = All-nil Good
+
+  found_quiet : manner.is_trial ≡ true → (cell : List Stored) (wanted : Wanted) (lines : List ℕ) (r : Result VolumeFields Refusal) → All Good (found_answer cell wanted manner lines r).cells
+  found_quiet trial cell wanted lines (Err refusal) = All-nil Good
+  found_quiet trial cell wanted lines (Ok volume) =
+      let target = target_text wanted.name manner.extension in
+      let due = after_restore cell wanted.server wanted.partition target manner.time volume in
+      subst (λ (b : Bool). All Good (put_answer b target lines due).cells) (sym trial) (put_quiet target lines due)
+
+  pub volume_quiet : manner.is_trial ≡ true → (cell : List Stored) (wanted : Wanted) → All Good (volume_answer a cell manner wanted).cells
+  volume_quiet trial cell wanted = found_quiet trial cell wanted _ (looked_up a wanted.name wanted.before)
+
+  pub all_quiet : manner.is_trial ≡ true → (cell : List Stored) (choices : List Choice) → All Good (all_answer a cell manner choices).cells
+  all_quiet trial cell [] = All-nil Good
+  all_quiet trial cell (c ∷ cs) =
+      let first = volume_answer a cell manner (wanted_of c) in
+      All-append Good first.cells (all_answer a (last_cell cell first.cells) manner cs).cells (volume_quiet trial cell (wanted_of c)) (all_quiet trial (last_cell cell first.cells) cs)
 
   last_good : (cell : List Stored) (cells : List (List Stored)) → Good cell → All Good cells → Good (last_cell cell cells)
   last_good cell [] good all = good

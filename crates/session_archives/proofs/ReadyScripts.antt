@@ -1,7 +1,6 @@
 -- A script keeps the archive, line by line, and leaves a ready world ready.
 use Rattle.std.proofs.Common.{◌≡◌, ℕ, ◌-◌, ◌≤◌, arith, Bool, true, false, List, [], ◌∷◌, length, refl, ap}
 use Rattle.std.specs.Prelude.{◌&&◌, nat_lt, if◌then◌else◌, Result, Ok, Err}
-use Rattle.std.specs.List.{list_any}
 use Rattle.backup_words.specs.declared.command.Command.{Command}
 use Rattle.backup_words.specs.declared.faults.WordFault.{WordFault}
 use Rattle.backup_words.specs.Commands.{command_of}
@@ -17,9 +16,9 @@ use Rattle.backup_script.specs.Scripts.{first_of, Outcome, then_outcome, one_lin
 use Rattle.backup_script.specs.Held.{IfItGoes, IsHeldThroughout}
 use Rattle.command_forms.specs.NewNames.{NamesApart}
 use Rattle.command_forms.proofs.NewNames.{line_apart}
-use Rattle.script_journals.specs.Dumping.{line_asks_dump}
+use Rattle.script_journals.specs.Dumping.{dumps_among}
 use Rattle.script_journals.proofs.Scripts.{ItemForms, item_forms}
-use Rattle.script_journals.proofs.DumpingScripts.{first_or, second_or}
+use Rattle.script_journals.proofs.DumpingScripts.{dump_here, dump_later}
 use Rattle.session_archives.specs.Held.{HoldsWorld, contents_on, RepliesSettle}
 use Rattle.session_archives.specs.Ready.{IsReady, RestoresApartOn, RestoresApartThroughout, left_behind, time_by, time_at_first, at_first, IsReadyFor}
 use Rattle.session_archives.proofs.Orders.{moment_four, order_later}
@@ -143,14 +142,14 @@ module _ (laws : Lower) where
     -- in front of the first line
     ready_first : ReadyForItem w ms (item_of line)
     unfolding time_at_first
-    ready_first asks = line_finds_ready w ms (time_at_first w.time (left_behind ms (item_of line)) lines) (item_of line) (ready (first_or (line_asks_dump line) (list_any line_asks_dump lines) asks)).0 asks
+    ready_first asks = line_finds_ready w ms (time_at_first w.time (left_behind ms (item_of line)) lines) (item_of line) (ready (dump_here (item_of line) (dumps_among lines) asks)).0 asks
 
     -- and behind it
     ready_further : HoldsWorld w → let s = one_line w ms (item_of line) in s.goes ≡ true → IsReadyFor s.world s.moments lines
     unfolding RestoresApartThroughout time_at_first
     ready_further held goes asks =
         let s = one_line w ms (item_of line) in
-        let both = ready (second_or (line_asks_dump line) (list_any line_asks_dump lines) asks) in
+        let both = ready (dump_later w ms (item_of line) (dumps_among lines) goes asks) in
         (line_ready w ms lines held (item_of line) both.0 (item_forms line) (item_apart line) both.1.0 goes, if_it_goes s.goes (RestoresApartThroughout s.world s.moments lines) both.1.1 goes)
 
   -- ---- scripts

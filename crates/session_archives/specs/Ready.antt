@@ -1,6 +1,5 @@
 -- WHAT DUMPS ASK OF A WORLD beside the archive that its plant holds.
-use Rattle.std.specs.Prelude.{◌≡◌, ℕ, ◌≤◌, true, List, [], ◌∷◌, map, min, max, Option, Some, None, All}
-use Rattle.std.specs.List.{list_any}
+use Rattle.std.specs.Prelude.{◌≡◌, ℕ, ◌≤◌, Bool, true, false, List, [], ◌∷◌, map, min, max, Option, Some, None, All}
 use Rattle.media_core.specs.Later.{later}
 use Rattle.bk_text.specs.Alphabets.{IsHost}
 use Rattle.byte_formats.specs.Forms.{IsFour, IsMaybe}
@@ -30,7 +29,7 @@ use Rattle.backup_script.specs.declared.item.Item.TheVariants.{Silent, Quit, Run
 use Rattle.backup_script.specs.Items.{item_of}
 use Rattle.backup_script.specs.Scripts.{first_of, one_line}
 use Rattle.backup_script.specs.Held.{IfItGoes}
-use Rattle.script_journals.specs.Dumping.{line_asks_dump}
+use Rattle.script_journals.specs.Dumping.{dumps_among}
 
 -- A cell is fit for dumps at a time, beside an archive: it is fair to what the archive's dumps have, and no read/write volume has the name of
 -- a backup volume; no id on a tape is above both the greatest id that was begun or recorded and the time; listed dumps end on their last
@@ -70,12 +69,17 @@ abbrev pub set_targets : List DumpRecordFields → Option (List ℕ) → Option 
 set_targets listed extension None = []
 set_targets listed extension (Some entries) = targets_of extension (set_choices listed entries)
 
+-- a trial restores nothing
+abbrev pub unless_trial : Bool → List (List ℕ) → List (List ℕ)
+unless_trial true names = []
+unless_trial false names = names
+
 -- the names under which a command restores volumes of a world
 abbrev pub restored_names : World → Command → List (List ℕ)
-restored_names w (Volrestore server partition volume extension date n) = target_text volume extension ∷ []
+restored_names w (Volrestore server partition volume extension date n) = unless_trial n (target_text volume extension ∷ [])
 restored_names w (Diskrestore server partition newserver newpartition extension n) =
-    targets_of extension (disk_choices (listed_of (archive_of w)) (record { server = server; partition = partition; new_server = newserver; new_partition = newpartition }))
-restored_names w (Volsetrestore name extension n) = set_targets (listed_of (archive_of w)) extension (entries_of name (after w.log).sets)
+    unless_trial n (targets_of extension (disk_choices (listed_of (archive_of w)) (record { server = server; partition = partition; new_server = newserver; new_partition = newpartition })))
+restored_names w (Volsetrestore name extension n) = unless_trial n (set_targets (listed_of (archive_of w)) extension (entries_of name (after w.log).sets))
 restored_names w command = []
 
 -- No volume is restored under a name that ends in `.backup`: there a read/write volume would stand in the place of a backup volume.
@@ -125,15 +129,15 @@ time_at_first time ms (line ∷ lines) = time_by time ms (item_of line) (time_at
 abbrev pub at_first : World → List ℕ → List (List ℕ) → World
 at_first w ms lines = record w { time = time_at_first w.time ms lines }
 
--- Of a script one of whose lines dumps: at its first command the world is ready, and no line that is run restores a volume under a name that
--- ends in `.backup`. Of a script without dumps nothing is asked.
+-- Of a script that dumps on a line that is run: at its first command the world is ready, and no line that is run restores a volume under a name
+-- that ends in `.backup`. Of a script without dumps nothing is asked.
 abbrev pub IsReadyFor : World → List ℕ → List (List ℕ) → Type 0
-IsReadyFor w ms lines = list_any line_asks_dump lines ≡ true → IsReady (at_first w ms lines) × RestoresApartThroughout w ms lines
+IsReadyFor w ms lines = dumps_among lines ≡ true → IsReady (at_first w ms lines) × RestoresApartThroughout w ms lines
 
 -- The same of a world that is fit: what such a script asks beside the forms of the world, which no script asks for.
 abbrev pub IsFitFor : World → List ℕ → List (List ℕ) → Type 0
-IsFitFor w ms lines = list_any line_asks_dump lines ≡ true → IsFitWorld (at_first w ms lines) × RestoresApartThroughout w ms lines
+IsFitFor w ms lines = dumps_among lines ≡ true → IsFitWorld (at_first w ms lines) × RestoresApartThroughout w ms lines
 
--- Where one of the lines dumps, what dumps have of volumes are volumes of the types.
+-- Where one of the lines that are run dumps, what dumps have of volumes are volumes of the types.
 abbrev pub AreVolumesFor : World → List (List ℕ) → Type 0
-AreVolumesFor w lines = list_any line_asks_dump lines ≡ true → AreVolumes w.contents
+AreVolumesFor w lines = dumps_among lines ≡ true → AreVolumes w.contents

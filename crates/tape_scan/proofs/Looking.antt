@@ -10,7 +10,7 @@ use Rattle.plant_core.specs.Crashes.{State, Alike, IsSettled}
 use Rattle.plant_core.specs.Effects.{Effect, settles, come, comes, putting_away, Joint}
 use Rattle.plant_core.specs.Records.{Record}
 use Rattle.plant_core.specs.Stock.{Stock}
-use Rattle.plant_effects.specs.Runs.{state_of, loaded_of, Done, Leaves, SameNumbers, StaysQuiet}
+use Rattle.plant_effects.specs.Runs.{state_of, loaded_of, Done, IsStartOf, Leaves, SameNumbers, StaysQuiet}
 use Rattle.plant_effects.proofs.States.{alike_self, alike_both, left_alike}
 use Rattle.plant_effects.proofs.Joining.{Fits, nothing_done, nothing_left, done_both, leaves_both, quiet_both, nothing_quiet}
 use Rattle.tape_text.specs.Items.{Read}
@@ -199,4 +199,5 @@ module _ {D : Type 0} (P : Plant D) where
           step.left;
       grows = step.grows;
     });
+    told = λ told. subst (IsStartOf (state_of P new).told) (settling_keeps_told loads.away (state_of P old)) (loads.leaves.told told);
   }

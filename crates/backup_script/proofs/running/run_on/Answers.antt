@@ -1,17 +1,15 @@
 use Rattle.std.proofs.Common.{[], ap, refl, Err}
 use Rattle.plant_effects.proofs.Joining.{done_both}
 use Rattle.std.specs.Str.Lines.{lines}
-use Rattle.backup_session.specs.Views.{SessionView}
 use Rattle.backup_script.specs.Scripts.{script}
 use Rattle.backup_script.specs.Ended.{world_on}
-use Rattle.backup_script.specs.declared.running.RunStop.{RunStop}
 use Rattle.backup_script.specs.declared.running.RunStop.TheVariants.{Read, TooLong}
 use Rattle.backup_script.specs.declared.running.RunStop.TheVariants as runs
 use Rattle.backup_script.specs.declared.serving.ServeStop.TheVariants as serves
 use Rattle.backup_script.specs.declared.serving.ServeStop.{ServeStop}
 use Rattle.backup_script.proofs.AnswerLaws.{err_same}
 use Rattle.backup_script.proofs.StopLaws.{cause_told, takes_told}
-use Rattle.backup_script.proofs.RunLaws.{unless_plant, opened_fits, told_behind, told_effects, no_contents, went_ends, short_ends, left_after, not_opened}
+use Rattle.backup_script.proofs.RunLaws.{opened_fits, told_behind, told_effects, no_contents, went_ends, short_ends, left_after, not_opened}
 use Rattle.backup_script.proofs.running.run_on.Goals as goal
 
 pub returns-in-Ok-run_script-clause-ran : goal.returns-in-Ok-run_script-clause-ran
@@ -120,8 +118,8 @@ returns-clause-left g c = λ told tells_cell tells_clock source settled log form
     not_opened g.P.Plant g.C.Cell (world_on g.P.Plant g.C.Cell c.args.config log contents c.args.plant.now c.args.cell.now) (g.K.Clock.moments c.args.clock.now) (lines (g.S.Source.left c.args.source.now)) c.args.plant.now c.open.new.plant c.open.new.cell
     (c.in-Err.ensures.cell tells_cell) c.in-Err.ensures.leaves
 
-pub returns-in-Ok-run_script-clause-refused_log_done : goal.returns-in-Ok-run_script-clause-refused_log_done
-returns-in-Ok-run_script-clause-refused_log_done g c = λ told none some. let f = c.in-Ok.ensures.fits told in absurd (none (f.0, f.1, f.2))
+pub returns-in-Ok-run_script-clause-refused_log_looks : goal.returns-in-Ok-run_script-clause-refused_log_looks
+returns-in-Ok-run_script-clause-refused_log_looks g c = λ told none. let f = c.in-Ok.ensures.fits told in absurd (none (f.0, f.1, f.2))
 
 pub returns-in-Ok-run_script-clause-refused_log_cell : goal.returns-in-Ok-run_script-clause-refused_log_cell
 returns-in-Ok-run_script-clause-refused_log_cell g c = λ told none. let f = c.in-Ok.ensures.fits told in absurd (none (f.0, f.1, f.2))
@@ -129,14 +127,11 @@ returns-in-Ok-run_script-clause-refused_log_cell g c = λ told none. let f = c.i
 pub returns-in-Ok-run_script-clause-refused_log_clock : goal.returns-in-Ok-run_script-clause-refused_log_clock
 returns-in-Ok-run_script-clause-refused_log_clock g c = λ told none. let f = c.in-Ok.ensures.fits told in absurd (none (f.0, f.1, f.2))
 
-pub returns-in-Ok-clause-refused_log_done : goal.returns-in-Ok-clause-refused_log_done
-returns-in-Ok-clause-refused_log_done g c = λ told none some. let f = c.in-Ok.ensures.fits told in absurd (none (f.0, f.1, f.2))
+pub returns-in-Ok-clause-refused_log_looks : goal.returns-in-Ok-clause-refused_log_looks
+returns-in-Ok-clause-refused_log_looks g c = λ told none. let f = c.in-Ok.ensures.fits told in absurd (none (f.0, f.1, f.2))
 
 pub returns-in-Ok-clause-refused_log_cell : goal.returns-in-Ok-clause-refused_log_cell
 returns-in-Ok-clause-refused_log_cell g c = λ told none. let f = c.in-Ok.ensures.fits told in absurd (none (f.0, f.1, f.2))
 
 pub returns-in-Ok-clause-refused_log_clock : goal.returns-in-Ok-clause-refused_log_clock
 returns-in-Ok-clause-refused_log_clock g c = λ told none. let f = c.in-Ok.ensures.fits told in absurd (none (f.0, f.1, f.2))
-
-pub returns-clause-refused_log_done : goal.returns-clause-refused_log_done
-returns-clause-refused_log_done g c = λ told none well. unless_plant SessionView c.in-Err.stop _ c.in-Err.ensures.done (λ is. well (ap (λ (e : RunStop). Err e) (c.opening_stop.ensures.plant_back is)))

@@ -1,14 +1,17 @@
-use Rattle.std.proofs.Common.{ℕ, List, [], ◌∷◌, sym, ◌∙◌, ap, subst, Ok, Err, OnErr}
+use Rattle.std.proofs.Common.{ℕ, List, [], ◌∷◌, true, false, refl, sym, ◌∙◌, ap, subst, Ok, Err, IfOk, OnErr}
 use Rattle.plant_core.specs.Effects.{tells}
 use Rattle.plant_effects.specs.Runs.{Done, Leaves}
 use Rattle.backup_script.specs.declared.item.Item.{Item}
+use Rattle.plant_effects.proofs.Joining.{nothing_left}
 use Rattle.backup_session.specs.Machine.{turn}
-use Rattle.backup_script.specs.Scripts.{first_of}
+use Rattle.backup_script.specs.declared.serving.Passed.{Passed}
+use Rattle.backup_script.specs.Scripts.{first_of, one_line}
 use Rattle.backup_script.specs.Held.{HeldForLine}
-use Rattle.backup_script.specs.Running.{LineLeft, TurnLeft}
+use Rattle.backup_script.specs.Running.{LineRan, LineLeft, TurnLeft}
 use Rattle.backup_script.specs.declared.item.Item.TheVariants.{Runs}
 use Rattle.backup_script.specs.Watching.{with_text}
 use Rattle.backup_script.proofs.TellingLaws.{refusal_watched}
+use Rattle.backup_script.proofs.ServingLaws.{went_nothing}
 use Rattle.backup_script.proofs.ItemLaws.{refusal_left, runs_left, in_err, on_ok}
 use Rattle.backup_script.proofs.serving.run_item.Goals as goal
 
@@ -45,3 +48,34 @@ returns-in-Runs-clause-left g c = λ told tells_cell tells_clock w fits held.
     subst (λ (i : Item). OnErr c.run_next.result (LineLeft P C w ms i old n.plant n.cell)) (sym c.in-Runs.is)
     (in_err c.run_next.result (TurnLeft P C w (turn w (first_of ms) command) old n.plant n.cell) (LineLeft P C w ms (Runs command) old n.plant n.cell) (runs_left P C w ms command old n.plant n.cell)
     (c.run_next.ensures.left told tells_cell tells_clock w fits (subst (λ (i : Item). HeldForLine w ms i) c.in-Runs.is held)))
+
+pub returns-in-Silent-clause-went : goal.returns-in-Silent-clause-went
+returns-in-Silent-clause-went g c = λ told tells_cell tells_clock w fits held.
+    let P = g.P.Plant in
+    let C = g.C.Cell in
+    let old = c.args.plant.now in
+    let site = c.args.cell.now in
+    let session = c.args.session.now in
+    let ms = g.K.Clock.moments c.args.clock.now in
+    subst (λ (i : Item). LineRan P C (one_line w ms i) old old site session ms true) (sym c.in-Silent.is)
+    (record { went = went_nothing P C w ms old site session true c.requires fits; leaves = nothing_left P [] old (λ told survives image left. g.met.P.Plant.left old image told c.requires survives left); goes_is = refl })
+
+pub returns-in-Quit-clause-went : goal.returns-in-Quit-clause-went
+returns-in-Quit-clause-went g c = λ told tells_cell tells_clock w fits held.
+    let P = g.P.Plant in
+    let C = g.C.Cell in
+    let old = c.args.plant.now in
+    let site = c.args.cell.now in
+    let session = c.args.session.now in
+    let ms = g.K.Clock.moments c.args.clock.now in
+    subst (λ (i : Item). LineRan P C (one_line w ms i) old old site session ms false) (sym c.in-Quit.is)
+    (record { went = went_nothing P C w ms old site session false c.requires fits; leaves = nothing_left P [] old (λ told survives image left. g.met.P.Plant.left old image told c.requires survives left); goes_is = refl })
+
+pub returns-in-Runs-clause-went : goal.returns-in-Runs-clause-went
+returns-in-Runs-clause-went g c = λ told tells_cell tells_clock w fits held.
+    let P = g.P.Plant in
+    let C = g.C.Cell in
+    let n = c.run_next.new in
+    let ms = g.K.Clock.moments c.args.clock.now in
+    subst (λ (i : Item). IfOk c.run_next.result (λ (passed : Passed). LineRan P C (one_line w ms i) c.args.plant.now n.plant n.cell n.session (g.K.Clock.moments n.clock) passed.goes)) (sym c.in-Runs.is)
+    (c.run_next.ensures.went told tells_cell tells_clock w fits (subst (λ (i : Item). HeldForLine w ms i) c.in-Runs.is held))

@@ -8,7 +8,7 @@ use Rattle.backup_script.specs.Scripts.{between}
 use Rattle.backup_script.proofs.StageLaws.{stage_front}
 use Rattle.backup_top.specs.declared.status.Status.{Status}
 use Rattle.backup_top.specs.Courses.{Course, course, course_of, FindsHeld, Runs, TellsLines, CellAtStage, EndsAt, LeavesImages, outcome}
-use Rattle.backup_top.proofs.Lowering.{still_left, nothing_since}
+use Rattle.backup_top.proofs.Lowering.{still_left, nothing_since, nothing_same, untold_to}
 use Rattle.backup_top.proofs.TapeCounts.{has_tapes}
 use Rattle.backup_top.proofs.CourseLaws.{OpenedForms, has_forms, settings_same, config_lines, journaled, images_of, ends_at}
 use Rattle.backup_top.proofs.run_mode.run_mode.Goals as goal
@@ -67,7 +67,7 @@ returns-in-Err-clause-cell_at_end g c = λ told tells_cell tells_clock source en
     let M = g.M.Media in
     let media = c.args.media in
     let k : Course = course_of M.seen M.count M.present contents media entry media (g.C.Cell.list c.args.cell.now) (g.C.Cell.list c.args.cell.now) (g.K.Clock.moments c.args.clock.now) (g.K.Clock.moments c.args.clock.now) (g.S.Source.left c.args.source.now) (g.S.Source.left c.args.source.now) in
-    record { stage = between [] k.world; on_the_way = stage_front [] k.world k.moments (lines k.input); is = refl }
+    record { stage = between [] k.world; on_the_way = stage_front [] k.world k.moments (lines k.input); is = refl; told = untold_to (stock_of (M.seen media)).told (stock_of (M.seen media)).told refl }
 
 pub returns-in-Ok-clause-ends : goal.returns-in-Ok-clause-ends
 returns-in-Ok-clause-ends g c = λ told tells_cell tells_clock source still entry contents.
@@ -85,3 +85,6 @@ returns-in-Err-clause-told_lines g c = λ told tells_cell.
 
 pub returns-in-Err-clause-same_files : goal.returns-in-Err-clause-same_files
 returns-in-Err-clause-same_files g c = record { same_count = refl; same_present = λ f. refl }
+
+pub returns-in-Err-clause-refused_log_images : goal.returns-in-Err-clause-refused_log_images
+returns-in-Err-clause-refused_log_images g c = λ told none. nothing_same g.M.Media.time g.M.Media.seen c.args.media [] c.args.media (stays g.M.Media.time c.args.media)

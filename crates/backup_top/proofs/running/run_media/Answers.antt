@@ -1,6 +1,6 @@
 use Rattle.std.proofs.Common.{◌≡◌, ℕ, ◌-◌, Bool, [], refl, sym, ◌∙◌, ap, subst, arith}
 use Rattle.std.specs.Str.Lines.{lines}
-use Rattle.plant_core.specs.Crashes.{settled_part}
+use Rattle.media_core.specs.Media.{Image}
 use Rattle.plant_core.specs.Stock.{Stock}
 use Rattle.plant_media.specs.Slots.{slots_here}
 use Rattle.crash_log.specs.Log.{is_damaged}
@@ -17,9 +17,8 @@ use Rattle.session_archives.specs.Held.{HoldsWorld, HoldsAfter}
 use Rattle.session_archives.specs.Ready.{IsReady, RestoresApartThroughout, at_first, IsReadyFor}
 use Rattle.backup_top.specs.declared.status.Status.{Status}
 use Rattle.backup_top.specs.declared.status.Status.TheVariants.{MediaFault}
-use Rattle.backup_top.specs.Answers.{run_status}
 use Rattle.backup_top.specs.Courses.{Course, course, outcome, at_rest, Runs, TellsLines, RefusesJournal, HasCauseAs}
-use Rattle.backup_top.proofs.Lowering.{opened_rests, shown_log, settled_whole, journal_damaged, still_left, nothing_since, images_left, images_later, alike_same, none_some, same_files, shown_told}
+use Rattle.backup_top.proofs.Lowering.{opened_rests, shown_log, journal_damaged, still_left, nothing_since, images_left, images_later, none_some, same_files, shown_told, told_to, untold_to, nothing_same, images_same}
 use Rattle.backup_top.proofs.TapeCounts.{has_tapes}
 use Rattle.backup_top.proofs.CourseLaws.{OpenedForms, has_forms, ready_for, leaves_media, runs_of, runs_not_opened, journal_of_log, told_lines, opening_lines, opening_later, bad_log_answer, refuses_journal, opening_bad, opening_cause, bad_journal, damaged_journal, journaled, images_of, ends_at, left_whole}
 use Rattle.backup_top.proofs.running.run_media.Goals as goal
@@ -125,12 +124,16 @@ returns-in-Ok-clause-only_bad_log g c = λ told none.
     (λ is_log. none (journal_of_log (stock_of (M.seen c.args.media)) (shown_of M.seen c.in-Ok.plant) (e.stock told) is_log))))
 
 pub returns-in-Ok-clause-refused_log_media : goal.returns-in-Ok-clause-refused_log_media
-returns-in-Ok-clause-refused_log_media g c = λ told none well.
+returns-in-Ok-clause-refused_log_media g c = λ told none.
     let M = g.M.Media in
-    let e = c.in-Ok.ensures in
-    let shown = shown_of M.seen c.in-Ok.plant in
-    let done = c.run_on-answer.ensures.refused_log_done told (λ is_log. none (journal_of_log (stock_of (M.seen c.args.media)) shown (e.stock told) is_log)) (λ is. well (c.of_run.ensures ∙ ap run_status is)) in
-    c.into_media.ensures.stock told done.sound ∙ ap settled_part (sym (alike_same shown (shown_of M.seen c.run_on-answer.new.plant) (done.state told))) ∙ settled_whole shown (e.settled told) ∙ sym (e.stock told)
+    let looks = c.run_on-answer.ensures.refused_log_looks told (λ is_log. none (journal_of_log (stock_of (M.seen c.args.media)) (shown_of M.seen c.in-Ok.plant) (c.in-Ok.ensures.stock told) is_log)) in
+    ap M.seen c.into_media.ensures.media ∙ looks.beneath told ∙ c.in-Ok.ensures.seen told
+
+pub returns-in-Ok-clause-refused_log_images : goal.returns-in-Ok-clause-refused_log_images
+returns-in-Ok-clause-refused_log_images g c = λ told none.
+    let M = g.M.Media in
+    let looks = c.run_on-answer.ensures.refused_log_looks told (λ is_log. none (journal_of_log (stock_of (M.seen c.args.media)) (shown_of M.seen c.in-Ok.plant) (c.in-Ok.ensures.stock told) is_log)) in
+    images_same M.time M.seen c.args.media [] c.into_media.result c.in-Ok.plant c.run_on-answer.new.plant c.into_media.ensures.media (c.in-Ok.ensures.crash told) (looks.crash told)
 
 pub returns-in-Ok-clause-refused_log_same : goal.returns-in-Ok-clause-refused_log_same
 returns-in-Ok-clause-refused_log_same g c = λ told none.
@@ -140,13 +143,10 @@ returns-in-Ok-clause-refused_log_same g c = λ told none.
     (c.run_on-answer.ensures.refused_log_cell told none_there, same.0, same.1)
 
 pub returns-in-Err-clause-refused_log_media : goal.returns-in-Err-clause-refused_log_media
-returns-in-Err-clause-refused_log_media g c = λ told none well. ap stock_of (c.in-Err.ensures.seen told)
+returns-in-Err-clause-refused_log_media g c = λ told none. c.in-Err.ensures.seen told
 
-pub returns-in-Ok-clause-damaged_same : goal.returns-in-Ok-clause-damaged_same
-returns-in-Ok-clause-damaged_same g c = λ told damaged. absurd (none_some (shown_of g.M.Media.seen c.in-Ok.plant).log (sym damaged ∙ ap (λ (x : Stock). x.log) (c.in-Ok.ensures.stock told)))
-
-pub returns-in-Err-clause-damaged_same : goal.returns-in-Err-clause-damaged_same
-returns-in-Err-clause-damaged_same g c = λ told damaged. (c.in-Err.ensures.seen told, refl, refl, refl)
+pub returns-in-Err-clause-refused_log_images : goal.returns-in-Err-clause-refused_log_images
+returns-in-Err-clause-refused_log_images g c = λ told none. nothing_same g.M.Media.time g.M.Media.seen c.args.media [] c.in-Err.unopened.media (c.in-Err.ensures.crash told)
 
 pub returns-in-Ok-clause-told_lines : goal.returns-in-Ok-clause-told_lines
 returns-in-Ok-clause-told_lines g c = λ told tells_cell.
@@ -186,10 +186,8 @@ returns-in-Err-clause-same_files g c = record { same_count = c.in-Err.ensures.co
 pub returns-in-Ok-clause-bad_log_media : goal.returns-in-Ok-clause-bad_log_media
 returns-in-Ok-clause-bad_log_media g c = λ told at is.
     let M = g.M.Media in
-    let e = c.in-Ok.ensures in
-    let done = c.run_on-answer.ensures.bad_log_done at (bad_log_answer c.run_on-answer.result at (sym c.of_run.ensures ∙ is)) in
-    let shown = shown_of M.seen c.in-Ok.plant in
-    c.into_media.ensures.stock told done.sound ∙ ap settled_part (sym (alike_same shown (shown_of M.seen c.run_on-answer.new.plant) (done.state told))) ∙ settled_whole shown (e.settled told) ∙ sym (e.stock told)
+    let looks = c.run_on-answer.ensures.bad_log_looks at (bad_log_answer c.run_on-answer.result at (sym c.of_run.ensures ∙ is)) in
+    ap M.seen c.into_media.ensures.media ∙ looks.beneath told ∙ c.in-Ok.ensures.seen told
 
 pub returns-in-Err-clause-runs : goal.returns-in-Err-clause-runs
 returns-in-Err-clause-runs g c = λ told tells_cell tells_clock source named says journal contents held.
@@ -259,7 +257,12 @@ returns-in-Ok-clause-cell_at_end g c = λ told tells_cell tells_clock source jou
     = λ i. opened (record { config = c.args.config; slots = e.count i - 1; present = slots_here (e.present i) }) journal.log (g.C.Cell.list c.args.cell.now) contents (sym rests i) in
     let found = subst (λ (w : World). IsHeldThroughout w k.moments (lines k.input)) (sym same) held in
     let left = r.left told tells_cell tells_clock source (e.settled told) journal.log journal.form log_is contents found in
-    record { stage = left.stage; on_the_way = subst (λ (w : World). IsStage [] w k.moments (lines k.input) left.stage) same left.on_the_way; is = left.cell }
+    record {
+      stage = left.stage;
+      on_the_way = subst (λ (w : World). IsStage [] w k.moments (lines k.input) left.stage) same left.on_the_way;
+      is = left.cell;
+      told = told_to stock.told (stock_of (M.seen back)).told (shown_of M.seen n.plant).told left.stage.effects shown (ap (λ (x : Stock). x.told) (e.stock told)) (shown_told M.seen n.plant back c.into_media.ensures.media) (left.leaves.told told);
+    }
 
 pub returns-in-Err-clause-cell_at_end : goal.returns-in-Err-clause-cell_at_end
 returns-in-Err-clause-cell_at_end g c = λ told tells_cell tells_clock source journal contents held.
@@ -267,4 +270,4 @@ returns-in-Err-clause-cell_at_end g c = λ told tells_cell tells_clock source jo
     let media = c.args.media in
     let back = c.in-Err.unopened.media in
     let k : Course = course M.seen M.count M.present c.args.config journal.log contents media back (g.C.Cell.list c.args.cell.now) (g.C.Cell.list c.args.cell.now) (g.K.Clock.moments c.args.clock.now) (g.K.Clock.moments c.args.clock.now) (g.S.Source.left c.args.source.now) (g.S.Source.left c.args.source.now) in
-    record { stage = between [] k.world; on_the_way = stage_front [] k.world k.moments (lines k.input); is = refl }
+    record { stage = between [] k.world; on_the_way = stage_front [] k.world k.moments (lines k.input); is = refl; told = untold_to (stock_of (M.seen media)).told (stock_of (M.seen back)).told (ap (λ (image : Image). image.told) (c.in-Err.ensures.seen told)) }

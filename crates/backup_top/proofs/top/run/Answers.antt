@@ -6,7 +6,7 @@ use Rattle.budb_changes.specs.Bytes.{encoded}
 use Rattle.backup_script.specs.Scripts.{between}
 use Rattle.backup_script.proofs.StageLaws.{stage_front}
 use Rattle.backup_top.specs.Courses.{Course, course_of, outcome}
-use Rattle.backup_top.proofs.Lowering.{still_left, nothing_since}
+use Rattle.backup_top.proofs.Lowering.{still_left, nothing_since, nothing_same, untold_to}
 use Rattle.plant_media.specs.Laws.{below}
 use Rattle.backup_top.proofs.TapeCounts.{has_tapes}
 use Rattle.backup_top.proofs.ArchiveLaws.{holds_world}
@@ -73,7 +73,7 @@ returns-in-Err-clause-cell_at_end g c = λ runs told tells_cell tells_clock sour
     let M = g.M.Media in
     let media = c.args.media in
     let k : Course = course_of M.seen M.count M.present contents media entry media (g.C.Cell.list c.args.cell.now) (g.C.Cell.list c.args.cell.now) (g.K.Clock.moments c.args.clock.now) (g.K.Clock.moments c.args.clock.now) (g.S.Source.left c.args.source.now) (g.S.Source.left c.args.source.now) in
-    record { stage = between [] k.world; on_the_way = stage_front [] k.world k.moments (lines k.input); is = refl }
+    record { stage = between [] k.world; on_the_way = stage_front [] k.world k.moments (lines k.input); is = refl; told = untold_to (stock_of (M.seen media)).told (stock_of (M.seen media)).told refl }
 
 pub returns-in-Err-clause-same_files : goal.returns-in-Err-clause-same_files
 returns-in-Err-clause-same_files g c = record { same_count = refl; same_present = λ f. refl }
@@ -95,3 +95,6 @@ returns-in-Ok-Nothing-clause-same_files g c = record { same_count = c.run_usage.
 
 pub returns-in-Ok-Nothing-clause-media_later : goal.returns-in-Ok-Nothing-clause-media_later
 returns-in-Ok-Nothing-clause-media_later g c = omega (arith, c.run_usage.ensures.only.faults_stay)
+
+pub returns-in-Err-clause-refused_log_images : goal.returns-in-Err-clause-refused_log_images
+returns-in-Err-clause-refused_log_images g c = λ runs told none. nothing_same g.M.Media.time g.M.Media.seen c.args.media [] c.args.media (stays g.M.Media.time c.args.media)

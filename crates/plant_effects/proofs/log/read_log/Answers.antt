@@ -8,7 +8,7 @@ returns-in_err-log_read-clause-leaves g c =
     let laws = g.met.P.Plant in
     let old = c.args.plant.now in
     let new = c.log_read.new.self in
-    reads_left P [] old new (λ told survives image left. laws.left old image told c.requires.sound survives left) c.log_read.ensures.crash
+    reads_left P [] old new (λ told survives image left. laws.left old image told c.requires.sound survives left) c.log_read.ensures.crash c.log_read.ensures.stays
 
 pub returns-clause-leaves : goal.returns-clause-leaves
 returns-clause-leaves g c =
@@ -16,4 +16,4 @@ returns-clause-leaves g c =
     let laws = g.met.P.Plant in
     let old = c.args.plant.now in
     let new = c.log_read.new.self in
-    reads_left P [] old new (λ told survives image left. laws.left old image told c.requires.sound survives left) c.log_read.ensures.crash
+    reads_left P [] old new (λ told survives image left. laws.left old image told c.requires.sound survives left) c.log_read.ensures.crash c.log_read.ensures.stays

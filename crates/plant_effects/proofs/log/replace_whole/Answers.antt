@@ -7,7 +7,7 @@ returns-in_err-log_replace-clause-leaves g c =
     let laws = g.met.P.Plant in
     let old = c.args.plant.now in
     let new = c.log_replace.new.self in
-    replaces_step P c.args.bytes.now old new (λ told survives image left. laws.left old image told c.requires survives left) c.log_replace.ensures.crash
+    replaces_step P c.args.bytes.now old new (λ told survives image left. laws.left old image told c.requires survives left) c.log_replace.ensures.crash c.log_replace.ensures.stays
 
 pub returns-clause-leaves : goal.returns-clause-leaves
 returns-clause-leaves g c =
@@ -15,4 +15,4 @@ returns-clause-leaves g c =
     let laws = g.met.P.Plant in
     let old = c.args.plant.now in
     let new = c.log_replace.new.self in
-    replaces_step P c.args.bytes.now old new (λ told survives image left. laws.left old image told c.requires survives left) c.log_replace.ensures.crash
+    replaces_step P c.args.bytes.now old new (λ told survives image left. laws.left old image told c.requires survives left) c.log_replace.ensures.crash c.log_replace.ensures.stays

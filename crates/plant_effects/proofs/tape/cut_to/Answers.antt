@@ -1,3 +1,7 @@
+use Rattle.std.proofs.Common.{[], ◌∷◌}
+use Rattle.plant_core.specs.Effects.{cuts}
+use Rattle.plant_effects.specs.Runs.{state_of}
+use Rattle.plant_effects.proofs.States.{told_kept}
 use Rattle.plant_effects.proofs.TapeCalls.{cuts_step}
 use Rattle.plant_effects.proofs.tape.cut_to.Goals as goal
 
@@ -7,7 +11,10 @@ returns-in_err-tape_cut-clause-leaves g c =
     let laws = g.met.P.Plant in
     let old = c.args.plant.now in
     let new = c.tape_cut.new.self in
-    λ k at. record { crash = cuts_step P k c.args.n old new (λ told survives image left. laws.left old image told c.requires.sound survives left) (λ told survives. c.tape_cut.ensures.crash told survives k at) }
+    λ k at. record {
+      crash = cuts_step P k c.args.n old new (λ told survives image left. laws.left old image told c.requires.sound survives left) (λ told survives. c.tape_cut.ensures.crash told survives k at);
+      told = λ told. told_kept (cuts k c.args.n ∷ []) (state_of P old) (state_of P new).told (c.tape_cut.ensures.stays.output told);
+    }
 
 pub returns-clause-leaves : goal.returns-clause-leaves
 returns-clause-leaves g c =
@@ -15,4 +22,7 @@ returns-clause-leaves g c =
     let laws = g.met.P.Plant in
     let old = c.args.plant.now in
     let new = c.tape_cut.new.self in
-    λ k at. record { crash = cuts_step P k c.args.n old new (λ told survives image left. laws.left old image told c.requires.sound survives left) (λ told survives. c.tape_cut.ensures.crash told survives k at) }
+    λ k at. record {
+      crash = cuts_step P k c.args.n old new (λ told survives image left. laws.left old image told c.requires.sound survives left) (λ told survives. c.tape_cut.ensures.crash told survives k at);
+      told = λ told. told_kept (cuts k c.args.n ∷ []) (state_of P old) (state_of P new).told (c.tape_cut.ensures.stays.output told);
+    }

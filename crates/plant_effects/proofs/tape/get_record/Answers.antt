@@ -8,4 +8,4 @@ returns-clause-leaves g c =
     let laws = g.met.P.Plant in
     let old = c.args.plant.now in
     let new = c.tape_get.new.self in
-    reads_left P [] old new (λ told survives image left. laws.left old image told c.requires.sound survives left) c.tape_get.ensures.crash
+    reads_left P [] old new (λ told survives image left. laws.left old image told c.requires.sound survives left) c.tape_get.ensures.crash c.tape_get.ensures.stays

@@ -1,5 +1,6 @@
 use Rattle.plant_core.specs.Effects.{putting_away}
-use Rattle.plant_effects.specs.Runs.{loaded_of}
+use Rattle.plant_effects.specs.Runs.{state_of, loaded_of}
+use Rattle.plant_effects.proofs.States.{told_kept}
 use Rattle.plant_effects.proofs.TapeCalls.{loads_step}
 use Rattle.plant_effects.proofs.tape.load_tape.Goals as goal
 
@@ -9,7 +10,10 @@ returns-in_err-load-clause-leaves g c =
     let laws = g.met.P.Plant in
     let old = c.args.plant.now in
     let new = c.load.new.self in
-    record { crash = loads_step P (loaded_of P old) c.args.slot (putting_away (loaded_of P old) c.args.slot) old new (λ told survives image left. laws.left old image told c.requires.sound survives left) c.load.ensures.crash }
+    record {
+      crash = loads_step P (loaded_of P old) c.args.slot (putting_away (loaded_of P old) c.args.slot) old new (λ told survives image left. laws.left old image told c.requires.sound survives left) c.load.ensures.crash;
+      told = λ told. told_kept (putting_away (loaded_of P old) c.args.slot) (state_of P old) (state_of P new).told (c.load.ensures.stays.output told);
+    }
 
 pub returns-clause-leaves : goal.returns-clause-leaves
 returns-clause-leaves g c =
@@ -17,4 +21,7 @@ returns-clause-leaves g c =
     let laws = g.met.P.Plant in
     let old = c.args.plant.now in
     let new = c.load.new.self in
-    record { crash = loads_step P (loaded_of P old) c.args.slot (putting_away (loaded_of P old) c.args.slot) old new (λ told survives image left. laws.left old image told c.requires.sound survives left) c.load.ensures.crash }
+    record {
+      crash = loads_step P (loaded_of P old) c.args.slot (putting_away (loaded_of P old) c.args.slot) old new (λ told survives image left. laws.left old image told c.requires.sound survives left) c.load.ensures.crash;
+      told = λ told. told_kept (putting_away (loaded_of P old) c.args.slot) (state_of P old) (state_of P new).told (c.load.ensures.stays.output told);
+    }

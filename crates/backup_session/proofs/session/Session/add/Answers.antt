@@ -2,6 +2,7 @@ use Rattle.std.proofs.Common.{◌≡◌, ℕ, ◌+◌, ◌<◌, List, [], ◌∷
 use Rattle.std.specs.Prelude.{Err}
 use Rattle.plant_core.specs.Effects.{commits}
 use Rattle.plant_effects.specs.Runs.{state_of, Done}
+use Rattle.plant_effects.proofs.Joining.{nothing_left}
 use Rattle.budb_changes.specs.declared.records.DumpRecordFields.{DumpRecordFields}
 use Rattle.backup_replies.specs.Scans.{added_line}
 use Rattle.budb_changes.specs.declared.change.Change.{Change}
@@ -109,3 +110,6 @@ returns-in-Ok-clause-stepped g c = λ told w fits.
     (subst (λ (l : List Change). Keeps (w.log ++ l) (state_of P mid).log c.commit.new.self) is (e.keeps told w.log kept))
     (c.time_with-time.ensures ∙ ap (λ (s : SessionView). time_with s.time c.args.dump.now) c.self.view_is)
     (ap (λ (s : SessionView). s.config) c.self.view_is) (c.in_ok-put_added-in-Ok.ensures ∙ ap (λ (x : DumpRecordFields). c.args.lines.now ++ added_line x.id) c.fields.ensures.value)
+
+pub returns-in_err-changes-clause-leaves : goal.returns-in_err-changes-clause-leaves
+returns-in_err-changes-clause-leaves g c = λ told w fits. nothing_left g.P.Plant _ c.args.plant.now (λ told survives image left. g.met.P.Plant.left c.args.plant.now image told c.requires survives left)

@@ -1,4 +1,5 @@
 use Rattle.std.proofs.Common.{sym, subst}
+use Rattle.plant_effects.proofs.Joining.{nothing_left}
 use Rattle.backup_session.specs.Views.{SessionView}
 use Rattle.backup_session.specs.Fitting.{FitsPlant}
 use Rattle.backup_session.proofs.Shortening.{short_leaves}
@@ -27,3 +28,6 @@ returns-clause-leaves g c = λ told w fits.
     let here : SessionView = record { config = c.self.inside.config; budb = c.self.inside.budb; time = c.self.inside.time } in
     let there : FitsPlant P w old here = subst (λ (s : SessionView). FitsPlant P w old s) (sym c.self.view_is) fits in
     short_leaves P w old here there c.checkpoint.new.plant (λ told survives image left. g.met.P.Plant.left old image told c.requires survives left) c.checkpoint.ensures.over_same c.checkpoint.ensures.leaves
+
+pub returns-in_err-done-clause-leaves : goal.returns-in_err-done-clause-leaves
+returns-in_err-done-clause-leaves g c = λ told w fits. nothing_left g.P.Plant _ c.args.plant.now (λ told survives image left. g.met.P.Plant.left c.args.plant.now image told c.requires survives left)

@@ -24,6 +24,12 @@ invariant_of-self-in-Ok-clause-absent c =
     let away : c.args.f < length c.args.self.now.away.items = here_below c.args.self.now.away.items c.args.f c.requires.here in
     write_absent (length c.args.self.now.away.items) c.args.self.now.past.items _ _ _ _ away c.args.self.now.absent c.in-Ok.ensures.past
 
+pub returns-then-eq-2-clause-told : goal.returns-then-eq-2-clause-told
+returns-then-eq-2-clause-told c = write_told c.args.self.now.past.items _ _ _ _ c.in-Ok.ensures.past
+
+pub returns-else-eq-2-clause-told : goal.returns-else-eq-2-clause-told
+returns-else-eq-2-clause-told c = write_told c.args.self.now.past.items _ _ _ _ c.in-Ok.ensures.past
+
 pub returns-then-eq-2-clause-crash : goal.returns-then-eq-2-clause-crash
 returns-then-eq-2-clause-crash c = write_leads c.args.self.now _ c.args.f c.args.at c.args.from.now c.requires.at c.in-Ok.ensures.past
 

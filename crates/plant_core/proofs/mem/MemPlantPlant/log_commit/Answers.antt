@@ -25,3 +25,6 @@ returns-in-Ok-clause-only c =
 
 pub returns-in-Ok-clause-crash : goal.returns-in-Ok-clause-crash
 returns-in-Ok-clause-crash c = λ told survives. commit_leads c.args.self.now _ c.in-Ok.ensures.ok
+
+pub returns-in-Ok-clause-stays : goal.returns-in-Ok-clause-stays
+returns-in-Ok-clause-stays c = record { slots = refl; present = refl; loads = refl; tell_faults = refl; output = λ told. (log_commit_state c.args.self.now.past.items c.keep.new.past.items c.in-Ok.ensures.ok).told }

@@ -25,3 +25,6 @@ returns-in-Ok-clause-only c =
 
 pub returns-in-Ok-clause-crash : goal.returns-in-Ok-clause-crash
 returns-in-Ok-clause-crash c = λ told survives. replace_leads c.args.self.now _ _ c.in-Ok.ensures.past
+
+pub returns-in-Ok-clause-stays : goal.returns-in-Ok-clause-stays
+returns-in-Ok-clause-stays c = record { slots = refl; present = refl; loads = refl; tell_faults = refl; output = λ told. (log_replace_state c.args.self.now.past.items c.keep_log_replace.new.past.items c.args.bytes.now c.in-Ok.ensures.past).told }

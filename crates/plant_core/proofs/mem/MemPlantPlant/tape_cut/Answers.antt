@@ -1,4 +1,5 @@
-use Rattle.std.proofs.Common.{ℕ, ◌≤◌, Option, take, refl, sym, ap, subst, ◌∙◌, arith, length}
+use Rattle.std.specs.Prelude.{nat_lt}
+use Rattle.std.proofs.Common.{◌≡◌, ℕ, ◌≤◌, Option, take, refl, sym, ap, subst, ◌∙◌, arith, length}
 use Rattle.plant_core.specs.Crashes.{Alike, blank}
 use Rattle.plant_core.specs.Effects.{cuts, comes}
 use Rattle.plant_core.specs.Past.{after}
@@ -45,3 +46,14 @@ returns-in-Ok-clause-records c =
 
 pub returns-in-Ok-clause-crash : goal.returns-in-Ok-clause-crash
 returns-in-Ok-clause-crash c = λ told survives k at. cut_crash c.args.self.now _ c.in-Some.slot k c.in-Some.is at c.args.n c.in-Ok.ensures.ok
+
+pub returns-in-Ok-clause-stays : goal.returns-in-Ok-clause-stays
+returns-in-Ok-clause-stays c =
+    let slots : length c.cut_in.new.tapes.items ≡ length c.args.self.now.tapes.items = omega (arith, c.cut_in.ensures.count) in
+    record {
+      slots = slots;
+      present = ap (λ (n : ℕ). λ (j : ℕ). nat_lt j n) slots;
+      loads = refl;
+      tell_faults = refl;
+      output = λ told. (cut_state c.args.self.now.past.items c.keep.new.past.items c.in-Some.slot c.args.n c.in-Ok.ensures.ok).told;
+    }

@@ -3,7 +3,7 @@ use Rattle.plant_media.specs.Slots.{slot_in}
 use Rattle.plant_media.specs.declared.tape.Tape.{Tape}
 use Rattle.plant_media.proofs.Lifting.{lift_settle, not_zero}
 use Rattle.plant_media.proofs.Keeping.{tape_stays}
-use Rattle.plant_media.proofs.Calling.{put_away_same, held_tape, tape_sound, tape_suits}
+use Rattle.plant_media.proofs.Calling.{put_away_same, held_tape, tape_sound, tape_suits, same_told}
 use Rattle.plant_media.proofs.plant.MediaPlant.put_away.Goals as goal
 
 pub returns-in-Ok-clause-seen : goal.returns-in-Ok-clause-seen
@@ -42,3 +42,9 @@ returns-in-Err-clause-crash g c = λ told survives.
     let p = c.args.self.now in
     let held = held_tape m.tells m.time m.seen m.present p survives c.in-Some.tape c.in-Some.is in
     lift_settle m.tells m.time m.seen m.present p _ c.in-Some.tape c.in-Some.is held told c.args.slot (λ same. c.requires.other (ap slot_in c.in-Some.is ∙ ap (λ (n : ℕ). Some n) same)) (c.settle.ensures.crash told held)
+
+pub returns-in-Ok-clause-told : goal.returns-in-Ok-clause-told
+returns-in-Ok-clause-told g c = λ told. same_told g.M.Media.seen c.args.self.now (record { media = c.settle.new.media; journal = c.args.self.now.journal; tape = Some c.settle.new.self; loads = c.args.self.now.loads }) (c.settle.ensures.told told)
+
+pub returns-in-Err-clause-told : goal.returns-in-Err-clause-told
+returns-in-Err-clause-told g c = λ told. same_told g.M.Media.seen c.args.self.now (record { media = c.settle.new.media; journal = c.args.self.now.journal; tape = Some c.settle.new.self; loads = c.args.self.now.loads }) (c.settle.ensures.told told)

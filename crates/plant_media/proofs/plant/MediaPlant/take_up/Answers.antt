@@ -30,3 +30,6 @@ returns-in-Ok-clause-survives g c = λ told survives.
     let e = c.in-Ok.ensures in
     taken_suits m.tells m.time m.seen m.present c.args.self.now survives c.open.new.media e.present (λ told. (e.crash told).now) e.seen c.in-Ok.tape _ c.requires.all
     (e.survives told (survives.others told c.args.slot c.requires.other))
+
+pub returns-in-Ok-clause-told : goal.returns-in-Ok-clause-told
+returns-in-Ok-clause-told g c = λ told. (returns-in-Ok-clause-seen g c told).told

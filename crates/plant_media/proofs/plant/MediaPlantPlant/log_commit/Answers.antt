@@ -3,7 +3,7 @@ use Rattle.crash_log.specs.CrashLog.{file_of, log_bytes}
 use Rattle.crash_log.specs.Fit.{as_read}
 use Rattle.plant_media.specs.Laws.{log_counted}
 use Rattle.plant_media.specs.State.{shown_of}
-use Rattle.plant_media.proofs.Calling.{turn_crash, journal_sound, journal_suits, journal_alike, log_shown_is}
+use Rattle.plant_media.proofs.Calling.{turn_crash, journal_sound, journal_suits, journal_alike, log_shown_is, only_faults}
 use Rattle.plant_media.proofs.plant.MediaPlantPlant.log_commit.Goals as goal
 
 pub returns-in-Ok-clause-only : goal.returns-in-Ok-clause-only
@@ -47,3 +47,15 @@ returns-in-Err-clause-crash g c = λ told survives.
     let p = c.args.self.now in
     turn_crash m.tells m.time m.seen m.present p survives c.commit.new.media c.commit.new.self told (log_bytes p.journal ((m.seen p.media).file (file_of p.journal))) (shown_of m.seen p).log
     (log_shown_is m.tells m.time m.seen m.present p survives) (c.commit.ensures.crash told (survives.journal.fits told))
+
+pub returns-in-Ok-clause-stays : goal.returns-in-Ok-clause-stays
+returns-in-Ok-clause-stays g c =
+    let m = g.M.Media in
+    let e = c.commit.ensures in
+    only_faults m.tells m.seen m.count m.present m.faults m.tell_faults c.args.self.now c.commit.new.media c.commit.new.self c.args.self.now.tape e.count e.present e.tell_faults (λ told. e.told told)
+
+pub returns-in-Err-clause-stays : goal.returns-in-Err-clause-stays
+returns-in-Err-clause-stays g c =
+    let m = g.M.Media in
+    let e = c.commit.ensures in
+    only_faults m.tells m.seen m.count m.present m.faults m.tell_faults c.args.self.now c.commit.new.media c.commit.new.self c.args.self.now.tape e.count e.present e.tell_faults (λ told. e.told told)

@@ -2,7 +2,7 @@ use Rattle.std.proofs.Common.{ℕ, List, ◌++◌, refl, sym, ◌∙◌, ap}
 use Rattle.crash_log.specs.Fit.{as_read}
 use Rattle.plant_media.specs.State.{shown_of}
 use Rattle.plant_media.specs.Slotting.{shown_kept}
-use Rattle.plant_media.proofs.Calling.{put_crash, journal_sound, journal_suits, journal_alike, log_shown_is}
+use Rattle.plant_media.proofs.Calling.{put_crash, journal_sound, journal_suits, journal_alike, log_shown_is, only_faults}
 use Rattle.plant_media.proofs.plant.MediaPlantPlant.log_put.Goals as goal
 
 pub returns-in-Ok-clause-only : goal.returns-in-Ok-clause-only
@@ -41,3 +41,15 @@ returns-in-Err-LogFull-clause-crash g c = λ told survives. let m = g.M.Media in
 
 pub returns-in-Err-Failed-clause-crash : goal.returns-in-Err-Failed-clause-crash
 returns-in-Err-Failed-clause-crash g c = λ told survives. let m = g.M.Media in put_crash m.tells m.time m.seen m.present c.args.self.now survives c.put.new.media c.put.new.self told (c.put.ensures.crash told (survives.journal.fits told))
+
+pub returns-in-Ok-clause-stays : goal.returns-in-Ok-clause-stays
+returns-in-Ok-clause-stays g c =
+    let m = g.M.Media in
+    let e = c.put.ensures in
+    only_faults m.tells m.seen m.count m.present m.faults m.tell_faults c.args.self.now c.put.new.media c.put.new.self c.args.self.now.tape e.count e.present e.tell_faults (λ told. e.told told)
+
+pub returns-in-Err-Failed-clause-stays : goal.returns-in-Err-Failed-clause-stays
+returns-in-Err-Failed-clause-stays g c =
+    let m = g.M.Media in
+    let e = c.put.ensures in
+    only_faults m.tells m.seen m.count m.present m.faults m.tell_faults c.args.self.now c.put.new.media c.put.new.self c.args.self.now.tape e.count e.present e.tell_faults (λ told. e.told told)

@@ -1,6 +1,6 @@
 use Rattle.std.proofs.Common.{length, refl}
 use Rattle.crash_log.specs.Fit.{as_read}
-use Rattle.plant_media.proofs.Calling.{turn_crash, journal_sound, journal_suits, journal_alike}
+use Rattle.plant_media.proofs.Calling.{turn_crash, journal_sound, journal_suits, journal_alike, only_faults}
 use Rattle.plant_media.proofs.plant.MediaPlantPlant.log_replace.Goals as goal
 
 pub returns-in-Ok-clause-only : goal.returns-in-Ok-clause-only
@@ -36,3 +36,15 @@ returns-in-Err-LogFull-clause-crash g c = λ told survives. let m = g.M.Media in
 
 pub returns-in-Err-Failed-clause-crash : goal.returns-in-Err-Failed-clause-crash
 returns-in-Err-Failed-clause-crash g c = λ told survives. let m = g.M.Media in turn_crash m.tells m.time m.seen m.present c.args.self.now survives c.replace.new.media c.replace.new.self told c.args.bytes.now c.args.bytes.now refl (c.replace.ensures.crash told (survives.journal.fits told))
+
+pub returns-in-Ok-clause-stays : goal.returns-in-Ok-clause-stays
+returns-in-Ok-clause-stays g c =
+    let m = g.M.Media in
+    let e = c.replace.ensures in
+    only_faults m.tells m.seen m.count m.present m.faults m.tell_faults c.args.self.now c.replace.new.media c.replace.new.self c.args.self.now.tape e.count e.present e.tell_faults (λ told. e.told told)
+
+pub returns-in-Err-Failed-clause-stays : goal.returns-in-Err-Failed-clause-stays
+returns-in-Err-Failed-clause-stays g c =
+    let m = g.M.Media in
+    let e = c.replace.ensures in
+    only_faults m.tells m.seen m.count m.present m.faults m.tell_faults c.args.self.now c.replace.new.media c.replace.new.self c.args.self.now.tape e.count e.present e.tell_faults (λ told. e.told told)

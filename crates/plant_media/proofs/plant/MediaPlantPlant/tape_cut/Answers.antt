@@ -4,7 +4,7 @@ use Rattle.crash_log.specs.Fit.{as_read}
 use Rattle.plant_media.specs.Slots.{slot_in}
 use Rattle.plant_media.proofs.Lifting.{slot_is, lift_cut}
 use Rattle.plant_media.proofs.Keeping.{cut_alike}
-use Rattle.plant_media.proofs.Calling.{held_tape, loaded_tape, tape_sound, tape_suits}
+use Rattle.plant_media.proofs.Calling.{held_tape, loaded_tape, tape_sound, tape_suits, only_faults}
 use Rattle.plant_media.proofs.plant.MediaPlantPlant.tape_cut.Goals as goal
 
 pub cut-requires-clause-whole : goal.cut-requires-clause-whole
@@ -48,3 +48,15 @@ returns-in-Err-clause-crash g c = λ told survives k at.
     let p = c.args.self.now in
     let held = held_tape m.tells m.time m.seen m.present p survives c.in-Some.tape c.in-Some.is in
     lift_cut m.tells m.time m.seen m.present p _ c.in-Some.tape c.in-Some.is held told k (slot_is m.seen p c.in-Some.tape c.in-Some.is k at) c.args.n (c.cut.ensures.crash told held)
+
+pub returns-in-Ok-clause-stays : goal.returns-in-Ok-clause-stays
+returns-in-Ok-clause-stays g c =
+    let m = g.M.Media in
+    let e = c.cut.ensures in
+    only_faults m.tells m.seen m.count m.present m.faults m.tell_faults c.args.self.now c.cut.new.media c.args.self.now.journal (Some c.cut.new.self) e.count e.present e.tell_faults (λ told. e.told told)
+
+pub returns-in-Err-clause-stays : goal.returns-in-Err-clause-stays
+returns-in-Err-clause-stays g c =
+    let m = g.M.Media in
+    let e = c.cut.ensures in
+    only_faults m.tells m.seen m.count m.present m.faults m.tell_faults c.args.self.now c.cut.new.media c.args.self.now.journal (Some c.cut.new.self) e.count e.present e.tell_faults (λ told. e.told told)

@@ -6,7 +6,7 @@ use Rattle.plant_media.specs.Loaded.{tape_in}
 use Rattle.plant_media.specs.Laws.{counted}
 use Rattle.plant_media.proofs.Lifting.{slot_is, lift_mark}
 use Rattle.plant_media.proofs.Keeping.{mark_alike}
-use Rattle.plant_media.proofs.Calling.{held_tape, loaded_tape, tape_sound, tape_suits}
+use Rattle.plant_media.proofs.Calling.{held_tape, loaded_tape, tape_sound, tape_suits, only_faults}
 use Rattle.plant_media.proofs.plant.MediaPlantPlant.tape_mark.Goals as goal
 
 pub mark-requires-clause-whole : goal.mark-requires-clause-whole
@@ -67,3 +67,15 @@ returns-then-is_full-clause-crash g c = λ told survives k at.
     let m = g.M.Media in
     let p = c.args.self.now in
     absurd (omega (arith, c.requires.room told k at, counted m.tells (as_read m.seen) m.seen m.present p c.requires.sound told k at, c.is_full.ensures.0 c.if-is_full.true))
+
+pub returns-in-Ok-clause-stays : goal.returns-in-Ok-clause-stays
+returns-in-Ok-clause-stays g c =
+    let m = g.M.Media in
+    let e = c.mark.ensures in
+    only_faults m.tells m.seen m.count m.present m.faults m.tell_faults c.args.self.now c.mark.new.media c.args.self.now.journal (Some c.mark.new.self) e.count e.present e.tell_faults (λ told. e.told told)
+
+pub returns-in-Err-clause-stays : goal.returns-in-Err-clause-stays
+returns-in-Err-clause-stays g c =
+    let m = g.M.Media in
+    let e = c.mark.ensures in
+    only_faults m.tells m.seen m.count m.present m.faults m.tell_faults c.args.self.now c.mark.new.media c.args.self.now.journal (Some c.mark.new.self) e.count e.present e.tell_faults (λ told. e.told told)

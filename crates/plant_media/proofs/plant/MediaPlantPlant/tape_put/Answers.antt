@@ -5,7 +5,7 @@ use Rattle.plant_media.specs.Slots.{slot_in}
 use Rattle.plant_media.specs.Laws.{counted}
 use Rattle.plant_media.proofs.Lifting.{slot_is, lift_put}
 use Rattle.plant_media.proofs.Keeping.{put_alike}
-use Rattle.plant_media.proofs.Calling.{held_tape, loaded_tape, tape_sound, tape_suits}
+use Rattle.plant_media.proofs.Calling.{held_tape, loaded_tape, tape_sound, tape_suits, only_faults}
 use Rattle.plant_media.proofs.plant.MediaPlantPlant.tape_put.Goals as goal
 
 pub put-requires-clause-whole : goal.put-requires-clause-whole
@@ -66,3 +66,15 @@ returns-then-is_full-clause-crash g c = λ told survives k at.
     let m = g.M.Media in
     let p = c.args.self.now in
     absurd (omega (arith, c.requires.room told k at, counted m.tells (as_read m.seen) m.seen m.present p c.requires.sound told k at, c.is_full.ensures.0 c.if-is_full.true))
+
+pub returns-in-Ok-clause-stays : goal.returns-in-Ok-clause-stays
+returns-in-Ok-clause-stays g c =
+    let m = g.M.Media in
+    let e = c.put.ensures in
+    only_faults m.tells m.seen m.count m.present m.faults m.tell_faults c.args.self.now c.put.new.media c.args.self.now.journal (Some c.put.new.self) e.count e.present e.tell_faults (λ told. e.told told)
+
+pub returns-in-Err-clause-stays : goal.returns-in-Err-clause-stays
+returns-in-Err-clause-stays g c =
+    let m = g.M.Media in
+    let e = c.put.ensures in
+    only_faults m.tells m.seen m.count m.present m.faults m.tell_faults c.args.self.now c.put.new.media c.args.self.now.journal (Some c.put.new.self) e.count e.present e.tell_faults (λ told. e.told told)

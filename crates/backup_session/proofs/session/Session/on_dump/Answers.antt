@@ -1,0 +1,5 @@
+use Rattle.plant_effects.proofs.Joining.{nothing_left}
+use Rattle.backup_session.proofs.session.Session.on_dump.Goals as goal
+
+pub returns-in_err-asked-in-Dump-clause-leaves : goal.returns-in_err-asked-in-Dump-clause-leaves
+returns-in_err-asked-in-Dump-clause-leaves g c = λ told tells_cell w fits. nothing_left g.P.Plant _ c.args.plant.now (λ told survives image left. g.met.P.Plant.left c.args.plant.now image told c.requires survives left)
