@@ -14,6 +14,7 @@ use Rattle.tape_scan.specs.Scans.{closed}
 use Rattle.tape_text.specs.Wholes.{tape_part, NextTape, IsWhole, record_with}
 use Rattle.tape_scan.specs.Slots.{Slot, Located, IsClosedAt, IsFound}
 use Rattle.archive_model.specs.Holding.{place_of, is_label_frame, is_head_frame, is_so, holds_at, holds, LiesOn}
+use Rattle.archive_model.specs.Archives.{IsHeld}
 use Rattle.archive_model.specs.Clones.{ArePlaced, part_in}
 use Rattle.tape_scan.proofs.PlaceLaws.{found_part_is, head_stands}
 use Rattle.tape_scan.proofs.ListLaws.{contains_map}
@@ -132,3 +133,17 @@ found_on slots parts d tape p found place =
     record { part = l.0; there = l.1; closed = c; place = same; number = at.3; lies = lies; held = lies_held d tape p c.here.items place at.3 lies }
 
 -- ---- scans
+
+-- all tapes of a dump that is found whole are held
+pub found_held : (slots : List Slot) (parts : List Located) (d : DumpRecordFields) → IsFound slots parts d → IsHeld d slots
+found_held slots parts d found p named =
+    let founds : List FoundPart = map (λ (y : Located). y.found) parts in
+    let tapes : d.tapes ≡ map tape_part founds = tapes_of_found slots parts d found in
+    let q = contains_map tape_part founds p (subst (λ (ts : List TapePart). Contains ts p) tapes named) in
+    let l = contains_map (λ (y : Located). y.found) parts q.0 q.1 in
+    let c : IsClosedAt slots l.0 = All-contains (IsClosedAt slots) parts l.0 found.closed l.1 in
+    let number : l.0.found.part.head.tape ≡ p.tape = ap (λ (y : FoundPart). y.part.head.tape) l.2 ∙ ap (λ (y : TapePart). y.tape) q.2 in
+    let place : place_of d l.0.found.part.head.tape ≡ Some (tape_part l.0.found) =
+    ap (λ (ts : List TapePart). find (λ (x : TapePart). x.tape == l.0.found.part.head.tape) ts) tapes ∙ own_place founds l.0.found (whole_linked slots parts d found) (contains_found parts l.0 l.1) in
+    let there : holds d l.0.found.part.head.tape c.here.items ≡ true = lies_held d l.0.found.part.head.tape (tape_part l.0.found) c.here.items place refl (part_lies slots parts d l.0 c found l.1) in
+    (l.0.slot, c.here, c.at, subst (λ (n : ℕ). holds d n c.here.items ≡ true) number there)

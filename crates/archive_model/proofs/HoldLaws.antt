@@ -54,7 +54,7 @@ lies_stands d p items c lies there tape =
 pub lies_stands_too : (d : DumpRecordFields) (p : TapePart) (items others : List Item) (c : Lying) → take p.end others ≡ take p.end items → LiesOn d p items → Contains (called_by d) c → c.tape ≡ p.tape → (f : Fragment) × StandsAt c items f × StandsAt c others f
 lies_stands_too d p items others c same lies there tape =
     let g = called_found d p items c lies there tape in
-    let too : LiesOn d p others = record { tape = lies.tape; is = lies.is; front = same ∙ lies.front; found = lies.found; there = lies.there; place = lies.place; heads = lies.heads; frags = lies.frags } in
+    let too : LiesOn d p others = record { tape = lies.tape; is = lies.is; front = same ∙ lies.front; found = lies.found; there = lies.there; place = lies.place; heads = lies.heads; frags = lies.frags; ends = lies.ends } in
     (g.0.fragment, found_stands d p items c lies g.0 g.1 g.2, found_stands d p others c too g.0 g.1 g.2)
 
 -- ---- a tape that grows, and one that is cut behind what lies on it
@@ -77,6 +77,7 @@ lies_by_front d p items others same lies = record {
   place = lies.place;
   heads = lies.heads;
   frags = lies.frags;
+  ends = lies.ends;
 }
 
 pub append_keeps : (d : DumpRecordFields) (p : TapePart) (items more : List Item) → LiesOn d p items → LiesOn d p (items ++ more)

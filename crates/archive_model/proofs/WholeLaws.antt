@@ -7,14 +7,16 @@ use Rattle.std.proofs.lemmas.List.{length-map}
 use Rattle.std.proofs.lemmas.List.Elements.{All-nil, All-cons, All-head, All-tail, All-weaker, All-contains, filter-append}
 use Rattle.tape_frames.specs.declared.label.LabelFields.{LabelFields}
 use Rattle.tape_frames.specs.declared.dump_head.DumpHeadFields.{DumpHeadFields}
+use Rattle.budb_changes.specs.declared.records.TapePart.{TapePart}
 use Rattle.tape_text.specs.Items.{Item}
 use Rattle.tape_text.specs.Texts.{Fragment, Tape, tape_items, Linked, NextFragment, NextVolume, Begins, ends_dump, IsOf, IsPart, IsTape}
 use Rattle.tape_text.specs.Parts.{FoundFragment, FoundPart, fragment_len, parts_of, fragments_at, fragments_of}
 use Rattle.tape_text.specs.Wholes.{tape_part, Agree, GoesOn, Ends, NextTape, IsWhole, EndsWhole, next_head, Lying, lying_as, lying_in, volume_record, volume_records, record_with}
-use Rattle.archive_model.specs.Holding.{called_by, LiesOn}
+use Rattle.archive_model.specs.Holding.{called_by, EndsOnLast, LiesOn}
 use Rattle.archive_model.specs.Clones.{ArePlaced, part_in}
+use Rattle.archive_model.proofs.SlotLaws.{in_map}
 use Rattle.archive_model.proofs.ManyTapeLaws.{Next, StartsAt, EndsVolume, differs, calls_for_all}
-use Rattle.tape_scan.proofs.ListLaws.{All_join}
+use Rattle.tape_scan.proofs.ListLaws.{All_join, contains_map}
 
 -- ---- one behind another
 
@@ -183,6 +185,41 @@ on_tape (p ∷ qs) q linked (suc k, within, is) =
 
 -- ---- dumps
 
+-- ---- which part ends the dump
+
+-- the part on the tape with the greatest number
+greatest_ends : (qs : List FoundPart) (r : FoundPart) → Linked NextTape (map part_in qs) → EndsWhole (map part_in qs) → Contains qs r → ((x : FoundPart) → Contains qs x → x.part.head.tape ≤ r.part.head.tape) → r.part.end.more ≡ 0
+greatest_ends [] r linked ends there most = absurd (omega (arith, there.1))
+greatest_ends (q ∷ []) r linked ends (zero, within, is) most = ap (λ (x : FoundPart). x.part.end.more) (sym is) ∙ ends
+greatest_ends (q ∷ []) r linked ends (suc k, within, is) most = absurd (omega (arith, within))
+greatest_ends (q ∷ y ∷ qs) r linked ends (zero, within, is) most =
+    let next : y.part.head.tape ≡ q.part.head.tape + 1 = linked.0.tape in
+    let high : y.part.head.tape ≤ r.part.head.tape = most y (1, omega arith, refl) in
+    absurd (omega (arith, next, high, ap (λ (x : FoundPart). x.part.head.tape) is))
+greatest_ends (q ∷ y ∷ qs) r linked ends (suc k, within, is) most = greatest_ends (y ∷ qs) r linked.1 ends (k, omega (arith, within), is) (λ x there. most x (suc there.0, omega (arith, there.1), there.2))
+
+only_one : (q r : FoundPart) → Contains (q ∷ []) r → q ≡ r
+only_one q r (zero, within, is) = is
+only_one q r (suc k, within, is) = absurd (omega (arith, within))
+
+-- one on a tape before another's goes on
+lesser_goes_on : (qs : List FoundPart) (r x : FoundPart) → Linked NextTape (map part_in qs) → Contains qs r → Contains qs x → r.part.head.tape < x.part.head.tape → r.part.end.more ≡ 1
+lesser_goes_on [] r x linked there other before = absurd (omega (arith, there.1))
+lesser_goes_on (q ∷ []) r x linked there other before = absurd (omega (arith, before, ap (λ (y : FoundPart). y.part.head.tape) (only_one q r there), ap (λ (y : FoundPart). y.part.head.tape) (only_one q x other)))
+lesser_goes_on (q ∷ y ∷ qs) r x linked (zero, within, is) other before = ap (λ (z : FoundPart). z.part.end.more) (sym is) ∙ linked.0.more
+lesser_goes_on (q ∷ y ∷ qs) r x linked (suc k, within, is) (zero, within2, is2) before =
+    let later : q.part.head.tape < r.part.head.tape = All-contains (λ (z : FoundPart). q.part.head.tape < z.part.head.tape) (y ∷ qs) r (later_of q (y ∷ qs) linked) (k, omega (arith, within), is) in
+    absurd (omega (arith, later, before, ap (λ (z : FoundPart). z.part.head.tape) is2))
+lesser_goes_on (q ∷ y ∷ qs) r x linked (suc k, within, is) (suc n, within2, is2) before = lesser_goes_on (y ∷ qs) r x linked.1 (k, omega (arith, within), is) (n, omega (arith, within2), is2) before
+
+ends_on_last : (qs : List FoundPart) (r : FoundPart) → Linked NextTape (map part_in qs) → EndsWhole (map part_in qs) → Contains qs r → EndsOnLast (map tape_part qs) r.part.head.tape r.part.end.more
+ends_on_last qs r linked ends there = record {
+  last = λ most. greatest_ends qs r linked ends there (λ x other. most (tape_part x) (in_map tape_part qs x other));
+  before = λ p named later.
+      (let x = contains_map tape_part qs p named in
+      lesser_goes_on qs r x.0 linked there x.1 (subst (λ (n : ℕ). r.part.head.tape < n) (sym (ap (λ (y : TapePart). y.tape) x.2)) later));
+}
+
 dumps_in : (id tape at : ℕ) (fs : List Fragment) → All (λ f. f.head.dump ≡ id) fs → All (λ l. l.head.dump ≡ id) (map (lying_as tape) (fragments_at at fs))
 dumps_in id tape at [] all = All-nil (λ (l : Lying). l.head.dump ≡ id)
 dumps_in id tape at (f ∷ fs) all =
@@ -240,4 +277,5 @@ module _ (q : FoundPart) (qs : List FoundPart) (placed : ArePlaced (q ∷ qs)) (
           cell = agree.cell;
         };
         frags = sym (ap (λ (cs : List Lying). filter (λ (l : Lying). l.tape == r.part.head.tape) cs) whole_called ∙ on_tape (q ∷ qs) r whole.linked member);
+        ends = ends_on_last (q ∷ qs) r whole.linked whole.ends member;
       }

@@ -1,5 +1,5 @@
 -- Which slot holds a tape of a recorded dump, and what has to lie there.
-use Rattle.std.specs.Prelude.{◌≡◌, ℕ, ◌+◌, Bool, true, false, ◌&&◌, ◌==◌, Option, Some, None, List, [], ◌∷◌, length, take, find, filter, slice_get, Contains}
+use Rattle.std.specs.Prelude.{◌≡◌, ◌<◌, ◌≤◌, ℕ, ◌+◌, Bool, true, false, ◌&&◌, ◌==◌, Option, Some, None, List, [], ◌∷◌, length, take, find, filter, slice_get, Contains}
 use Rattle.std.specs.List.{flat_map}
 use Rattle.bk_text.specs.Blanks.{is_same_text}
 use Rattle.tape_frames.specs.declared.frame.Frame.{Frame}
@@ -122,6 +122,11 @@ pub record Heads (d : DumpRecordFields) (h : DumpHeadFields) : Type 0 where
   pub base : h.base ≡ d.base
   pub cell : h.cell ≡ d.cell
 
+-- Of a dump's parts the one on the last tape that its record names ends it, and each before goes on.
+pub record EndsOnLast (tapes : List TapePart) (tape more : ℕ) : Type 0 where
+  pub last : ((q : TapePart) → Contains tapes q → q.tape ≤ tape) → more ≡ 0
+  pub before : (q : TapePart) → Contains tapes q → tape < q.tape → more ≡ 1
+
 -- The front of the tape up to the record's end is a tape, and its part at the record's first reads as the record says.
 pub record LiesOn (d : DumpRecordFields) (p : TapePart) (items : List Item) : Type 0 where
   pub tape : Tape
@@ -132,6 +137,7 @@ pub record LiesOn (d : DumpRecordFields) (p : TapePart) (items : List Item) : Ty
   pub place : tape_part found ≡ p
   pub heads : Heads d found.part.head
   pub frags : lying_in found ≡ filter (λ c. c.tape == p.tape) (called_by d)
+  pub ends : EndsOnLast d.tapes p.tape found.part.end.more
 
 -- a tape of a record lies in a slot wherever the slot holds it
 abbrev pub Lies : DumpRecordFields → List Item → Type 0

@@ -1,5 +1,5 @@
 -- A DUMP, whatever it is told: it keeps the archive, and leaves one.
-use Rattle.std.proofs.Common.{◌≡◌, ◌⊎◌, ℕ, zero, suc, ◌+◌, ◌<◌, ◌≤◌, max, Bool, true, false, not, Option, Some, None, Ok, Err, List, [], ◌∷◌, ◌++◌, length, refl, sym, subst, arith, inl, inr}
+use Rattle.std.proofs.Common.{◌≡◌, ◌⊎◌, ℕ, zero, suc, ◌+◌, ◌<◌, ◌≤◌, max, Bool, true, false, Option, Some, None, Ok, Err, List, [], ◌∷◌, ◌++◌, length, refl, sym, subst, arith, inl, inr}
 use Rattle.std.specs.Prelude.{Contains, Result, slice_get, ◌&&◌, if◌then◌else◌}
 use Rattle.std.specs.Option.{unwrap_or}
 use Rattle.std.proofs.lemmas.List.Elements.{All-weaker}
@@ -46,9 +46,8 @@ use Rattle.dump_forms.proofs.BeginForms.{begin_forms}
 use Rattle.dump_forms.proofs.SlotForms.{tapes_fit}
 use Rattle.dump_laws.specs.Running.{RunsIn}
 use Rattle.dump_laws.specs.Beginning.{HeadsAreBelow, HasParent, TakenBy, begun_archive, begun_records, nothing_made}
-use Rattle.dump_laws.proofs.BeginLaws.{heads_below, begun_kept, listed_begun, taken_runs, first_taken}
+use Rattle.dump_laws.proofs.BeginLaws.{heads_below, begun_kept, taken_runs, first_taken}
 use Rattle.dump_laws.proofs.AppendingLaws.{appending_runs}
-use Rattle.dump_laws.proofs.ChosenLaws.{without_taken}
 use Rattle.archive_model.proofs.JobLaws.{remaining_among}
 use Rattle.dump_commands.specs.declared.command.DumpCommand.{DumpCommand}
 use Rattle.dump_commands.specs.Scenes.{Scene, database_in, slots_in, entries_in, whole_in}
@@ -150,10 +149,6 @@ among_begun : (take : Option ℕ) (a : Archive) (records : List DumpRecordFields
 among_begun None a records e there = there
 among_begun (Some initial) a records e there = remaining_among (without (is_initial initial) (listed_of a)) a.slots records e there
 
-among_listed : (take : Option ℕ) (listed : List DumpRecordFields) (e : DumpRecordFields) → Contains (without_taken take listed) e → Contains listed e
-among_listed None listed e there = there
-among_listed (Some initial) listed e there = (of_filter (λ (d : DumpRecordFields). not (is_initial initial d)) listed e there).0
-
 at_most : (slots : List Slot) (time greatest id : ℕ) → ((k : ℕ) (s : Slot) (n : ℕ) (h : DumpHeadFields) → slice_get slots k ≡ Some s → slice_get s.items n ≡ Some (Says (frames.DumpHead h)) → h.id < id) → HeadsUpTo id slots
 at_most slots time greatest id below k s n h at is = (let less = below k s n h at is in omega (arith, less))
 
@@ -218,7 +213,7 @@ module _ (once : ReadOnce) (s : Scene) (contents : Contents) (records : List Dum
   appended_run : (p : Place) → appending (database_in s).listed o.set o.port (whole_in s) (slots_in s) ≡ Found p → t ≡ place_tape p → (front : Tape) × RunsIn point.state begun_so (begun_records t.take start records) point.job (nothing_made front)
   appended_run p found is =
       let forms : AreChanges (begin_changes its None) = subst (λ (x : FirstTape). AreChanges (begin_changes its x.take)) is begin.0 in
-      let x = appending_runs s.state start records held o few its_tape.1 heads parent asks.ends (whole_in s) p found forms in
+      let x = appending_runs s.state start records held o few its_tape.1 heads parent (whole_in s) p found forms in
       subst (λ (y : FirstTape). (front : Tape) × RunsIn (come (commit_of s o y) s.state) (begun_archive its y.take start) (begun_records y.take start records) (begun_job o (database_in s).listed its y) (nothing_made front)) (sym is) x
 
   runs : (front : Tape) × RunsIn point.state begun_so (begun_records t.take start records) point.job (nothing_made front)
@@ -226,9 +221,6 @@ module _ (once : ReadOnce) (s : Scene) (contents : Contents) (records : List Dum
     | inl placed ↦ appended_run placed.0 placed.1 placed.2
     | inr taken ↦ taken_runs s.state start records held o few its_tape.1 heads parent t taken begin.0
   ]
-
-  listed_less : (d : DumpRecordFields) → Contains (after point.log).listed d → Contains (database_in s).listed d
-  listed_less d there = among_listed t.take (database_in s).listed d (subst (λ (l : List DumpRecordFields). Contains l d) (listed_begun t.take its start) there)
 
   later_made : NoneIsMadeAfter o.time s.cell
   later_made = subst (λ (n : ℕ). NoneIsMadeAfter n s.cell) (sym time) asks.made
@@ -255,7 +247,6 @@ module _ (once : ReadOnce) (s : Scene) (contents : Contents) (records : List Dum
     fair = fewer_fair s.cell grown records (begun_records t.take start records) o.time fair (among_begun t.take start records);
     heads = at_most (slots_in s) o.time (database_in s).greatest its all_below;
     greatest = greatest_begun s.log _ its;
-    ends = λ d p k x there. asks.ends d p k x (listed_less d there);
     settled = commit_settled (encoded (begin_of s o t)) s.state asks.settled;
     short = asks.short;
   }
@@ -311,7 +302,6 @@ module _ (once : ReadOnce) (s : Scene) (contents : Contents) (records : List Dum
           made = made_later s.time now (omega arith) s.cell asks.made;
           named = asks.named;
           heads = λ k x n h at is. inl (let low = left.heads k x n h at is in omega (arith, low, left.greatest));
-          ends = left.ends;
         };
       }
 

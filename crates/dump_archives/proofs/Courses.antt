@@ -18,7 +18,7 @@ use Rattle.budb_changes.specs.Bytes.{encoded}
 use Rattle.budb_changes.specs.Forms.{AreChanges}
 use Rattle.budb_fold.specs.Database.{after}
 use Rattle.budb_fold.specs.Lookups.{record_of}
-use Rattle.plant_core.specs.Crashes.{State, seen_in, IsSettled}
+use Rattle.plant_core.specs.Crashes.{State, IsSettled}
 use Rattle.plant_core.specs.Effects.{come}
 use Rattle.plant_effects.proofs.States.{come_append}
 use Rattle.tape_scan.specs.Slots.{Slot}
@@ -52,7 +52,6 @@ use Rattle.dump_laws.specs.Growing.{with_dump}
 use Rattle.tape_text.specs.Items.{Item}
 use Rattle.dump_laws.specs.Running.{basis_of, Goes, IsOpen, CloneGoes, BeforeHead, BeforePiece, BeforeVolumeEnd, BeforePartEnd, BeforeDumpEnd, WithHand, Before, UnlessOver, RunsIn}
 use Rattle.dump_laws.specs.Keeping.{Asks, MayStep, contents_behind, one_more, clone_for, clones_behind, dumps_behind, HavePut, Keeps as KeepsDump}
-use Rattle.dump_laws.specs.Beginning.{EndOnLastTapes}
 use Rattle.dump_laws.proofs.CloneGoes.{volumes_more}
 use Rattle.dump_laws.proofs.EventLaws.{each_event}
 use Rattle.dump_commands.specs.Scenes.{Scene, database_in}
@@ -70,7 +69,7 @@ use Rattle.dump_archives.proofs.Growing.{greatest_more}
 use Rattle.dump_archives.proofs.Lasts.{Finds, event_over}
 use Rattle.dump_archives.proofs.Lengths.{IsCounted, Bounds, event_bounds}
 use Rattle.dump_archives.proofs.Keeping.{archive_at, Keeps, keeps_then}
-use Rattle.dump_archives.proofs.Puts.{HeadsUpTo, heads_on, ends_on}
+use Rattle.dump_archives.proofs.Puts.{HeadsUpTo, heads_on}
 use Rattle.dump_archives.proofs.Slots.{ReadOnce}
 use Rattle.dump_archives.proofs.Ways.{event_way, last_slots}
 
@@ -161,7 +160,6 @@ module _ (once : ReadOnce) (s : Scene) (o : DumpOrder) (contents : Contents) (is
     pub fair : Fair s.cell (dumped_by grown records) o.time
     pub heads : HeadsUpTo its (slots_at p.state)
     pub greatest : its ≤ (after p.log).greatest
-    pub ends : EndOnLastTapes (after p.log).listed (slots_at p.state)
     pub settled : IsSettledFor p.job p.state
     pub short : (k : ℕ) → length (p.state.tape k) ≤ 4294967295
 
@@ -172,7 +170,6 @@ module _ (once : ReadOnce) (s : Scene) (o : DumpOrder) (contents : Contents) (is
     pub fair : Fair s.cell (dumped_by grown records) o.time
     pub heads : HeadsUpTo its (slots_at state)
     pub greatest : its ≤ (after log).greatest
-    pub ends : EndOnLastTapes (after log).listed (slots_at state)
     pub short : (k : ℕ) → length (state.tape k) ≤ 4294967295
 
   module _ (p : Point) (u : Underway p) where
@@ -376,15 +373,6 @@ module _ (once : ReadOnce) (s : Scene) (o : DumpOrder) (contents : Contents) (is
     greatest_then : its ≤ (after (p.log ++ e.changes)).greatest
     greatest_then = (let more = greatest_more p.log e.changes in omega (arith, u.greatest, more))
 
-    new_here : (d : DumpRecordFields) → Contains u.records d → d.id < its
-    new_here d there = (let below : d.id < j.head.id = goes.new d there in omega (arith, below, u.id))
-
-    ends_then : EndOnLastTapes (after (p.log ++ e.changes)).listed (slots_at state_then)
-    ends_then =
-        let old : EndOnLastTapes (listed_of a) a.slots = subst (λ (l : List Slot). EndOnLastTapes (listed_of a) l) (sym u.slots) (subst (λ (l : List Change). EndOnLastTapes (after l).listed (slots_at p.state)) (sym u.log) u.ends) in
-        let now : EndOnLastTapes (listed_of z) z.slots = ends_on (seen_in p.state) a u.records u.runs.held.seen its new_here z.slots put_then z (seen_in state_then) kept.last.records kept.runs.held.seen refl kept.listed old in
-        subst (λ (l : List Slot). EndOnLastTapes (after (p.log ++ e.changes)).listed l) slots_then (subst (λ (l : List Change). EndOnLastTapes (after l).listed z.slots) log_then now)
-
     -- ---- what is settled, and how long tapes are
 
     open_count : (opened : List Item) → IsOpen a j m opened → length (p.state.tape j.reel.slot) ≤ records_on j.reel
@@ -445,7 +433,6 @@ module _ (once : ReadOnce) (s : Scene) (o : DumpOrder) (contents : Contents) (is
       fair = fair_then;
       heads = heads_then;
       greatest = greatest_then;
-      ends = ends_then;
       short = short_then;
     }
 
@@ -491,7 +478,6 @@ module _ (once : ReadOnce) (s : Scene) (o : DumpOrder) (contents : Contents) (is
       fair = fair_then;
       heads = heads_then;
       greatest = greatest_then;
-      ends = ends_then;
       settled = settled_then;
       short = short_then;
     }

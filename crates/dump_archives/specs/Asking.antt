@@ -11,7 +11,7 @@ use Rattle.cell_core.specs.Fairness.{Fair, NoneIsMadeAfter, NoSourceHasBackupNam
 use Rattle.archive_model.specs.Archives.{Archive}
 use Rattle.archive_model.specs.Settled.{HoldsSettled}
 use Rattle.archive_model.specs.Sources.{dumped_by}
-use Rattle.dump_laws.specs.Beginning.{HeadsAreBelow, EndOnLastTapes}
+use Rattle.dump_laws.specs.Beginning.{HeadsAreBelow}
 use Rattle.dump_commands.specs.Scenes.{Scene, database_in, slots_in}
 use Rattle.dump_commands.specs.Forms.{IsSceneForm}
 use Rattle.dump_commands.specs.Answers.{Contents}
@@ -27,7 +27,7 @@ archive_in s contents = archive_with s contents s.log s.state.tape
 -- The plant holds the archive of the scene with these contents, whose dumps these records are; all is settled, and no tape has more records than
 -- a number of four bytes counts. The cell is a list of volumes in order of their
 -- names, fair to these dumps, none of them made in the future, and no read/write volume's name ends in `.backup`. Every dump id on a tape is at
--- most the greatest one that was begun or recorded, or below the time; and a listed dump whose last tape is here ends on it.
+-- most the greatest one that was begun or recorded, or below the time.
 pub record AsksOfScene (s : Scene) (contents : Contents) (records : List DumpRecordFields) : Type 0 where
   pub form : IsSceneForm s
   pub holds : HoldsSettled s.state (archive_in s contents) records
@@ -38,4 +38,3 @@ pub record AsksOfScene (s : Scene) (contents : Contents) (records : List DumpRec
   pub made : NoneIsMadeAfter s.time s.cell
   pub named : NoSourceHasBackupName s.cell
   pub heads : HeadsAreBelow (slots_in s) s.time (database_in s).greatest
-  pub ends : EndOnLastTapes (database_in s).listed (slots_in s)

@@ -30,7 +30,7 @@ use Rattle.dump_job.specs.declared.order.DumpOrder.{DumpOrder}
 use Rattle.dump_job.specs.Beginning.{new_id, place_tape, begin_changes, begun_job}
 use Rattle.dump_laws.specs.Writing.{FrontFits}
 use Rattle.dump_laws.specs.Running.{IsAppended, RunsIn}
-use Rattle.dump_laws.specs.Beginning.{HeadsAreBelow, HasParent, EndOnLastTapes, begun_archive, nothing_made}
+use Rattle.dump_laws.specs.Beginning.{HeadsAreBelow, HasParent, begun_archive, nothing_made}
 use Rattle.dump_laws.proofs.ChosenLaws.{and_left, and_right}
 use Rattle.dump_laws.proofs.AppendLaws.{IsFoundBehind, found_behind}
 use Rattle.dump_laws.proofs.FrontLaws.{its_label, label_of_held, last_found, snoc_same, uses_of_tape}
@@ -48,7 +48,7 @@ unequal a b other = elim (cases_Bool (a == b)) [
 ]
 
 module _ (s : State) (a : Archive) (records : List DumpRecordFields) (held : HoldsSettled s a records) (o : DumpOrder) (few : o.time ≤ 4294967295) (more : (after a.log).greatest < 4294967295) (below : HeadsAreBelow a.slots o.time (after a.log).greatest) (parent : HasParent (listed_of a) o.parent)
-    (ends : EndOnLastTapes (listed_of a) a.slots) (whole : ℕ → Bool) (p : Place) (f : IsFoundBehind (listed_of a) whole a.slots p) where
+    (whole : ℕ → Bool) (p : Place) (f : IsFoundBehind (listed_of a) whole a.slots p) where
   abbrev its_dump : DumpRecordFields
   its_dump = f.one.dump
 
@@ -124,7 +124,7 @@ module _ (s : State) (a : Archive) (records : List DumpRecordFields) (held : Hol
     permanent = ap permanent_in (its_label its_part.end its_items lies.tape lies.front);
     behind = λ before q same.
         (let one : lies.found.part ≡ q = snoc_same last_part.0 before lies.found.part q (sym last_part.1 ∙ same) in
-        let goes : lies.found.part.end.more ≡ 0 = ends its_dump its_part f.number f.slot f.last.there f.last.place f.last.last f.at lies in
+        let goes : lies.found.part.end.more ≡ 0 = lies.ends.last f.last.last in
         let under : lies.found.part.head.id < its_id = heads_below a.slots o.time (after a.log).greatest few more below f.number f.slot lies.found.first lies.found.part.head f.at its_head in
         (ap (λ (x : Part). x.end.more) (sym one) ∙ goes, subst (λ (x : Part). x.head.id < its_id) one under, refl));
     uses = uses_are;
@@ -157,7 +157,7 @@ module _ (s : State) (a : Archive) (records : List DumpRecordFields) (held : Hol
       (lies.tape, appended_runs s a records held o few more below parent its_place lies.tape f.slot f.at forms is_appended)
 
 -- A dump that is appended behind the last listed dump of its tape runs behind its begin.
-pub appending_runs : (s : State) (a : Archive) (records : List DumpRecordFields) → HoldsSettled s a records → (o : DumpOrder) → o.time ≤ 4294967295 → (after a.log).greatest < 4294967295 → HeadsAreBelow a.slots o.time (after a.log).greatest → HasParent (listed_of a) o.parent → EndOnLastTapes (listed_of a) a.slots
+pub appending_runs : (s : State) (a : Archive) (records : List DumpRecordFields) → HoldsSettled s a records → (o : DumpOrder) → o.time ≤ 4294967295 → (after a.log).greatest < 4294967295 → HeadsAreBelow a.slots o.time (after a.log).greatest → HasParent (listed_of a) o.parent
     → (whole : ℕ → Bool) (p : Place) → appending (listed_of a) o.set o.port whole a.slots ≡ Found p → let id = new_id o.time (after a.log).greatest in AreChanges (begin_changes id None)
     → (front : Tape) × RunsIn (come (commits (encoded (begin_changes id None)) ∷ []) s) (begun_archive id None a) records (begun_job o (listed_of a) id (place_tape p)) (nothing_made front)
-appending_runs s a records held o few more below parent ends whole p is forms = found_runs s a records held o few more below parent ends whole p (found_behind (listed_of a) o.set o.port whole a.slots p is) forms
+appending_runs s a records held o few more below parent whole p is forms = found_runs s a records held o few more below parent whole p (found_behind (listed_of a) o.set o.port whole a.slots p is) forms

@@ -31,12 +31,12 @@ use Rattle.dump_laws.specs.Made.{Made}
 use Rattle.dump_laws.specs.Running.{basis_of, Goes, BeforeHead, BeforePiece, BeforeVolumeEnd, BeforePartEnd, BeforeDumpEnd, WithHand, Before, UnlessOver, RunsIn}
 use Rattle.dump_laws.specs.Growing.{with_dump, record_done}
 use Rattle.dump_laws.specs.Keeping.{IsFormedHand, IsFormed, Asks, MayStep, contents_behind, clones_behind, dumps_behind, AreAllHeld, IsOnTheWay, Keeps, ImageHolds}
+use Rattle.archive_model.proofs.FoundLaws.{found_held}
 use Rattle.archive_model.proofs.StillLaws.{joint_holds}
 use Rattle.dump_laws.proofs.NeighbourLaws.{get_more}
 use Rattle.tape_scan.specs.Slots.{Slot}
 use Rattle.archive_model.proofs.JobLaws.{slot_with}
 use Rattle.dump_laws.proofs.StayingLaws.{still_self, still_then, still_put, still_whole}
-use Rattle.dump_laws.proofs.LastTapeLaws.{found_held}
 use Rattle.dump_laws.proofs.PutLaws.{same_put, twice_put}
 use Rattle.dump_laws.proofs.FormLaws.{end_fits}
 use Rattle.dump_laws.proofs.DumpEnds.{ended_done, ended_unlisted}

@@ -19,7 +19,6 @@ pub mod FormLaws
 pub mod PutLaws
 pub mod Stepping
 pub mod EventLaws
-pub mod LastTapeLaws
 pub mod LoadLaws
 pub mod BeginLaws
 pub mod StayingLaws

@@ -2,13 +2,11 @@
 use Rattle.std.specs.Prelude.{◌≡◌, ◌⊎◌, ◌<◌, ◌≤◌, ℕ, Option, Some, None, List, [], ◌++◌, slice_get, Contains}
 use Rattle.tape_frames.specs.declared.frame.Frame.TheVariants as frames
 use Rattle.tape_frames.specs.declared.dump_head.DumpHeadFields.{DumpHeadFields}
-use Rattle.budb_changes.specs.declared.records.TapePart.{TapePart}
 use Rattle.budb_changes.specs.declared.records.DumpRecordFields.{DumpRecordFields}
 use Rattle.budb_fold.specs.Database.{is_initial, without}
 use Rattle.tape_text.specs.Items.{Says}
 use Rattle.tape_text.specs.Texts.{Tape}
 use Rattle.tape_scan.specs.Slots.{Slot}
-use Rattle.archive_model.specs.Holding.{place_of, LiesOn}
 use Rattle.archive_model.specs.Archives.{Archive, listed_of}
 use Rattle.archive_model.specs.Turns.{with_log, remaining}
 use Rattle.tape_frames.specs.TapeNames.{numbered}
@@ -27,11 +25,6 @@ HeadsAreBelow slots time greatest =
 -- There is no parent, or it is a listed dump.
 abbrev pub HasParent : List DumpRecordFields → ℕ → Type 0
 HasParent listed parent = (parent ≡ 0) ⊎ ((p : DumpRecordFields) × Contains listed p × (p.id ≡ parent))
-
--- Each listed dump ends on its last tape: where that tape lies in a slot, the dump's part there is its last one.
-abbrev pub EndOnLastTapes : List DumpRecordFields → List Slot → Type 0
-EndOnLastTapes listed slots =
-    (d : DumpRecordFields) (p : TapePart) (k : ℕ) (s : Slot) → Contains listed d → place_of d p.tape ≡ Some p → ((q : TapePart) → Contains d.tapes q → q.tape ≤ p.tape) → slice_get slots k ≡ Some s → (x : LiesOn d p s.items) → x.found.part.end.more ≡ 0
 
 -- a tape of a dump set that is taken, by the choice of tapes
 pub record TakenBy (o : DumpOrder) (listed : List DumpRecordFields) (slots : List Slot) (t : FirstTape) : Type 0 where

@@ -1,26 +1,25 @@
 //! Laws of the begin of a dump, each the contract of a function without a body.
 
-ghost use Rattle.std.specs.Prelude.{◌≡◌, ◌⊎◌, ◌<◌, ◌≤◌, ℕ, Bool, Option, None, Result, Ok, List as AnyList, [], ◌∷◌, ◌++◌, slice_get, Contains};
+ghost use Rattle.std.specs.Prelude.{◌≡◌, ◌⊎◌, ◌<◌, ◌≤◌, ℕ, Bool, Option, None, Ok, List as AnyList, [], ◌∷◌};
 ghost use Rattle.budb_changes.specs.declared.records.DumpRecordFields.{DumpRecordFields};
 ghost use Rattle.budb_changes.specs.Bytes.{encoded};
 ghost use Rattle.budb_changes.specs.Forms.{AreChanges};
 ghost use Rattle.budb_fold.specs.Database.{after};
 ghost use Rattle.plant_core.specs.Crashes.{State};
 ghost use Rattle.plant_core.specs.Effects.{commits, come};
-ghost use Rattle.plant_core.specs.Stock.{Stock};
 ghost use Rattle.tape_text.specs.Texts.{Tape};
 ghost use Rattle.tape_scan.specs.Slots.{Slot};
 ghost use Rattle.tape_choice.specs.declared.places.Place.{Place as AnyPlace};
 ghost use Rattle.tape_choice.specs.declared.places.Appending.TheVariants.{Found};
 ghost use Rattle.tape_choice.specs.Append.{appending};
-ghost use Rattle.archive_model.specs.Archives.{Archive, listed_of, IsHeld, Holds};
+ghost use Rattle.archive_model.specs.Archives.{Archive, listed_of};
 ghost use Rattle.archive_model.specs.Settled.{HoldsSettled, AreHeld};
 ghost use Rattle.dump_job.specs.declared.order.DumpOrder.{DumpOrder as AnyOrder};
 ghost use Rattle.dump_job.specs.declared.first_tapes.FirstTape.{FirstTape as AnyTape};
-ghost use Rattle.dump_job.specs.Beginning.{new_id, begin_changes, place_tape, tape_found, first_tape, begun_job};
+ghost use Rattle.dump_job.specs.Beginning.{new_id, begin_changes, place_tape, first_tape, begun_job};
 ghost use Rattle.dump_laws.specs.Running.{RunsIn};
 ghost use Rattle.dump_laws.specs.Keeping.{AreAllHeld};
-ghost use Rattle.dump_laws.specs.Beginning.{HeadsAreBelow, HasParent, EndOnLastTapes, TakenBy, begun_archive, begun_records, nothing_made};
+ghost use Rattle.dump_laws.specs.Beginning.{HeadsAreBelow, HasParent, TakenBy, begun_archive, begun_records, nothing_made};
 
 /// The tape on which a dump begins is one that is taken by the choice of tapes, or the place behind the last dump of its volume
 /// set; and an id is left for the dump.
@@ -42,23 +41,12 @@ pub fn a_begun_dump_runs()
         → (front : Tape) × RunsIn (come (commits (encoded (begin_changes id tape.take)) ∷ []) s) (begun_archive id tape.take a) (begun_records tape.take a records) (begun_job o (listed_of a) id tape) (nothing_made front) }
 {}
 
-/// And so does one that is appended, behind the last listed dump of the last tape of its dump set, where listed dumps end on
-/// their last tapes.
+/// And so does one that is appended, behind the last listed dump of the last tape of its dump set.
 pub fn an_appending_dump_runs()
     ensures { (s : State) (a : Archive) (records : AnyList DumpRecordFields) → HoldsSettled s a records → (o : AnyOrder) → o.time ≤ 4294967295 → (after a.log).greatest < 4294967295
-        → HeadsAreBelow a.slots o.time (after a.log).greatest → HasParent (listed_of a) o.parent → EndOnLastTapes (listed_of a) a.slots
+        → HeadsAreBelow a.slots o.time (after a.log).greatest → HasParent (listed_of a) o.parent
         → (whole : ℕ → Bool) (p : AnyPlace) → appending (listed_of a) o.set o.port whole a.slots ≡ Found p → let id = new_id o.time (after a.log).greatest in AreChanges (begin_changes id None)
         → (front : Tape) × RunsIn (come (commits (encoded (begin_changes id None)) ∷ []) s) (begun_archive id None a) records (begun_job o (listed_of a) id (place_tape p)) (nothing_made front) }
-{}
-
-/// Where all tapes of each listed dump are held, listed dumps end on their last tapes.
-pub fn held_dumps_end_on_their_last_tapes()
-    ensures { (stock : Stock) (a : Archive) (records : AnyList DumpRecordFields) → Holds stock a records → AreAllHeld (listed_of a) a.slots → EndOnLastTapes (listed_of a) a.slots }
-{}
-
-/// A listed dump all of whose tapes are held ends on its last tape.
-pub fn a_held_dump_ends_on_its_last_tape()
-    ensures { (stock : Stock) (a : Archive) (records : AnyList DumpRecordFields) (d : DumpRecordFields) → Holds stock a records → Contains (listed_of a) d → IsHeld d a.slots → EndOnLastTapes (d ∷ []) a.slots }
 {}
 
 /// A begin keeps all tapes of listed dumps held.

@@ -9,7 +9,7 @@ mod texts;
 
 pub use begins::{
     a_begin_keeps_listed_dumps_whole, a_begun_dump_runs, a_first_tape_is_taken_or_appended_to,
-    a_held_dump_ends_on_its_last_tape, an_appending_dump_runs, held_dumps_end_on_their_last_tapes,
+    an_appending_dump_runs,
 };
 pub use events::{
     a_dump_joins_the_archive, each_event_keeps, each_image_holds, each_image_of_an_event_holds,

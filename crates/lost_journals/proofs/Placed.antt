@@ -21,7 +21,7 @@ use Rattle.archive_model.specs.Plays.{StandsAt, StandsOn, records_of, PlaysOver}
 use Rattle.archive_model.specs.Archives.{Need, needs, needs_of, is_unheld, all_here, Refusal, IsDump, AreContents, IsHeld, AreHolders, IsKept}
 use Rattle.archive_model.proofs.CutLaws.{any_is, any_from}
 use Rattle.archive_model.proofs.FairLaws.{of_flat}
-use Rattle.archive_model.proofs.FoundLaws.{map_twice, contains_found, tapes_of_found, own_place, whole_linked, lies_held, part_lies}
+use Rattle.archive_model.proofs.FoundLaws.{map_twice, contains_found, tapes_of_found, found_held}
 use Rattle.archive_model.proofs.HoldLaws.{lies_stands}
 use Rattle.archive_model.proofs.QuietLaws.{held_place, called_among}
 use Rattle.archive_model.proofs.RecordLaws.{chain_of_more, records_of_more, chain_records_there, plays_too}
@@ -67,20 +67,6 @@ need_of name ds n there =
     let d = of_flat (needs_of name) ds n there in
     let c = contains_map (λ (x : Lying). record { dump = d.0; tape = x.tape }) (called_for d.0 name) n d.2 in
     subst (Contains ds) (ap (λ (m : Need). m.dump) c.2) d.1
-
--- all tapes of a dump that is found whole are held
-found_held : (slots : List Slot) (parts : List Located) (d : DumpRecordFields) → IsFound slots parts d → IsHeld d slots
-found_held slots parts d found p named =
-    let founds : List FoundPart = map (λ (y : Located). y.found) parts in
-    let tapes : d.tapes ≡ map tape_part founds = tapes_of_found slots parts d found in
-    let q = contains_map tape_part founds p (subst (λ (ts : List TapePart). Contains ts p) tapes named) in
-    let l = contains_map (λ (y : Located). y.found) parts q.0 q.1 in
-    let c : IsClosedAt slots l.0 = All-contains (IsClosedAt slots) parts l.0 found.closed l.1 in
-    let number : l.0.found.part.head.tape ≡ p.tape = ap (λ (y : FoundPart). y.part.head.tape) l.2 ∙ ap (λ (y : TapePart). y.tape) q.2 in
-    let place : place_of d l.0.found.part.head.tape ≡ Some (tape_part l.0.found) =
-    ap (λ (ts : List TapePart). find (λ (x : TapePart). x.tape == l.0.found.part.head.tape) ts) tapes ∙ own_place founds l.0.found (whole_linked slots parts d found) (contains_found parts l.0 l.1) in
-    let there : holds d l.0.found.part.head.tape c.here.items ≡ true = lies_held d l.0.found.part.head.tape (tape_part l.0.found) c.here.items place refl (part_lies slots parts d l.0 c found l.1) in
-    (l.0.slot, c.here, c.at, subst (λ (n : ℕ). holds d n c.here.items ≡ true) number there)
 
 -- each tape of a record is held
 is_held : List Slot → DumpRecordFields → Bool

@@ -25,29 +25,25 @@ use Rattle.tape_scan.specs.Slots.{Slot, Located, IsClosedAt, IsFound}
 use Rattle.archive_model.specs.Archives.{Archive, listed_of, IsDump, IsUnlisted, IsKept}
 use Rattle.archive_model.specs.Turns.{with_log}
 use Rattle.archive_model.proofs.CutLaws.{any_is, any_from}
-use Rattle.dump_laws.specs.Beginning.{EndOnLastTapes}
 
 -- A dump's head stands on some tape of these slots.
 abbrev pub StandsSomewhere : List Slot → DumpHeadFields → Type 0
 StandsSomewhere slots h = (k : ℕ) × (s : Slot) × (n : ℕ) × (slice_get slots k ≡ Some s) × (slice_get s.items n ≡ Some (Says (frames.DumpHead h)))
 
--- Each dump of the second is one of the first, and so is each head; the greatest id that was begun or recorded is no less; and where listed
--- dumps end on their last tapes they still do.
+-- Each dump of the second is one of the first, and so is each head; and the greatest id that was begun or recorded is no less.
 pub record BringsNone (a b : Archive) : Type 0 where
   pub dumps : (d : DumpRecordFields) → IsDump (listed_of b) b.slots d → IsDump (listed_of a) a.slots d
   pub heads : (h : DumpHeadFields) → StandsSomewhere b.slots h → StandsSomewhere a.slots h
   pub greatest : (after a.log).greatest ≤ (after b.log).greatest
-  pub ends : EndOnLastTapes (listed_of a) a.slots → EndOnLastTapes (listed_of b) b.slots
 
 pub brings_itself : (a : Archive) → BringsNone a a
-brings_itself a = record { dumps = λ d is. is; heads = λ h is. is; greatest = omega arith; ends = λ ends. ends }
+brings_itself a = record { dumps = λ d is. is; heads = λ h is. is; greatest = omega arith }
 
 pub brings_then : (a b c : Archive) → BringsNone a b → BringsNone b c → BringsNone a c
 brings_then a b c first second = record {
   dumps = λ d is. first.dumps d (second.dumps d is);
   heads = λ h is. first.heads h (second.heads h is);
   greatest = omega (arith, first.greatest, second.greatest);
-  ends = λ ends. second.ends (first.ends ends);
 }
 
 -- ---- ids that were begun or recorded
@@ -123,13 +119,12 @@ fewer_bring a records log kept fewer grown = record {
   ];
   heads = λ h is. is;
   greatest = grown;
-  ends = λ ends d p k s there. ends d p k s (fewer d there);
 }
 
 -- ---- a dump that lay there, and is listed now
 
-pub listing_brings : (a : Archive) (log : List Change) (d : DumpRecordFields) → (after log).listed ≡ listed_of a ++ d ∷ [] → IsUnlisted (listed_of a) a.slots d → EndOnLastTapes (d ∷ []) a.slots → (after a.log).greatest ≤ (after log).greatest → BringsNone a (with_log a log)
-listing_brings a log d more un own grown = record {
+pub listing_brings : (a : Archive) (log : List Change) (d : DumpRecordFields) → (after log).listed ≡ listed_of a ++ d ∷ [] → IsUnlisted (listed_of a) a.slots d → (after a.log).greatest ≤ (after log).greatest → BringsNone a (with_log a log)
+listing_brings a log d more un grown = record {
   dumps = λ e is. elim is [
     | inl listed ↦ elim (Contains-push_cases (listed_of a) d e (subst (λ (l : List DumpRecordFields). Contains l e) more listed)) [
       | inl old ↦ inl old
@@ -139,10 +134,6 @@ listing_brings a log d more un own grown = record {
   ];
   heads = λ h is. is;
   greatest = grown;
-  ends = λ ends e p k s there. elim (Contains-push_cases (listed_of a) d e (subst (λ (l : List DumpRecordFields). Contains l e) more there)) [
-    | inl old ↦ ends e p k s old
-    | inr same ↦ own e p k s (0, omega arith, same)
-  ];
 }
   where
     still_unlisted : (e : DumpRecordFields) → has_dump (after log).listed e.id ≡ false → has_dump (listed_of a) e.id ≡ false
@@ -200,12 +191,6 @@ bare_brings a slots says = record {
     | inr bare ↦ absurd (bare.no_head n h is)
   ];
   greatest = omega arith;
-  ends = λ ends d p k s there place most at x. elim (says k s at) [
-    | inl same ↦
-        ends d p k same.0 there place most same.1
-        (record { tape = x.tape; is = x.is; front = ap (λ (l : List Item). take p.end l) same.2 ∙ x.front; found = x.found; there = x.there; place = x.place; heads = x.heads; frags = x.frags })
-    | inr bare ↦ absurd (bare_short s.items p.end x.tape x.found bare x.front x.there)
-  ];
 }
   where
     closed : (l : Located) → IsClosedAt slots l → IsClosedAt a.slots l

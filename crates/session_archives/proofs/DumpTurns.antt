@@ -57,7 +57,6 @@ module _ (w : World) (has : HasTapes w) (finds : Finds w) (ready : IsReady w) wh
     made = ready.order.made;
     named = ready.order.fit.named;
     heads = ready.order.fit.heads;
-    ends = ready.order.fit.ends;
   }
 
 -- ---- what a dump makes
@@ -97,7 +96,6 @@ module _ (laws : DumpLaws) (w : World) (has : HasTapes w) (finds : Finds w) (rea
           fair = λ records are. fair_to_any w.cell (dump_answer (scene_of w) a).time then behind.records records behind.asks.holds.seen.kept.dumps are.sound behind.asks.fair;
           named = behind.asks.named;
           heads = behind.asks.heads;
-          ends = behind.asks.ends;
           volumes = laws.volumes (scene_of w) a w.contents (scene_form w (ready_form w has finds ready)) ready.order.fit.volumes;
         };
       }

@@ -49,7 +49,6 @@ order_later cell time now a order le four = record {
       | inl low ↦ inl low
       | inr early ↦ inr (omega (arith, early, le))
     ];
-    ends = order.fit.ends;
     volumes = order.fit.volumes;
   };
 }
@@ -91,7 +90,6 @@ order_brought cell time a b records are same brings order = record {
           | inl low ↦ inl (omega (arith, low, brings.greatest))
           | inr early ↦ inr early
         ]);
-    ends = brings.ends order.fit.ends;
     volumes = λ id name volume is. order.fit.volumes id name volume (ap (λ (c : ℕ → List ℕ → Result VolumeFields Refusal). c id name) (sym same) ∙ is);
   };
 }
@@ -125,7 +123,6 @@ order_of cell new time a order good = record {
     fair = λ records are. good.fair (dumped_by a.contents records) (records, are, refl);
     named = good.named;
     heads = order.fit.heads;
-    ends = order.fit.ends;
     volumes = order.fit.volumes;
   };
 }

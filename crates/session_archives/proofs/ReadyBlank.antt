@@ -61,7 +61,6 @@ module _ (w : World) (empty : w.log ≡ []) (nothing : IsNothing (seen_in w.stat
             (λ x there. (let d = of_flat (λ (e : DumpRecordFields). map (dumped_of w.contents e) (firsts e.volumes)) records x there in absurd (no_dump d.0 (are.sound d.0 d.1))));
         named = named;
         heads = λ k s n h at is. absurd (no_head_there n h s.items (bare k s at) is);
-        ends = λ d p k s there. absurd (nothing_in d (subst (λ (l : List DumpRecordFields). Contains l d) none_listed there));
         volumes = volumes;
       };
     };

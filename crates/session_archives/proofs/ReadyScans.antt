@@ -1,10 +1,10 @@
 -- A scan that adds what it finds keeps the order: each dump that it adds lay there, ends on its last tape, and time takes it in.
 use Rattle.std.proofs.Common.{◌≡◌, inr, ℕ, ◌≤◌, max, Bool, true, false, List, [], ◌∷◌, ◌++◌, map, IsTrue, refl, sym, ap, subst, arith}
-use Rattle.std.specs.Prelude.{All, Contains, nat_lt, if◌then◌else◌, Result, Ok, Err}
+use Rattle.std.specs.Prelude.{All, nat_lt, if◌then◌else◌, Result, Ok, Err}
 use Rattle.std.specs.List.{fold, flat_map, list_all}
-use Rattle.std.proofs.lemmas.List.Elements.{All-head, All-tail, Contains-append_right}
+use Rattle.std.proofs.lemmas.List.Elements.{All-head, All-tail}
 use Rattle.byte_formats.specs.Forms.{IsFour}
-use Rattle.plant_core.specs.Crashes.{State, seen_in}
+use Rattle.plant_core.specs.Crashes.{State}
 use Rattle.plant_effects.proofs.States.{come_append}
 use Rattle.tape_config.specs.declared.port.PortFields.{PortFields}
 use Rattle.tape_scan.specs.declared.sections.Sections.{Sections}
@@ -17,8 +17,6 @@ use Rattle.budb_changes.specs.declared.change.Change.TheVariants as change
 use Rattle.budb_changes.specs.Forms.{IsVolRecord, IsDumpRecord}
 use Rattle.budb_fold.specs.Database.{after, has_dump, is_whole, fits_record}
 use Rattle.archive_model.proofs.AfterLaws.{recorded_behind}
-use Rattle.dump_laws.specs.Beginning.{EndOnLastTapes}
-use Rattle.dump_laws.proofs.LastTapeLaws.{one_held_ends, found_held}
 use Rattle.backup_replies.specs.Texts.{ok_line}
 use Rattle.backup_replies.specs.Scans.{found_line}
 use Rattle.backup_session.specs.Opening.{with_clone}
@@ -28,7 +26,7 @@ use Rattle.backup_session.specs.Scanning.{stopped_line, left_line, slots_here, s
 use Rattle.backup_session.proofs.ScanLaws.{all_here}
 use Rattle.session_archives.proofs.Kept.{Finds, finds_behind}
 use Rattle.session_archives.proofs.Bringing.{BringsNone, brings_then, log_grows, listing_brings}
-use Rattle.session_archives.proofs.Scans.{IsThere, StepKeeps, says_keeps, record_fits, is_unlisted, recorded_keeps, there_behind, step_keeps, Assembles, all_there, HaveForms}
+use Rattle.session_archives.proofs.Scans.{IsThere, StepKeeps, says_keeps, record_fits, is_unlisted, there_behind, step_keeps, Assembles, all_there, HaveForms}
 use Rattle.session_archives.proofs.ReadyTapes.{KeepsOrder, said_orders}
 
 -- ---- time
@@ -58,11 +56,8 @@ module _ (w : World) (finds : Finds w) (d : DumpRecordFields) (there : IsThere w
       let un = is_unlisted w finds d there new right in
       let fit : fits_record d (after w.log).listed ≡ true = record_fits d.id d.parent (has_dump (after w.log).listed d.id) (list_all is_whole d.volumes) right new in
       let more : (after log).listed ≡ (after w.log).listed ++ d ∷ [] = recorded_behind w.log (change.Found d) d (inr refl) fit in
-      let listed : Contains (after log).listed d = subst (λ (l : List DumpRecordFields). Contains l d) (sym more) (Contains-append_right (after w.log).listed (d ∷ []) d (0, omega arith, refl)) in
-      let behind = finds_behind w (recorded w d) finds (recorded_keeps w finds d there new right).turn in
-      let own : EndOnLastTapes (d ∷ []) (archive_of w).slots = one_held_ends (seen_in (before_reply w (recorded w d)).state) (archive_of (before_reply w (recorded w d))) behind.holds.0 d behind.holds.1.seen listed (found_held (archive_of w).slots there.parts d there.found) in
       record {
-        brings = listing_brings (archive_of w) log d more un own (log_grows w.log (change.Found d ∷ []));
+        brings = listing_brings (archive_of w) log d more un (log_grows w.log (change.Found d ∷ []));
         cell = refl;
         later = time_later w.time d;
         four = λ four. time_four w.time d four there.form;

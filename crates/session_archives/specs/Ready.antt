@@ -13,7 +13,7 @@ use Rattle.budb_fold.specs.Database.{after}
 use Rattle.archive_model.specs.Archives.{Archive, listed_of, AreDumps}
 use Rattle.archive_model.specs.Sources.{dumped_by}
 use Rattle.dump_commands.specs.Forms.{AreVolumes}
-use Rattle.dump_laws.specs.Beginning.{HeadsAreBelow, EndOnLastTapes}
+use Rattle.dump_laws.specs.Beginning.{HeadsAreBelow}
 use Rattle.volume_sets.specs.declared.sets.SetEntry.{SetEntry}
 use Rattle.volume_sets.specs.Sets.{entries_of}
 use Rattle.restore_target.specs.Targets.{target_text}
@@ -32,13 +32,12 @@ use Rattle.backup_script.specs.Held.{IfItGoes}
 use Rattle.script_journals.specs.Dumping.{dumps_among}
 
 -- A cell is fit for dumps at a time, beside an archive: it is fair to what the archive's dumps have, and no read/write volume has the name of
--- a backup volume; no id on a tape is above both the greatest id that was begun or recorded and the time; listed dumps end on their last
--- tapes; and what dumps have of volumes are volumes of the types.
+-- a backup volume; no id on a tape is above both the greatest id that was begun or recorded and the time; and what dumps have of volumes are
+-- volumes of the types.
 pub record IsFit (cell : List Stored) (time : ℕ) (a : Archive) : Type 0 where
   pub fair : (records : List DumpRecordFields) → AreDumps (listed_of a) a.slots records → Fair cell (dumped_by a.contents records) time
   pub named : NoSourceHasBackupName cell
   pub heads : HeadsAreBelow a.slots time (after a.log).greatest
-  pub ends : EndOnLastTapes (listed_of a) a.slots
   pub volumes : AreVolumes a.contents
 
 -- It is in order where moreover its list has its form, the time has four bytes, and no volume is made later.
