@@ -6,7 +6,7 @@ use Rattle.std.proofs.lemmas.Bool.{cases_lt}
 use Rattle.plant_core.specs.declared.plant.Plant.{Ghosts as Plant}
 use Rattle.plant_core.specs.Effects.{commits}
 use Rattle.plant_effects.specs.Runs.{state_of, Leaves}
-use Rattle.plant_effects.proofs.Joining.{Fits as FitsImages, nothing_done, nothing_left}
+use Rattle.plant_effects.proofs.Joining.{Fits as FitsImages, nothing_left}
 use Rattle.budb_changes.specs.declared.change.Change.{Change}
 use Rattle.budb_changes.specs.Bytes.{encoded}
 use Rattle.budb_fold.specs.Database.{after}
@@ -16,6 +16,7 @@ use Rattle.cell_core.specs.declared.stored.Stored.{Stored}
 use Rattle.backup_words.specs.declared.command.Command.{Command}
 use Rattle.backup_replies.specs.declared.refusals.Refusal.TheVariants.{LogFull}
 use Rattle.backup_replies.specs.Texts.{refused_number}
+use Rattle.dump_commands.proofs.Ahead.{standing_ahead}
 use Rattle.backup_session.specs.declared.verdict.Verdict.{Verdict}
 use Rattle.backup_session.specs.declared.verdict.Verdict.TheVariants.{Refuses, Makes, Shortens, Shows}
 use Rattle.backup_session.specs.Views.{SessionView, ReplyView}
@@ -34,7 +35,7 @@ use Rattle.backup_session.specs.Tapes.{slot_of, new_label, taken, labeled, label
 use Rattle.backup_session.specs.Restores.{archive_turn}
 use Rattle.backup_session.specs.Dumps.{dump_turn}
 use Rattle.backup_session.specs.Machine.{committed, replaced, carried, on_cell, on_plant, off_cell, done, turn}
-use Rattle.backup_session.specs.Fitting.{Fits, Turned, TurnedSomehow, OnTheWay, FitsPlant, TurnedPlant}
+use Rattle.backup_session.specs.Fitting.{Stands, TurnDone, SomeTurnDone, OnTheWay, FitsPlant, TurnedPlant}
 
 pub full_true : (a b : ℕ) → a < b → nat_lt a b ≡ true
 full_true a b lt = grind (arith, nat_tests)
@@ -136,86 +137,84 @@ plant_cells w command = go (asks_tape command)
 
 -- ---- what fits
 
-module _ {D E : Type 0} (P : Plant D) (C : Cell E) (w : World) (old : D) (site : E) (session : SessionView) (fits : Fits P C w old site session) where
+module _ {D E : Type 0} (P : Plant D) (C : Cell E) (w : World) (old : D) (site : E) (session : SessionView) (stands : Stands P C w old site session) where
   -- the same at a moment of the clock
-  pub fits_at : (now : ℕ) (later : SessionView) → later.budb ≡ session.budb → later.config ≡ session.config → later.time ≡ max session.time (min now 4294967295) → Fits P C (at_moment w now) old site later
-  fits_at now later budb config time = record {
-    keeps = record { form = fits.keeps.form; is = fits.keeps.is; fold = ap (λ b. b.database) budb ∙ fits.keeps.fold };
-    time = time ∙ ap (λ (t : ℕ). max t (min now 4294967295)) fits.time;
-    config = config ∙ fits.config;
-    state = fits.state;
-    settled = fits.settled;
-    slots = fits.slots;
-    present = fits.present;
-    cell = fits.cell;
+  pub stands_at : (now : ℕ) (later : SessionView) → later.budb ≡ session.budb → later.config ≡ session.config → later.time ≡ max session.time (min now 4294967295) → Stands P C (at_moment w now) old site later
+  stands_at now later budb config time = record {
+    keeps = record { form = stands.keeps.form; is = stands.keeps.is; fold = ap (λ b. b.database) budb ∙ stands.keeps.fold };
+    time = time ∙ ap (λ (t : ℕ). max t (min now 4294967295)) stands.time;
+    config = config ∙ stands.config;
+    state = stands.state;
+    slots = stands.slots;
+    present = stands.present;
+    cell = stands.cell;
   }
 
   -- the same without the cell
   pub fits_plant : FitsPlant P w old session
   fits_plant = record {
-    keeps = fits.keeps;
-    time = fits.time;
-    config = fits.config;
-    state = fits.state;
-    settled = fits.settled;
-    slots = fits.slots;
-    present = fits.present;
+    keeps = stands.keeps;
+    time = stands.time;
+    config = stands.config;
+    state = stands.state;
+    slots = stands.slots;
+    present = stands.present;
   }
 
   -- a turn that leaves the cell alone
-  pub turned_by : (t : Turn) (new : D) (later : SessionView) (reply : ReplyView) → t.cells ≡ [] → TurnedPlant P w t old new later reply → Turned P C w t old new site later reply
+  pub turned_by : (t : Turn) (new : D) (later : SessionView) (reply : ReplyView) → t.cells ≡ [] → TurnedPlant P w t old new later reply → TurnDone P C w t old new site later reply
   turned_by t new later reply cells turned = record {
     done = turned.done;
     text = turned.text;
-    fits = record {
+    stands = record {
       keeps = turned.fits.keeps;
       time = turned.fits.time;
       config = turned.fits.config;
       state = turned.fits.state;
-      settled = turned.fits.settled;
       slots = turned.fits.slots;
       present = turned.fits.present;
-      cell = fits.cell ∙ sym (ap (last_cell w.cell) cells);
+      cell = stands.cell ∙ sym (ap (last_cell w.cell) cells);
     };
+    settles = turned.settles;
   }
 
   -- where the cell is then
   pub list_stays : (cells : List (List Stored)) (new : List Stored) → new ≡ C.list site → OnTheWay w.cell cells new
-  list_stays cells new is = subst (λ (l : List Stored). OnTheWay w.cell cells l) (sym (is ∙ fits.cell)) (0, omega arith, refl)
+  list_stays cells new is = subst (λ (l : List Stored). OnTheWay w.cell cells l) (sym (is ∙ stands.cell)) (0, omega arith, refl)
 
   -- a turn of the cell alone
   pub turned_cell : (new : E) (reply : ReplyView) (command : Command) → P.sound old → IsAnswer (cell_answer (C.list site) session.time command) reply (C.list site) (C.list new)
-      → Turned P C w (on_cell w (cell_answer w.cell w.time command)) old old new session reply
+      → TurnDone P C w (on_cell w (cell_answer w.cell w.time command)) old old new session reply
   turned_cell new reply command sound answer =
-      let same : cell_answer (C.list site) session.time command ≡ cell_answer w.cell w.time command = λ i. cell_answer (fits.cell i) (fits.time i) command in
+      let same : cell_answer (C.list site) session.time command ≡ cell_answer w.cell w.time command = λ i. cell_answer (stands.cell i) (stands.time i) command in
       record {
-        done = nothing_done P old sound;
+        done = standing_ahead P old w.state sound (λ _. stands.state);
         text = answer.text ∙ ap (λ (a : CellAnswer). a.reply) same;
-        fits = record {
-          keeps = fits.keeps;
-          time = fits.time;
-          config = fits.config;
-          state = fits.state;
-          settled = fits.settled;
-          slots = fits.slots;
-          present = fits.present;
-          cell = answer.list ∙ (λ i. last_cell (fits.cell i) (same i).cells);
+        stands = record {
+          keeps = stands.keeps;
+          time = stands.time;
+          config = stands.config;
+          state = stands.state;
+          slots = stands.slots;
+          present = stands.present;
+          cell = answer.list ∙ (λ i. last_cell (stands.cell i) (same i).cells);
         };
+        settles = λ whole. whole;
       }
 
   -- the cell on the way
   pub cell_way : (new : List Stored) (command : Command) → OnTheWay (C.list site) (cell_answer (C.list site) session.time command).cells new → OnTheWay w.cell (cell_answer w.cell w.time command).cells new
   cell_way new command way =
-      subst (λ (l : List Stored). OnTheWay l (cell_answer l w.time command).cells new) fits.cell
-      (subst (λ (t : ℕ). OnTheWay (C.list site) (cell_answer (C.list site) t command).cells new) fits.time way)
+      subst (λ (l : List Stored). OnTheWay l (cell_answer l w.time command).cells new) stands.cell
+      (subst (λ (t : ℕ). OnTheWay (C.list site) (cell_answer (C.list site) t command).cells new) stands.time way)
 
 -- a turn at a moment is one of the world before it
-pub turned_at : {D E : Type 0} (P : Plant D) (C : Cell E) (w : World) (now : ℕ) (t : Turn) (old new : D) (site : E) (session : SessionView) (reply : ReplyView) → Turned P C (at_moment w now) t old new site session reply → Turned P C w t old new site session reply
-turned_at P C w now t old new site session reply turned = record { done = turned.done; text = turned.text; fits = turned.fits }
+pub turned_at : {D E : Type 0} (P : Plant D) (C : Cell E) (w : World) (now : ℕ) (t : Turn) (old new : D) (site : E) (session : SessionView) (reply : ReplyView) → TurnDone P C (at_moment w now) t old new site session reply → TurnDone P C w t old new site session reply
+turned_at P C w now t old new site session reply turned = record { done = turned.done; text = turned.text; stands = turned.stands; settles = turned.settles }
 
 -- the same of some turn
-pub some_at : {D E F : Type 0} (P : Plant D) (C : Cell E) (w : World) (now : ℕ) (old new : D) (site : E) (session : SessionView) (r : Result ReplyView F) → IfOk r (λ reply. TurnedSomehow P C (at_moment w now) old new site session reply)
-    → IfOk r (λ reply. TurnedSomehow P C w old new site session reply)
+pub some_at : {D E F : Type 0} (P : Plant D) (C : Cell E) (w : World) (now : ℕ) (old new : D) (site : E) (session : SessionView) (r : Result ReplyView F) → IfOk r (λ reply. SomeTurnDone P C (at_moment w now) old new site session reply)
+    → IfOk r (λ reply. SomeTurnDone P C w old new site session reply)
 some_at P C w now old new site session (Ok reply) some = record { turn = some.turn; turned = turned_at P C w now some.turn old new site session reply some.turned; silent = some.silent }
 some_at P C w now old new site session (Err stop) some = tt
 

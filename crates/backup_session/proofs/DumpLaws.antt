@@ -10,37 +10,36 @@ use Rattle.dump_commands.specs.Answers.{Answer, IsAnswered}
 use Rattle.backup_session.specs.Views.{SessionView, ReplyView}
 use Rattle.backup_session.specs.Worlds.{World}
 use Rattle.backup_session.specs.Dumps.{scene_of, answered}
-use Rattle.backup_session.specs.Fitting.{Fits, Turned}
+use Rattle.backup_session.specs.Fitting.{Stands, TurnDone}
 
-module _ {D E : Type 0} (P : Plant D) (C : Cell E) (w : World) (old : D) (site : E) (session : SessionView) (fits : Fits P C w old site session) where
+module _ {D E : Type 0} (P : Plant D) (C : Cell E) (w : World) (old : D) (site : E) (session : SessionView) (stands : Stands P C w old site session) where
   pub dump_finds : Finds P C (scene_of w) session.config session.budb old site session.time
   dump_finds = record {
-    config = fits.config;
-    time = fits.time;
+    config = stands.config;
+    time = stands.time;
     scene = record {
-      keeps = fits.keeps;
-      state = fits.state;
-      settled = fits.settled;
-      slots = fits.slots;
-      present = fits.present;
-      cell = fits.cell;
+      keeps = stands.keeps;
+      state = stands.state;
+      slots = stands.slots;
+      present = stands.present;
+      cell = stands.cell;
     };
   }
 
   -- it was answered
   pub dump_turned : (a : Answer) (budb : BudbView) (new : D) (there : E) (told : Dumped) (later : SessionView) (reply : ReplyView) → IsAnswered P (scene_of w) a budb old new told → Stays P old new → C.list there ≡ C.list site
-      → later.config ≡ session.config → later.budb ≡ budb → later.time ≡ told.time → reply.text ≡ told.text → Turned P C w (answered w a) old new there later reply
+      → later.config ≡ session.config → later.budb ≡ budb → later.time ≡ told.time → reply.text ≡ told.text → TurnDone P C w (answered w a) old new there later reply
   dump_turned a budb new there told later reply is stays list config budb_is time text = record {
     done = is.done;
     text = text ∙ is.text;
-    fits = record {
+    stands = record {
       keeps = record { form = is.keeps.form; is = is.keeps.is; fold = ap (λ (b : BudbView). b.database) budb_is ∙ is.keeps.fold };
       time = time ∙ is.time;
-      config = config ∙ fits.config;
+      config = config ∙ stands.config;
       state = is.state;
-      settled = is.settled;
-      slots = stays.slots ∙ fits.slots;
-      present = λ k. ap (λ (p : ℕ → Bool). p k) stays.present ∙ fits.present k;
-      cell = list ∙ fits.cell;
+      slots = stays.slots ∙ stands.slots;
+      present = λ k. ap (λ (p : ℕ → Bool). p k) stays.present ∙ stands.present k;
+      cell = list ∙ stands.cell;
     };
+    settles = is.settled;
   }

@@ -1,15 +1,13 @@
--- How a restore is a turn: the archive of a world stands on the plant that fits, and loads of tapes are nothing where all is settled.
+-- How a restore is a turn: the archive of a world stands on the plant, and by loads of tapes no more is done than that more may be settled.
 use Rattle.std.proofs.Common.{◌≡◌, ℕ, Bool, true, List, [], ◌∷◌, length, refl, sym, ◌∙◌, ap, subst}
 use Rattle.std.specs.Prelude.{slice_get, Option, Some}
 use Rattle.plant_core.specs.declared.plant.Plant.{Ghosts as Plant}
-use Rattle.plant_core.specs.Crashes.{IsSettled, seen_in}
+use Rattle.plant_core.specs.Crashes.{seen_in}
 use Rattle.plant_core.specs.Records.{Record}
 use Rattle.plant_effects.specs.Runs.{state_of, Leaves, Stays}
-use Rattle.plant_effects.proofs.States.{alike_both}
 use Rattle.tape_text.specs.Items.{Read}
 use Rattle.tape_scan.specs.Slots.{Slot}
 use Rattle.tape_scan.specs.Looking.{Loads, LeavesLoads}
-use Rattle.tape_scan.proofs.Looking.{loads_nothing, loads_leave_nothing}
 use Rattle.tape_answers.specs.Slots.{slots_of}
 use Rattle.budb.specs.Views.{BudbView}
 use Rattle.budb_fold.specs.declared.database.Database.{Database}
@@ -20,6 +18,7 @@ use Rattle.backup_words.specs.declared.command.Command.{Command}
 use Rattle.backup_words.specs.declared.command.Command.TheVariants.{Volrestore, Diskrestore, Volsetrestore}
 use Rattle.volume_sets.specs.declared.sets.VolumeSet.{VolumeSet}
 use Rattle.archive_model.specs.Archives.{Archive}
+use Rattle.dump_commands.proofs.Ahead.{ahead_both, loads_ahead, loads_leave}
 use Rattle.restore_commands.specs.Answers.{Manner, one_answer, disk_answer, set_answer, last_cell as last_of}
 use Rattle.restore_commands.specs.Leaving.{IsArchiveOf, IsAnswer}
 use Rattle.backup_session.specs.Views.{SessionView, ReplyView}
@@ -27,8 +26,7 @@ use Rattle.backup_session.specs.Worlds.{World, archive_of, last_cell}
 use Rattle.backup_session.specs.Held.{HoldsArchive, HeldWhere, HeldFor}
 use Rattle.backup_session.specs.Asks.{asks_archive}
 use Rattle.backup_session.specs.Restores.{manner_at, restore_answer, archive_turn}
-use Rattle.backup_session.specs.Fitting.{Fits, Turned, TurnedSomehow, OnTheWay}
-use Rattle.backup_session.proofs.Settling.{settled_alike}
+use Rattle.backup_session.specs.Fitting.{Stands, TurnDone, SomeTurnDone, OnTheWay}
 
 -- what is asked of a world at a command that asks its archive
 pub held_archive : (w : World) (command : Command) → asks_archive command ≡ true → HeldFor w command → HoldsArchive w
@@ -39,33 +37,30 @@ lists_same : (cell : List Stored) (cells : List (List Stored)) → last_of cell 
 lists_same cell [] = refl
 lists_same cell (c ∷ cs) = lists_same c cs
 
-module _ {D E : Type 0} (P : Plant D) (C : Cell E) (w : World) (old : D) (site : E) (session : SessionView) (fits : Fits P C w old site session) where
-  settled_here : P.tells → IsSettled (state_of P old)
-  settled_here told = settled_alike w.state (state_of P old) fits.state fits.settled
-
+module _ {D E : Type 0} (P : Plant D) (C : Cell E) (w : World) (old : D) (site : E) (session : SessionView) (stands : Stands P C w old site session) where
   -- loads leave nothing
   pub restore_leaves : (new : D) → LeavesLoads P old new → Leaves P [] old new
-  restore_leaves new leaves = loads_leave_nothing P old new settled_here leaves
+  restore_leaves new leaves = loads_leave P old new w.state (λ _. stands.state) leaves
 
   -- it was answered, whatever the archive holds: the cell was left with some list
-  pub restored_somehow : (new : D) (there : E) (reply : ReplyView) → P.tells → Loads P old new → Stays P old new → TurnedSomehow P C w old new there session reply
+  pub restored_somehow : (new : D) (there : E) (reply : ReplyView) → P.tells → Loads P old new → Stays P old new → SomeTurnDone P C w old new there session reply
   restored_somehow new there reply told loads stays =
-      let done = loads_nothing P old new settled_here loads in
+      let done = loads_ahead P old new w.state (λ _. stands.state) loads in
       record {
         turn = record { effects = []; reply = reply.text; log = w.log; time = w.time; cells = C.list there ∷ []; contents = w.contents };
         turned = record {
           done = done;
           text = refl;
-          fits = record {
-            keeps = fits.keeps;
-            time = fits.time;
-            config = fits.config;
-            state = alike_both w.state (state_of P old) (state_of P new) fits.state (done.state told);
-            settled = fits.settled;
-            slots = stays.slots ∙ fits.slots;
-            present = λ k. ap (λ (p : ℕ → Bool). p k) stays.present ∙ fits.present k;
+          stands = record {
+            keeps = stands.keeps;
+            time = stands.time;
+            config = stands.config;
+            state = ahead_both w.state (state_of P old) (state_of P new) stands.state (done.state told);
+            slots = stays.slots ∙ stands.slots;
+            present = λ k. ap (λ (p : ℕ → Bool). p k) stays.present ∙ stands.present k;
             cell = refl;
           };
+          settles = λ whole. whole;
         };
         silent = refl;
       }
@@ -79,51 +74,51 @@ module _ {D E : Type 0} (P : Plant D) (C : Cell E) (w : World) (old : D) (site :
     records = held.0;
     holds = held.1;
     slots = record {
-      count = count ∙ sym fits.slots;
+      count = count ∙ sym stands.slots;
       each = λ k s at. record {
-        here = here k s at ∙ sym (fits.present k);
-        items = subst (λ (t : List Record). Read t s.items) (sym (fits.state.tape k)) (items k s at);
+        here = here k s at ∙ sym (stands.present k);
+        items = subst (λ (t : List Record). Read t s.items) (sym (stands.state.tape k)) (items k s at);
       };
     };
-    lists = ap (λ (d : Database). d.listed) (sym (ap (λ (b : BudbView). b.database) is ∙ fits.keeps.fold));
+    lists = ap (λ (d : Database). d.listed) (sym (ap (λ (b : BudbView). b.database) is ∙ stands.keeps.fold));
   }
 
   -- the answer over the world's database, cell and time
   module _ (budb : BudbView) (time : ℕ) (command : Command) (budb_is : budb ≡ session.budb) (time_is : time ≡ session.time) where
     sets_are : budb.database ≡ after w.log
-    sets_are = ap (λ (b : BudbView). b.database) budb_is ∙ fits.keeps.fold
+    sets_are = ap (λ (b : BudbView). b.database) budb_is ∙ stands.keeps.fold
 
     now_is : time ≡ w.time
-    now_is = time_is ∙ fits.time
+    now_is = time_is ∙ stands.time
 
     answer_same : restore_answer (archive_of w) budb.database.sets (C.list site) time command ≡ restore_answer (archive_of w) (after w.log).sets w.cell w.time command
-    answer_same = λ i. restore_answer (archive_of w) (sets_are i).sets (fits.cell i) (now_is i) command
+    answer_same = λ i. restore_answer (archive_of w) (sets_are i).sets (stands.cell i) (now_is i) command
 
     -- it was answered
     pub restore_turned : (new : D) (there : E) (text : List ℕ) (reply : ReplyView) → P.tells → Loads P old new → Stays P old new → reply.text ≡ text
-        → IsAnswer (restore_answer (archive_of w) budb.database.sets (C.list site) time command) text (C.list site) (C.list there) → Turned P C w (archive_turn w command) old new there session reply
+        → IsAnswer (restore_answer (archive_of w) budb.database.sets (C.list site) time command) text (C.list site) (C.list there) → TurnDone P C w (archive_turn w command) old new there session reply
     restore_turned new there text reply told loads stays is answer =
-        let done = loads_nothing P old new settled_here loads in
+        let done = loads_ahead P old new w.state (λ _. stands.state) loads in
         let cells = (restore_answer (archive_of w) (after w.log).sets w.cell w.time command).cells in
         record {
           done = done;
           text = is ∙ answer.reply_is ∙ (λ i. (answer_same i).reply);
-          fits = record {
-            keeps = fits.keeps;
-            time = fits.time;
-            config = fits.config;
-            state = alike_both w.state (state_of P old) (state_of P new) fits.state (done.state told);
-            settled = fits.settled;
-            slots = stays.slots ∙ fits.slots;
-            present = λ k. ap (λ (p : ℕ → Bool). p k) stays.present ∙ fits.present k;
-            cell = answer.list ∙ (λ i. last_of (fits.cell i) (answer_same i).cells) ∙ lists_same w.cell cells;
+          stands = record {
+            keeps = stands.keeps;
+            time = stands.time;
+            config = stands.config;
+            state = ahead_both w.state (state_of P old) (state_of P new) stands.state (done.state told);
+            slots = stays.slots ∙ stands.slots;
+            present = λ k. ap (λ (p : ℕ → Bool). p k) stays.present ∙ stands.present k;
+            cell = answer.list ∙ (λ i. last_of (stands.cell i) (answer_same i).cells) ∙ lists_same w.cell cells;
           };
+          settles = λ whole. whole;
         }
 
     -- the cell on the way
     pub restore_way : (new : List Stored) → OnTheWay (C.list site) (restore_answer (archive_of w) budb.database.sets (C.list site) time command).cells new → OnTheWay w.cell (archive_turn w command).cells new
     restore_way new way =
-        subst (λ (l : List Stored). OnTheWay l (restore_answer (archive_of w) (after w.log).sets w.cell w.time command).cells new) fits.cell
+        subst (λ (l : List Stored). OnTheWay l (restore_answer (archive_of w) (after w.log).sets w.cell w.time command).cells new) stands.cell
         (subst (λ (cs : List (List Stored)). OnTheWay (C.list site) cs new) (λ i. (answer_same i).cells) way)
 
 -- ---- each command's answer

@@ -8,14 +8,14 @@ use Rattle.std.proofs.lemmas.List.{append-nil, map-append, take-append-drop}
 use Rattle.std.proofs.lemmas.List.Elements.{All-nil, All-cons, filter-append}
 use Rattle.std.proofs.lemmas.Grind.{fold-append}
 use Rattle.plant_core.specs.declared.plant.Plant.{Ghosts as Plant}
-use Rattle.plant_core.specs.Crashes.{State, Alike, IsSettled}
+use Rattle.plant_core.specs.Crashes.{State, IsSettled}
 use Rattle.plant_core.specs.Records.{Record}
 use Rattle.plant_core.specs.Effects.{Effect, commits, come}
 use Rattle.plant_effects.specs.Runs.{state_of, Done, Leaves, Stays}
-use Rattle.plant_effects.proofs.States.{alike_both, alike_come, come_append}
-use Rattle.plant_effects.proofs.Joining.{Fits as FitsImages, nothing_done, nothing_left, done_both, leaves_both, leaves_more}
+use Rattle.plant_effects.proofs.States.{come_append}
+use Rattle.plant_effects.proofs.Joining.{Fits as FitsImages, nothing_left, leaves_more}
 use Rattle.tape_scan.specs.Looking.{Loads, LeavesLoads}
-use Rattle.tape_scan.proofs.Looking.{loads_keep_tape, loads_nothing, loads_leave_nothing}
+use Rattle.tape_scan.proofs.Looking.{loads_keep_tape, leaves_loads}
 use Rattle.tape_scan.specs.declared.sections.Sections.{Sections}
 use Rattle.tape_scan.specs.declared.assembling.Found.{Found}
 use Rattle.tape_answers.specs.Scanning.{sections_of}
@@ -33,13 +33,14 @@ use Rattle.budb.specs.Kept.{Keeps}
 use Rattle.backup_replies.specs.declared.refusals.Refusal.TheVariants.{DumpKnown, WrongParent, LogFull}
 use Rattle.backup_replies.specs.Texts.{refused_number, refused_numbers, ok_line}
 use Rattle.backup_replies.specs.Scans.{found_line, added_line}
+use Rattle.dump_commands.specs.Ahead.{IsAhead, DoneAhead}
+use Rattle.dump_commands.proofs.Ahead.{ahead_both, standing_ahead, loads_ahead, loads_leave as loads_leave_ahead, done_ahead_both, leaves_ahead}
 use Rattle.backup_session.specs.Views.{SessionView, ReplyView}
 use Rattle.backup_session.specs.Worlds.{World, Turn, before_reply}
 use Rattle.backup_session.specs.Turns.{said, length_with}
 use Rattle.backup_session.specs.Scanning.{port_of, slots_here, scans_of, stopped_line, left_line, has_wrong_parent, Step, says, recorded, added, added_if, time_with, then_turn, with_front, with_dump, adding, dumps_turn, tapes_turn, slots_turn, scan_turn}
 use Rattle.backup_session.specs.Fitting.{FitsPlant, TurnedPlant, Stepped}
-use Rattle.backup_session.proofs.Settling.{settled_commit, done_behind, leaves_behind}
-use Rattle.backup_session.proofs.Taking.{settled_there}
+use Rattle.backup_session.proofs.Settling.{settled_commit, done_ahead, ahead_behind}
 
 -- ---- slots that are here
 
@@ -90,30 +91,31 @@ scan_again P old mid slots i k more told loads tapes sections tapes_are sections
 
 module _ {D : Type 0} (P : Plant D) (w : World) where
   pub said_stepped : (old : D) (session : SessionView) (text before after : List ℕ) → FitsPlant P w old session → P.sound old → after ≡ before ++ text → Stepped P w (said w text) old old session before after
-  said_stepped old session text before after fits sound is = record { done = nothing_done P old sound; text = is; fits = fits }
+  said_stepped old session text before after fits sound is = record { done = standing_ahead P old w.state sound (λ _. fits.state); text = is; fits = fits; settles = λ whole. whole }
 
   pub front_stepped : (t : Turn) (old new : D) (session : SessionView) (text before mid after : List ℕ) → mid ≡ before ++ text → Stepped P w t old new session mid after → Stepped P w (with_front text t) old new session before after
   front_stepped t old new session text before mid after is stepped = record {
     done = stepped.done;
     text = stepped.text ∙ ap (λ (l : List ℕ). l ++ t.reply) is ∙ append_assoc before text t.reply;
     fits = stepped.fits;
+    settles = stepped.settles;
   }
 
   pub both_stepped : (s t : Turn) (old mid new : D) (one two : SessionView) (before here after : List ℕ) → Stepped P w s old mid one before here → Stepped P (before_reply w s) t mid new two here after → Stepped P w (then_turn s t) old new two before after
   both_stepped s t old mid new one two before here after first second =
       let is = sym (come_append s.effects t.effects w.state) in
       record {
-        done = done_both P s.effects t.effects old mid new first.done second.done;
+        done = done_ahead_both P s.effects t.effects old mid new first.done second.done;
         text = second.text ∙ ap (λ (l : List ℕ). l ++ t.reply) first.text ∙ append_assoc before s.reply t.reply;
         fits = record {
           keeps = subst (λ (x : State). Keeps t.log x.log two.budb) is second.fits.keeps;
           time = second.fits.time;
           config = second.fits.config;
-          state = subst (λ (x : State). Alike x (state_of P new)) is second.fits.state;
-          settled = subst IsSettled is second.fits.settled;
+          state = subst (λ (x : State). IsAhead x (state_of P new)) is second.fits.state;
           slots = second.fits.slots;
           present = second.fits.present;
         };
+        settles = λ whole. subst IsSettled is (second.settles (first.settles whole));
       }
 
 -- loads of tapes leave a world that fits
@@ -122,8 +124,7 @@ loads_fit P w old new session told fits loads stays = record {
   keeps = fits.keeps;
   time = fits.time;
   config = fits.config;
-  state = alike_both w.state (state_of P old) (state_of P new) fits.state ((loads_nothing P old new (λ _. settled_there P w old session fits) loads).state told);
-  settled = fits.settled;
+  state = ahead_both w.state (state_of P old) (state_of P new) fits.state ((loads_ahead P old new w.state (λ _. fits.state) loads).state told);
   slots = stays.slots ∙ fits.slots;
   present = λ k. ap (λ (p : ℕ → Bool). p k) stays.present ∙ fits.present k;
 }
@@ -182,9 +183,10 @@ module _ {D : Type 0} (P : Plant D) (w : World) (old : D) (session : SessionView
       subst (λ (s : Step). Stepped P w s.turn old mid later before after) (sym (when_full (omega (arith, size_is, over))))
       (subst (λ s. Stepped P w full_step.turn old s later before after) (sym same)
       (subst (λ (v : SessionView). Stepped P w full_step.turn old old v before after) (sym stays) (record {
-        done = nothing_done P old sound;
+        done = standing_ahead P old w.state sound (λ _. fits.state);
         text = text ∙ ap (λ (n : ℕ). before ++ refused_number LogFull (n + length (encoded (change.Found d ∷ [])))) size_is;
         fits = fits;
+        settles = λ whole. whole;
       })))
 
   -- it was added
@@ -201,19 +203,20 @@ module _ {D : Type 0} (P : Plant D) (w : World) (old : D) (session : SessionView
   unfolding full_step made_step
   added_stepped mid later before after told never done stays keeps time config text =
       let es = commits (encoded (change.Found d ∷ [])) ∷ [] in
-      let here = alike_both (come es w.state) (come es (state_of P old)) (state_of P mid) (alike_come es w.state (state_of P old) fits.state) (done.state told) in
+      let all = done_ahead P es old mid w.state fits.state done in
+      let here = ahead_behind P es old mid w.state told fits.state all in
       subst (λ (s : Step). Stepped P w s.turn old mid later before after) (sym (with_room (roomy never))) (record {
-        done = done;
+        done = all;
         text = text;
         fits = record {
           keeps = subst (λ (l : List ℕ). Keeps (w.log ++ change.Found d ∷ []) l later.budb) here.log keeps;
           time = time ∙ ap (λ (t : ℕ). time_with t d) fits.time;
           config = config ∙ fits.config;
           state = here;
-          settled = settled_commit (encoded (change.Found d ∷ [])) w.state fits.settled;
           slots = stays.slots ∙ fits.slots;
           present = λ k. ap (λ (p : ℕ → Bool). p k) stays.present ∙ fits.present k;
         };
+        settles = settled_commit (encoded (change.Found d ∷ [])) w.state;
       })
 
 -- what is done of one dump
@@ -299,13 +302,13 @@ module _ {D : Type 0} (P : Plant D) (w : World) where
     unfolding so_far here
     next_full now is = is ∙ ap (λ (s : Step). s.full) same ∙ ap (λ (s : Step). s.full) (adding_more w dumps i d more)
 
-    pub next_leaves : (old mid new : D) → Done P (adding w (take i dumps)).turn.effects old mid → Leaves P (adding w (take i dumps)).turn.effects old mid
+    pub next_leaves : (old mid new : D) → DoneAhead P (adding w (take i dumps)).turn.effects old mid → Leaves P (adding w (take i dumps)).turn.effects old mid
         → Leaves P (added_if (before_reply w (adding w (take i dumps)).turn) full d).turn.effects mid new → Leaves P (adding w (take (i + 1) dumps)).turn.effects old new
     unfolding so_far here
     next_leaves old mid new done first second =
         let step = subst (λ (s : Step). Leaves P s.turn.effects mid new) same second in
         subst (λ (s : Step). Leaves P s.turn.effects old new) (adding_more w dumps i d more)
-        (leaves_both P so_far.turn.effects (added_if here so_far.full d).turn.effects old mid new done first step)
+        (leaves_ahead P so_far.turn.effects (added_if here so_far.full d).turn.effects [] old mid new done first step)
 
   -- the first of them alone
   pub front_leaves : (dumps : List DumpRecordFields) (n : ℕ) (old new : D) → Leaves P (adding w (take n dumps)).turn.effects old new → Leaves P (adding w dumps).turn.effects old new
@@ -336,7 +339,7 @@ module _ {D : Type 0} (P : Plant D) (w : World) (old : D) (session : SessionView
 
   -- an error before anything is added
   pub loads_leave : (mid : D) → LeavesLoads P old mid → Leaves P (scan_turn w dbadd (Ok port)).effects old mid
-  loads_leave mid leaves = leaves_more P [] (scan_turn w dbadd (Ok port)).effects old mid (loads_leave_nothing P old mid (λ _. settled_there P w old session fits) leaves)
+  loads_leave mid leaves = leaves_more P [] (scan_turn w dbadd (Ok port)).effects old mid (loads_leave_ahead P old mid w.state (λ _. fits.state) leaves)
 
   module _ (told : P.tells) (tapes : List Sections) (tapes_are : tapes ≡ scans_of (state_of P old).tape slots) (found : Found) (found_is : found ≡ found_in tapes) (mid : D) (loads : Loads P old mid) where
     scans_are : tapes ≡ scans_of w.state.tape slots
@@ -346,26 +349,23 @@ module _ {D : Type 0} (P : Plant D) (w : World) (old : D) (session : SessionView
     unfolding slots_turn
     parts_are = ap (tapes_turn w dbadd tapes) found_is ∙ ap (λ (ts : List Sections). tapes_turn w dbadd ts (found_in ts)) scans_are ∙ turn_is
 
-    settled : P.tells → IsSettled (state_of P old)
-    settled _ = settled_there P w old session fits
-
     pub dumps_leave : (new : D) → Leaves P (dumps_turn w dbadd found.whole).effects mid new → Leaves P (scan_turn w dbadd (Ok port)).effects old new
-    dumps_leave new leaves = subst (λ (t : Turn). Leaves P t.effects old new) parts_are (leaves_behind P (dumps_turn w dbadd found.whole).effects old mid new settled loads leaves)
+    dumps_leave new leaves = subst (λ (t : Turn). Leaves P t.effects old new) parts_are (leaves_ahead P [] (dumps_turn w dbadd found.whole).effects [] old mid new (loads_ahead P old mid w.state (λ _. fits.state) loads) (loads_leave_ahead P old mid w.state (λ _. fits.state) (leaves_loads P old mid loads)) leaves)
 
     pub scan_turned : (new : D) (later : SessionView) (reply : ReplyView) (stops lines : List ℕ) → stops ≡ flat_map stopped_line tapes → Stepped P w (dumps_turn w dbadd found.whole) mid new later stops lines
         → reply.text ≡ lines ++ (flat_map left_line found.parts ++ ok_line) → TurnedPlant P w (scan_turn w dbadd (Ok port)) old new later reply
     scan_turned new later reply stops lines stops_are stepped text = subst (λ (t : Turn). TurnedPlant P w t old new later reply) parts_are (record {
-      done = done_behind P (dumps_turn w dbadd found.whole).effects old mid new settled loads stepped.done;
+      done = done_ahead_both P [] (dumps_turn w dbadd found.whole).effects old mid new (loads_ahead P old mid w.state (λ _. fits.state) loads) stepped.done;
       text = text ∙ ap (λ (l : List ℕ). l ++ (flat_map left_line found.parts ++ ok_line)) (stepped.text ∙ ap (λ (l : List ℕ). l ++ (dumps_turn w dbadd found.whole).reply) stops_are);
       fits = record {
         keeps = stepped.fits.keeps;
         time = stepped.fits.time;
         config = stepped.fits.config;
         state = stepped.fits.state;
-        settled = stepped.fits.settled;
         slots = stepped.fits.slots;
         present = stepped.fits.present;
       };
+      settles = stepped.settles;
     })
 
 -- the port that a command names is that of the world

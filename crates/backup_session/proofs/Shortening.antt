@@ -3,10 +3,9 @@ use Rattle.std.proofs.Common.{◌≡◌, ⊎_elim, ℕ, ◌<◌, ◌≤◌, Bool
 use Rattle.std.specs.Prelude.{if◌then◌else◌}
 use Rattle.std.proofs.lemmas.Bool.{cases_lt}
 use Rattle.plant_core.specs.declared.plant.Plant.{Ghosts as Plant}
-use Rattle.plant_core.specs.Effects.{replaces, come}
+use Rattle.plant_core.specs.Effects.{replaces}
 use Rattle.plant_effects.specs.Runs.{state_of, Done, Leaves, Stays}
-use Rattle.plant_effects.proofs.States.{alike_both, alike_come}
-use Rattle.plant_effects.proofs.Joining.{Fits as FitsImages, nothing_done, nothing_left}
+use Rattle.plant_effects.proofs.Joining.{Fits as FitsImages, nothing_left}
 use Rattle.budb_changes.specs.declared.change.Change.{Change}
 use Rattle.budb_changes.specs.Bytes.{encoded}
 use Rattle.budb_fold.specs.Database.{after}
@@ -14,6 +13,7 @@ use Rattle.budb_fold.specs.Checkpoints.{checkpoint}
 use Rattle.budb.specs.Kept.{Keeps}
 use Rattle.backup_replies.specs.declared.refusals.Refusal.TheVariants.{LogFull}
 use Rattle.backup_replies.specs.Texts.{refused_number, ok_line}
+use Rattle.dump_commands.proofs.Ahead.{standing_ahead}
 use Rattle.backup_session.specs.declared.verdict.Verdict.TheVariants.{Shortens}
 use Rattle.backup_session.specs.Views.{SessionView, ReplyView}
 use Rattle.backup_session.specs.Worlds.{World, Turn}
@@ -21,7 +21,7 @@ use Rattle.backup_session.specs.Turns.{said}
 use Rattle.backup_session.specs.Machine.{replaced, shortened, carried}
 use Rattle.backup_session.specs.Fitting.{FitsPlant, TurnedPlant}
 use Rattle.backup_session.proofs.Carrying.{full_true, room_false}
-use Rattle.backup_session.proofs.Settling.{settled_replace}
+use Rattle.backup_session.proofs.Settling.{settled_replace, done_ahead, ahead_behind}
 
 -- a plant that fits keeps the log
 pub keeps_there : {D : Type 0} (P : Plant D) (w : World) (old : D) (session : SessionView) → FitsPlant P w old session → Keeps w.log (state_of P old).log session.budb
@@ -44,25 +44,26 @@ list_leaves P w changes old new images over leaves = ⊎_elim
 list_full : {D : Type 0} (P : Plant D) (w : World) (changes : List Change) (old : D) (session : SessionView) (reply : ReplyView) → FitsPlant P w old session → P.sound old → 268435456 < length (encoded changes)
     → reply.text ≡ refused_number LogFull (length (encoded changes)) → TurnedPlant P w (shortened w changes) old old session reply
 list_full P w changes old session reply fits sound full text =
-    subst (λ (t : Turn). TurnedPlant P w t old old session reply) (sym (when_full w changes full)) (record { done = nothing_done P old sound; text = text; fits = fits })
+    subst (λ (t : Turn). TurnedPlant P w t old old session reply) (sym (when_full w changes full)) (record { done = standing_ahead P old w.state sound (λ _. fits.state); text = text; fits = fits; settles = λ whole. whole })
 
 -- the list is the log
 list_turned : {D : Type 0} (P : Plant D) (w : World) (changes : List Change) (old new : D) (session later : SessionView) (reply : ReplyView) → FitsPlant P w old session → P.tells → length (encoded changes) ≤ 268435456
     → Done P (replaces (encoded changes) ∷ []) old new → Stays P old new
     → Keeps changes (state_of P new).log later.budb → later.time ≡ session.time → later.config ≡ session.config → reply.text ≡ ok_line → TurnedPlant P w (shortened w changes) old new later reply
 list_turned P w changes old new session later reply fits told room done stays keeps time config text =
+    let all = done_ahead P (replaces (encoded changes) ∷ []) old new w.state fits.state done in
     subst (λ (t : Turn). TurnedPlant P w t old new later reply) (sym (with_room w changes room)) (record {
-      done = done;
+      done = all;
       text = text;
       fits = record {
         keeps = record { form = keeps.form; is = refl; fold = keeps.fold };
         time = time ∙ fits.time;
         config = config ∙ fits.config;
-        state = alike_both (come (replaces (encoded changes) ∷ []) w.state) (come (replaces (encoded changes) ∷ []) (state_of P old)) (state_of P new) (alike_come (replaces (encoded changes) ∷ []) w.state (state_of P old) fits.state) (done.state told);
-        settled = settled_replace (encoded changes) w.state fits.settled;
+        state = ahead_behind P (replaces (encoded changes) ∷ []) old new w.state told fits.state all;
         slots = stays.slots ∙ fits.slots;
         present = λ k. ap (λ (p : ℕ → Bool). p k) stays.present ∙ fits.present k;
       };
+      settles = settled_replace (encoded changes) w.state;
     })
 
 -- ---- by the database of the session

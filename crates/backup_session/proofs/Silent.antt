@@ -56,7 +56,7 @@ use Rattle.backup_session.specs.Scanning.{port_of, slots_here, scans_of, Step, s
 use Rattle.backup_session.specs.Tapes.{slot_of, read_turn, new_label, taken, labeled, label_turn, tape_turn}
 use Rattle.backup_session.specs.Dumps.{scene_of, asked_of, dump_turn}
 use Rattle.backup_session.specs.Machine.{carried, on_plant, done, turn}
-use Rattle.backup_session.specs.Fitting.{Turned, TurnedSomehow}
+use Rattle.backup_session.specs.Fitting.{TurnDone, SomeTurnDone}
 
 -- ---- effects that tell nothing
 
@@ -252,6 +252,6 @@ turn_silent w now command = done_silent (at_moment w now) command
 
 -- a turn that was done and tells nothing is some turn
 pub somehow : {D E F : Type 0} (P : Plant D) (C : Cell E) (w : World) (t : Turn) (old new : D) (site : E) (session : SessionView) (r : Result ReplyView F) → told_by t.effects ≡ []
-    → IfOk r (λ reply. Turned P C w t old new site session reply) → IfOk r (λ reply. TurnedSomehow P C w old new site session reply)
+    → IfOk r (λ reply. TurnDone P C w t old new site session reply) → IfOk r (λ reply. SomeTurnDone P C w old new site session reply)
 somehow P C w t old new site session (Ok reply) silent turned = record { turn = t; turned = turned; silent = silent }
 somehow P C w t old new site session (Err stop) silent turned = tt

@@ -7,17 +7,18 @@ use Rattle.std.proofs.lemmas.Bool.{cases_lt}
 use Rattle.tape_config.specs.declared.port.PortFields.{PortFields}
 use Rattle.tape_config.specs.Configs.{Settings, port_in}
 use Rattle.plant_core.specs.declared.plant.Plant.{Ghosts as Plant}
-use Rattle.plant_core.specs.Crashes.{State, IsSettled}
+use Rattle.plant_core.specs.Crashes.{State}
 use Rattle.plant_core.specs.Effects.{commits, come}
 use Rattle.plant_effects.specs.Runs.{state_of, Done, Leaves, SameNumbers, Stays}
-use Rattle.plant_effects.proofs.States.{alike_both, alike_come}
-use Rattle.plant_effects.proofs.Joining.{Fits as FitsImages, nothing_done, nothing_left, done_both, leaves_both, leaves_more}
+use Rattle.plant_effects.proofs.Joining.{Fits as FitsImages, nothing_left, leaves_both, leaves_more}
 use Rattle.budb_changes.specs.declared.change.Change.{Change}
 use Rattle.budb_changes.specs.Bytes.{encoded}
 use Rattle.budb_fold.specs.declared.database.HostPort.{HostPort}
 use Rattle.budb_changes.specs.declared.records.DumpRecordFields.{DumpRecordFields}
 use Rattle.budb_fold.specs.declared.database.Database.{Database}
 use Rattle.budb_fold.specs.Database.{after, has_port}
+use Rattle.dump_commands.specs.Ahead.{DoneAhead}
+use Rattle.dump_commands.proofs.Ahead.{standing_ahead, done_ahead_both}
 use Rattle.backup_session.specs.Labels.{label_of}
 use Rattle.budb.specs.Kept.{Keeps}
 use Rattle.tape_frames.specs.declared.label.LabelFields.{LabelFields}
@@ -29,7 +30,7 @@ use Rattle.backup_session.specs.Worlds.{World, Turn}
 use Rattle.backup_session.specs.Turns.{said, length_with}
 use Rattle.backup_session.specs.Tapes.{slot_in, slot_at, slot_of, putting_label, labeled, new_label, taken, label_turn}
 use Rattle.backup_session.specs.Fitting.{FitsPlant, TurnedPlant}
-use Rattle.backup_session.proofs.Settling.{settled_alike, settled_commit, settled_label}
+use Rattle.backup_session.proofs.Settling.{settled_commit, settled_label, done_ahead, ahead_behind}
 
 full_true : (a b : ℕ) → a < b → nat_lt a b ≡ true
 full_true a b lt = grind (arith, nat_tests)
@@ -41,22 +42,13 @@ room_false a b le = grind (arith, nat_tests)
 log_stays : (slot : ℕ) (a : LabelFields) (s : State) → (come (putting_label slot a) s).log ≡ s.log
 log_stays slot a s = refl
 
--- a plant that fits is settled, and still is behind a commit
-pub settled_there : {D : Type 0} (P : Plant D) (w : World) (old : D) (session : SessionView) → FitsPlant P w old session → IsSettled (state_of P old)
-settled_there P w old session fits = settled_alike w.state (state_of P old) fits.state fits.settled
-
-pub settled_behind : {D : Type 0} (P : Plant D) (w : World) (old mid : D) (session : SessionView) (bytes : List ℕ) → FitsPlant P w old session → Done P (commits bytes ∷ []) old mid → P.tells → IsSettled (state_of P mid)
-settled_behind P w old mid session bytes fits done told =
-    settled_alike (come (commits bytes ∷ []) (state_of P old)) (state_of P mid) (done.state told) (settled_commit bytes (state_of P old) (settled_there P w old session fits))
-
 -- calls that only read
 pub still_fits : {D : Type 0} (P : Plant D) (w : World) (old new : D) (session : SessionView) → P.tells → FitsPlant P w old session → Done P [] old new → SameNumbers P old new → Stays P old new → FitsPlant P w new session
 still_fits P w old new session told fits done numbers stays = record {
   keeps = fits.keeps;
   time = fits.time;
   config = fits.config;
-  state = alike_both w.state (state_of P old) (state_of P new) fits.state (done.state told);
-  settled = fits.settled;
+  state = ahead_behind P [] old new w.state told fits.state (done_ahead P [] old new w.state fits.state done);
   slots = stays.slots ∙ fits.slots;
   present = λ k. ap (λ (p : ℕ → Bool). p k) stays.present ∙ fits.present k;
 }
@@ -99,9 +91,10 @@ module _ {D : Type 0} (P : Plant D) (w : World) (old : D) (session : SessionView
       subst (λ (t : Turn). TurnedPlant P w t old mid later reply) (sym (when_full (omega (arith, size_is, over))))
       (subst (λ s. TurnedPlant P w full_turn old s later reply) (sym same)
       (subst (λ (v : SessionView). TurnedPlant P w full_turn old old v reply) (sym stays) (record {
-        done = nothing_done P old sound;
+        done = standing_ahead P old w.state sound (λ _. fits.state);
         text = text ∙ ap (λ (n : ℕ). refused_number LogFull (n + length (encoded (c ∷ [])))) size_is;
         fits = fits;
+        settles = λ whole. whole;
       })))
 
   module _ (mid new : D) (never : 268435456 < (P.view old).log_size + length (encoded (c ∷ [])) → ⊥) (done : Done P (commits (encoded (c ∷ [])) ∷ []) old mid) where
@@ -111,12 +104,13 @@ module _ {D : Type 0} (P : Plant D) (w : World) (old : D) (session : SessionView
     both_leave first second = subst (λ (t : Turn). Leaves P t.effects old new) (sym (with_room (roomy never)))
         (leaves_both P (commits (encoded (c ∷ [])) ∷ []) (putting_label slot a) old mid new done first second)
 
-    pub both_turned : (later : SessionView) (reply : ReplyView) → P.tells → Done P (putting_label slot a) mid new → Stays P old new
+    pub both_turned : (later : SessionView) (reply : ReplyView) → P.tells → DoneAhead P (putting_label slot a) mid new → Stays P old new
         → Keeps (w.log ++ c ∷ []) (state_of P mid).log later.budb → later.time ≡ session.time → later.config ≡ session.config → reply.text ≡ labeled_lines a.afs a.permanent slot → TurnedPlant P w (labeled w slot a (c ∷ [])) old new later reply
     unfolding full_turn made_turn
     both_turned later reply told second stays keeps time config text =
-        let all = done_both P (commits (encoded (c ∷ [])) ∷ []) (putting_label slot a) old mid new done second in
-        let here = alike_both (come (commits (encoded (c ∷ [])) ∷ []) w.state) (come (commits (encoded (c ∷ [])) ∷ []) (state_of P old)) (state_of P mid) (alike_come (commits (encoded (c ∷ [])) ∷ []) w.state (state_of P old) fits.state) (done.state told) in
+        let first = done_ahead P (commits (encoded (c ∷ [])) ∷ []) old mid w.state fits.state done in
+        let all = done_ahead_both P (commits (encoded (c ∷ [])) ∷ []) (putting_label slot a) old mid new first second in
+        let here = ahead_behind P (commits (encoded (c ∷ [])) ∷ []) old mid w.state told fits.state first in
         let log_is : (come (commits (encoded (c ∷ [])) ∷ putting_label slot a) w.state).log ≡ (state_of P mid).log = log_stays slot a (come (commits (encoded (c ∷ [])) ∷ []) w.state) ∙ sym here.log in
         subst (λ (t : Turn). TurnedPlant P w t old new later reply) (sym (with_room (roomy never))) (record {
           done = all;
@@ -125,12 +119,29 @@ module _ {D : Type 0} (P : Plant D) (w : World) (old : D) (session : SessionView
             keeps = subst (λ (l : List ℕ). Keeps (w.log ++ c ∷ []) l later.budb) (sym log_is) keeps;
             time = time ∙ fits.time;
             config = config ∙ fits.config;
-            state = alike_both (come (commits (encoded (c ∷ [])) ∷ putting_label slot a) w.state) (come (commits (encoded (c ∷ [])) ∷ putting_label slot a) (state_of P old)) (state_of P new) (alike_come (commits (encoded (c ∷ [])) ∷ putting_label slot a) w.state (state_of P old) fits.state) (all.state told);
-            settled = settled_label slot a (come (commits (encoded (c ∷ [])) ∷ []) w.state) (settled_commit (encoded (c ∷ [])) w.state fits.settled);
+            state = ahead_behind P (commits (encoded (c ∷ [])) ∷ putting_label slot a) old new w.state told fits.state all;
             slots = stays.slots ∙ fits.slots;
             present = λ k. ap (λ (p : ℕ → Bool). p k) stays.present ∙ fits.present k;
           };
+          settles = λ whole. settled_label slot a (come (commits (encoded (c ∷ [])) ∷ []) w.state) (settled_commit (encoded (c ∷ [])) w.state whole);
         })
+
+-- a tape whose dumps are none that are listed
+pub only_labeled : {D : Type 0} (P : Plant D) (w : World) (old new : D) (session : SessionView) (slot : ℕ) (a : LabelFields) (reply : ReplyView) → FitsPlant P w old session → P.tells → DoneAhead P (putting_label slot a) old new → Stays P old new
+    → reply.text ≡ labeled_lines a.afs a.permanent slot → TurnedPlant P w (labeled w slot a []) old new session reply
+only_labeled P w old new session slot a reply fits told done stays text = record {
+  done = done;
+  text = text;
+  fits = record {
+    keeps = subst (λ (l : List ℕ). Keeps w.log l session.budb) (sym (log_stays slot a w.state)) fits.keeps;
+    time = fits.time;
+    config = fits.config;
+    state = ahead_behind P (putting_label slot a) old new w.state told fits.state done;
+    slots = stays.slots ∙ fits.slots;
+    present = λ k. ap (λ (p : ℕ → Bool). p k) stays.present ∙ fits.present k;
+  };
+  settles = settled_label slot a w.state;
+}
 
 -- ---- where a tape is
 
@@ -147,8 +158,8 @@ slot_same config m n p q hosts offset slot same = ap (λ (r : Result ℕ (List �
 
 -- ---- one after the other
 
-pub front_turned : {D : Type 0} (P : Plant D) (w : World) (t : Turn) (old mid new : D) (later : SessionView) (reply : ReplyView) → Done P [] old mid → TurnedPlant P w t mid new later reply → TurnedPlant P w t old new later reply
-front_turned P w t old mid new later reply first turned = record { done = done_both P [] t.effects old mid new first turned.done; text = turned.text; fits = turned.fits }
+pub front_turned : {D : Type 0} (P : Plant D) (w : World) (t : Turn) (old mid new : D) (session later : SessionView) (reply : ReplyView) → FitsPlant P w old session → Done P [] old mid → TurnedPlant P w t mid new later reply → TurnedPlant P w t old new later reply
+front_turned P w t old mid new session later reply fits first turned = record { done = done_ahead_both P [] t.effects old mid new (done_ahead P [] old mid w.state fits.state first) turned.done; text = turned.text; fits = turned.fits; settles = turned.settles }
 
 -- the turn of a tape whose label was read
 pub labels_are : {D : Type 0} (P : Plant D) (w : World) (old : D) (session : SessionView) → FitsPlant P w old session → (slot : ℕ) (name pname : Option (List ℕ)) (label : Option LabelFields) (l : LabelFields) (listed : List DumpRecordFields) (changes : List Change)
@@ -168,4 +179,4 @@ slot_is P w old session fits config hosts offset slot found config_is hosts_are 
 
 -- nothing but a reply
 pub only_said : {D : Type 0} (P : Plant D) (w : World) (old : D) (session : SessionView) → FitsPlant P w old session → (reply : ReplyView) (text : List ℕ) → P.sound old → reply.text ≡ text → TurnedPlant P w (said w text) old old session reply
-only_said P w old session fits reply text sound is = record { done = nothing_done P old sound; text = is; fits = fits }
+only_said P w old session fits reply text sound is = record { done = standing_ahead P old w.state sound (λ _. fits.state); text = is; fits = fits; settles = λ whole. whole }

@@ -35,7 +35,7 @@ archive_of w = record { log = w.log; slots = slots_of w.setting.slots w.setting.
 
 -- What comes of a command: its effects on the plant but for the reply; the reply; the changes of the journal and the session's time after
 -- it; the lists that the cell has on the way, after each change of it, none where it isn't changed; and what the dumps have behind it. Loading
--- a tape is no effect: what is put away is settled already between two commands.
+-- a tape is no effect: by it more may be settled than they say, and nothing is where all was settled.
 pub record Turn : Type 0 where
   pub effects : List Effect
   pub reply : List ℕ

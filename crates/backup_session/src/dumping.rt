@@ -51,7 +51,7 @@ fn asked_of(
 }
 
 impl Session {
-    ghost use Rattle.backup_session.specs.Fitting.{Fits, Turned, OnTheWay};
+    ghost use Rattle.backup_session.specs.Fitting.{Stands, TurnDone, OnTheWay};
 
     /// Makes a dump, or tells what it is refused by, at the session's time, which takes in the id of a dump that is begun.
     fn make_dump<P: Plant, C: Cell>(
@@ -63,8 +63,8 @@ impl Session {
     ) -> Result<Reply, Stop>
         requires { P.sound plant.old }
         ensures sound { OnOk result (P.sound plant.new) }
-        ensures turned { P.tells → C.tells → (w : World) → Fits P.Plant C.Cell w plant.old cell.old self.old → IfOk result (λ reply. Turned P.Plant C.Cell w (answered w (dump_answer (scene_of w) asked.now)) plant.old plant.new cell.new self.new reply) }
-        ensures leaves { P.tells → C.tells → (w : World) → Fits P.Plant C.Cell w plant.old cell.old self.old → Leaves P.Plant (dump_answer (scene_of w) asked.now).effects plant.old plant.new }
+        ensures turned { P.tells → C.tells → (w : World) → Stands P.Plant C.Cell w plant.old cell.old self.old → IfOk result (λ reply. TurnDone P.Plant C.Cell w (answered w (dump_answer (scene_of w) asked.now)) plant.old plant.new cell.new self.new reply) }
+        ensures leaves { P.tells → C.tells → (w : World) → Stands P.Plant C.Cell w plant.old cell.old self.old → Leaves P.Plant (dump_answer (scene_of w) asked.now).effects plant.old plant.new }
         ensures list { C.tells → C.list cell.new ≡ C.list cell.old }
         ensures stays { StaysQuiet P.Plant plant.old plant.new }
         ensures plant_cause { HasCauseAt Stop.Plant (P.view plant.old).faults (P.view plant.new).faults result }
@@ -97,8 +97,8 @@ impl Session {
     ) -> Result<Reply, Stop>
         requires { P.sound plant.old }
         ensures sound { OnOk result (P.sound plant.new) }
-        ensures turned { P.tells → C.tells → (w : World) → Fits P.Plant C.Cell w plant.old cell.old self.old → IfOk result (λ reply. Turned P.Plant C.Cell w (dump_turn w command.now) plant.old plant.new cell.new self.new reply) }
-        ensures leaves { P.tells → C.tells → (w : World) → Fits P.Plant C.Cell w plant.old cell.old self.old → Leaves P.Plant (dump_turn w command.now).effects plant.old plant.new }
+        ensures turned { P.tells → C.tells → (w : World) → Stands P.Plant C.Cell w plant.old cell.old self.old → IfOk result (λ reply. TurnDone P.Plant C.Cell w (dump_turn w command.now) plant.old plant.new cell.new self.new reply) }
+        ensures leaves { P.tells → C.tells → (w : World) → Stands P.Plant C.Cell w plant.old cell.old self.old → Leaves P.Plant (dump_turn w command.now).effects plant.old plant.new }
         ensures list { C.tells → C.list cell.new ≡ C.list cell.old }
         ensures stays { StaysQuiet P.Plant plant.old plant.new }
         ensures plant_cause { HasCauseAt Stop.Plant (P.view plant.old).faults (P.view plant.new).faults result }

@@ -147,7 +147,7 @@ fn restored<P: Plant, C: Cell>(
 }
 
 impl Session {
-    ghost use Rattle.backup_session.specs.Fitting.{Fits, Turned, TurnedSomehow};
+    ghost use Rattle.backup_session.specs.Fitting.{Stands, TurnDone, SomeTurnDone};
 
     /// A command that asks the archive, at the session's time.
     pub(crate) fn on_archive<P: Plant, C: Cell>(
@@ -159,10 +159,10 @@ impl Session {
     ) -> Result<Reply, Stop>
         requires { P.sound plant.old }
         ensures sound { OnOk result (P.sound plant.new) }
-        ensures turned { P.tells → C.tells → (w : World) → Fits P.Plant C.Cell w plant.old cell.old self.now → HoldsArchive w → IfOk result (λ reply. Turned P.Plant C.Cell w (archive_turn w command.now) plant.old plant.new cell.new self.now reply) }
-        ensures some_turn { P.tells → C.tells → (w : World) → Fits P.Plant C.Cell w plant.old cell.old self.now → IfOk result (λ reply. TurnedSomehow P.Plant C.Cell w plant.old plant.new cell.new self.now reply) }
-        ensures leaves { P.tells → C.tells → (w : World) → Fits P.Plant C.Cell w plant.old cell.old self.now → Leaves P.Plant [] plant.old plant.new }
-        ensures cells { P.tells → C.tells → (w : World) → Fits P.Plant C.Cell w plant.old cell.old self.now → HoldsArchive w → OnTheWay w.cell (archive_turn w command.now).cells (C.list cell.new) }
+        ensures turned { P.tells → C.tells → (w : World) → Stands P.Plant C.Cell w plant.old cell.old self.now → HoldsArchive w → IfOk result (λ reply. TurnDone P.Plant C.Cell w (archive_turn w command.now) plant.old plant.new cell.new self.now reply) }
+        ensures some_turn { P.tells → C.tells → (w : World) → Stands P.Plant C.Cell w plant.old cell.old self.now → IfOk result (λ reply. SomeTurnDone P.Plant C.Cell w plant.old plant.new cell.new self.now reply) }
+        ensures leaves { P.tells → C.tells → (w : World) → Stands P.Plant C.Cell w plant.old cell.old self.now → Leaves P.Plant [] plant.old plant.new }
+        ensures cells { P.tells → C.tells → (w : World) → Stands P.Plant C.Cell w plant.old cell.old self.now → HoldsArchive w → OnTheWay w.cell (archive_turn w command.now).cells (C.list cell.new) }
         ensures stays { StaysQuiet P.Plant plant.old plant.new }
         ensures plant_cause { HasCauseAt Stop.Plant (P.view plant.old).faults (P.view plant.new).faults result }
         ensures cell_cause { HasCauseAt Stop.Cell (C.faults cell.old) (C.faults cell.new) result }

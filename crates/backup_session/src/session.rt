@@ -7,7 +7,6 @@ ghost use Rattle.budb_changes.specs.declared.change.Change.{Change as AnyChange}
 ghost use Rattle.budb_changes.specs.Bytes.{encoded};
 ghost use Rattle.budb_changes.specs.Forms.{AreChanges, IsLog};
 ghost use Rattle.budb_fold.specs.Database.{after};
-ghost use Rattle.plant_core.specs.Crashes.{IsSettled};
 ghost use Rattle.plant_effects.specs.Runs.{state_of, Done, Leaves, OnlyLooks, SameNumbers, StaysQuiet};
 ghost use Rattle.backup_session.specs.declared.verdict.Verdict.TheVariants.{Makes, Shortens};
 ghost use Rattle.backup_session.specs.Worlds.{World, Contents, at_moment};
@@ -53,7 +52,7 @@ impl Model for Session {
 }
 
 impl Session {
-    ghost use Rattle.backup_session.specs.Fitting.{Fits, Turned, TurnedSomehow, OnTheWay, FitsPlant, TurnedPlant};
+    ghost use Rattle.backup_session.specs.Fitting.{Stands, TurnDone, SomeTurnDone, OnTheWay, FitsPlant, TurnedPlant};
     ghost use Rattle.backup_session.specs.Opening.{opened, UnlessFailed};
 
     /// Opens the session of a plant's journal and of a cell. Its time is the greatest of all ids and clone times of the
@@ -65,7 +64,7 @@ impl Session {
         cell: &mut C,
     ) -> Result<Session, OpenStop>
         requires { P.sound plant.old }
-        ensures fits { P.tells → IfOk result (λ session. (log : AnyList AnyChange) × AreChanges log × ((state_of P.Plant plant.old).log ≡ encoded log) × (C.tells → IsSettled (state_of P.Plant plant.old) → (contents : Contents) → Fits P.Plant C.Cell (opened (record { config = config; slots = (P.view plant.old).slots; present = (P.view plant.old).present }) log (C.list cell.old) contents (state_of P.Plant plant.old)) plant.new cell.new session)) }
+        ensures stands { P.tells → IfOk result (λ session. (log : AnyList AnyChange) × AreChanges log × ((state_of P.Plant plant.old).log ≡ encoded log) × (C.tells → (contents : Contents) → Stands P.Plant C.Cell (opened (record { config = config; slots = (P.view plant.old).slots; present = (P.view plant.old).present }) log (C.list cell.old) contents (state_of P.Plant plant.old)) plant.new cell.new session)) }
         ensures bad { P.tells → (at : ℕ) → result ≡ Err (OpenStop.BadLog at) → FailsAt IsLog (state_of P.Plant plant.old).log at }
         ensures listed { P.tells → result ≡ Err OpenStop.Cell → IsLog (state_of P.Plant plant.old).log }
         ensures done { UnlessFailed result (Done P.Plant [] plant.old plant.new) }
@@ -205,10 +204,10 @@ impl Session {
     ) -> Result<Reply, Stop>
         requires { P.sound plant.old }
         ensures sound { OnOk result (P.sound plant.new) }
-        ensures turned { P.tells → C.tells → (w : World) → Fits P.Plant C.Cell w plant.old cell.old self.old → HeldFor w command.now → IfOk result (λ reply. Turned P.Plant C.Cell w (done w command.now) plant.old plant.new cell.new self.new reply) }
-        ensures some_turn { P.tells → C.tells → (w : World) → Fits P.Plant C.Cell w plant.old cell.old self.old → IfOk result (λ reply. TurnedSomehow P.Plant C.Cell w plant.old plant.new cell.new self.new reply) }
-        ensures leaves { P.tells → C.tells → (w : World) → Fits P.Plant C.Cell w plant.old cell.old self.old → Leaves P.Plant (done w command.now).effects plant.old plant.new }
-        ensures cells { P.tells → C.tells → (w : World) → Fits P.Plant C.Cell w plant.old cell.old self.old → HeldFor w command.now → OnTheWay w.cell (done w command.now).cells (C.list cell.new) }
+        ensures turned { P.tells → C.tells → (w : World) → Stands P.Plant C.Cell w plant.old cell.old self.old → HeldFor w command.now → IfOk result (λ reply. TurnDone P.Plant C.Cell w (done w command.now) plant.old plant.new cell.new self.new reply) }
+        ensures some_turn { P.tells → C.tells → (w : World) → Stands P.Plant C.Cell w plant.old cell.old self.old → IfOk result (λ reply. SomeTurnDone P.Plant C.Cell w plant.old plant.new cell.new self.new reply) }
+        ensures leaves { P.tells → C.tells → (w : World) → Stands P.Plant C.Cell w plant.old cell.old self.old → Leaves P.Plant (done w command.now).effects plant.old plant.new }
+        ensures cells { P.tells → C.tells → (w : World) → Stands P.Plant C.Cell w plant.old cell.old self.old → HeldFor w command.now → OnTheWay w.cell (done w command.now).cells (C.list cell.new) }
         ensures stays { StaysQuiet P.Plant plant.old plant.new }
         ensures plant_cause { HasCauseAt Stop.Plant (P.view plant.old).faults (P.view plant.new).faults result }
         ensures cell_cause { HasCauseAt Stop.Cell (C.faults cell.old) (C.faults cell.new) result }
@@ -235,10 +234,10 @@ impl Session {
     ) -> Result<Reply, Stop>
         requires { P.sound plant.old }
         ensures sound { OnOk result (P.sound plant.new) }
-        ensures turned { P.tells → C.tells → (w : World) → Fits P.Plant C.Cell w plant.old cell.old self.old → HeldFor (at_moment w now) command.now → IfOk result (λ reply. Turned P.Plant C.Cell w (turn w now command.now) plant.old plant.new cell.new self.new reply) }
-        ensures some_turn { P.tells → C.tells → (w : World) → Fits P.Plant C.Cell w plant.old cell.old self.old → IfOk result (λ reply. TurnedSomehow P.Plant C.Cell w plant.old plant.new cell.new self.new reply) }
-        ensures leaves { P.tells → C.tells → (w : World) → Fits P.Plant C.Cell w plant.old cell.old self.old → Leaves P.Plant (turn w now command.now).effects plant.old plant.new }
-        ensures cells { P.tells → C.tells → (w : World) → Fits P.Plant C.Cell w plant.old cell.old self.old → HeldFor (at_moment w now) command.now → OnTheWay w.cell (turn w now command.now).cells (C.list cell.new) }
+        ensures turned { P.tells → C.tells → (w : World) → Stands P.Plant C.Cell w plant.old cell.old self.old → HeldFor (at_moment w now) command.now → IfOk result (λ reply. TurnDone P.Plant C.Cell w (turn w now command.now) plant.old plant.new cell.new self.new reply) }
+        ensures some_turn { P.tells → C.tells → (w : World) → Stands P.Plant C.Cell w plant.old cell.old self.old → IfOk result (λ reply. SomeTurnDone P.Plant C.Cell w plant.old plant.new cell.new self.new reply) }
+        ensures leaves { P.tells → C.tells → (w : World) → Stands P.Plant C.Cell w plant.old cell.old self.old → Leaves P.Plant (turn w now command.now).effects plant.old plant.new }
+        ensures cells { P.tells → C.tells → (w : World) → Stands P.Plant C.Cell w plant.old cell.old self.old → HeldFor (at_moment w now) command.now → OnTheWay w.cell (turn w now command.now).cells (C.list cell.new) }
         ensures stays { StaysQuiet P.Plant plant.old plant.new }
         ensures plant_cause { HasCauseAt Stop.Plant (P.view plant.old).faults (P.view plant.new).faults result }
         ensures cell_cause { HasCauseAt Stop.Cell (C.faults cell.old) (C.faults cell.new) result }

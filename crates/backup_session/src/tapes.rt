@@ -2,13 +2,13 @@
 
 ghost use Rattle.std.specs.Prelude.{◌≡◌, ◌≢◌, ◌&&◌, [], ◌∷◌, ◌++◌, ℕ, nat_le, Some, Ok, Err, IfOk, OnOk, IsTrue, IsSome};
 ghost use Rattle.crash_moments.specs.Moments.{HasCauseAt};
-ghost use Rattle.plant_core.specs.Crashes.{IsSettled};
 ghost use Rattle.plant_core.specs.Effects.{puts, settles, cuts};
 ghost use Rattle.plant_core.specs.Records.{block_with, mark};
 ghost use Rattle.plant_effects.specs.Runs.{state_of, loaded_of, OnLoaded, Done, Leaves, SameNumbers, StaysQuiet};
 ghost use Rattle.tape_frames.specs.declared.frame.Frame.TheVariants.{Label as LabelFrame};
 ghost use Rattle.tape_frames.specs.Frames.{spelling};
 ghost use Rattle.backup_replies.specs.Labels.{label_lines};
+ghost use Rattle.dump_commands.specs.Ahead.{DoneAhead};
 ghost use Rattle.backup_session.specs.Labels.{label_of};
 ghost use Rattle.backup_session.specs.Tapes.{slot_in, slot_at, slot_of, label_reply, IsBlank, putting_label};
 
@@ -145,13 +145,13 @@ fn cut_and_put<P: Plant>(plant: &mut P, label: &Label) -> Result<(), Stop>
     put_label(plant, label)
 }
 
-/// Labels the tape in a slot that is here, where all is settled.
+/// Labels the tape in a slot that is here. What was put on a tape that is put away is settled.
 pub(crate) fn write_label<P: Plant>(plant: &mut P, slot: u32, label: &Label) -> Result<(), Stop>
     requires sound { P.sound plant.old }
     requires here { IsTrue ((P.view plant.old).present slot) }
     ensures sound { OnOk result (P.sound plant.new) }
-    ensures done { (P.tells → IsSettled (state_of P.Plant plant.old)) → OnOk result (Done P.Plant (putting_label slot label.now) plant.old plant.new) }
-    ensures leaves { (P.tells → IsSettled (state_of P.Plant plant.old)) → Leaves P.Plant (putting_label slot label.now) plant.old plant.new }
+    ensures done { OnOk result (DoneAhead P.Plant (putting_label slot label.now) plant.old plant.new) }
+    ensures leaves { Leaves P.Plant (putting_label slot label.now) plant.old plant.new }
     ensures stays { StaysQuiet P.Plant plant.old plant.new }
     ensures cause { HasCauseAt Stop.Plant (P.view plant.old).faults (P.view plant.new).faults result }
     ensures never { result ≢ Err Stop.Cell }

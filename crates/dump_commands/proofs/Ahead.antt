@@ -1,10 +1,10 @@
 -- Plants on the way, of whose tapes more may be settled than was asked for.
 use Rattle.std.proofs.Common.{zero, suc, ◌≡◌, ℕ, ◌+◌, ◌≤◌, List, [], ◌∷◌, ◌++◌, length, take, map, Bool, true, false, refl, sym, ◌∙◌, ap, subst, arith, length-append}
 use Rattle.std.specs.Prelude.{if◌then◌else◌, ◌==◌, ◌-◌, Some}
-use Rattle.std.proofs.lemmas.List.{length-map}
+use Rattle.std.proofs.lemmas.List.{length-map, take-map}
 use Rattle.std.proofs.Math.Seq.{take-append-add}
 use Rattle.crash_moments.specs.Telling.{IsFront, Extends}
-use Rattle.crash_moments.proofs.Joining.{joined}
+use Rattle.crash_moments.proofs.Joining.{joined, weakened}
 use Rattle.plant_core.specs.declared.plant.Plant.{Ghosts as Plant}
 use Rattle.plant_core.specs.Crashes.{State, IsTorn, LeftIn, Alike, IsSettled, IsWithin}
 use Rattle.plant_core.specs.Effects.{Effect, commits, replaces, tells, puts, settles, cuts, comes, come, Joint}
@@ -12,12 +12,18 @@ use Rattle.plant_core.specs.Records.{Record}
 use Rattle.plant_core.specs.Stock.{Stock}
 use Rattle.plant_effects.specs.Runs.{state_of, Done, IsStartOf, Leaves}
 use Rattle.plant_effects.proofs.States.{come_append, grows_twice, joint_more}
-use Rattle.dump_commands.specs.Running.{IsAhead, DoneAhead}
+use Rattle.tape_scan.specs.Looking.{Loads, LeavesLoads}
+use Rattle.tape_scan.proofs.Looking.{settling_keeps_told}
+use Rattle.dump_commands.specs.Ahead.{IsAhead, DoneAhead}
 
 -- ---- states
 
 pub ahead_within : (s : State) → IsWithin s → IsAhead s s
 ahead_within s is = record { log = refl; tape = λ k. refl; told = refl; log_settled = refl; more = λ k. omega arith; within = is.tapes }
+
+-- a state is ahead of itself, where it is ahead of any
+pub ahead_itself : (s t : State) → IsAhead s t → IsAhead t t
+ahead_itself s t ahead = record { log = refl; tape = λ k. refl; told = refl; log_settled = refl; more = λ k. omega arith; within = ahead.within }
 
 pub ahead_both : (s t u : State) → IsAhead s t → IsAhead t u → IsAhead s u
 ahead_both s t u first second = record {
@@ -37,16 +43,6 @@ ahead_alike s t u ahead alike = record {
   log_settled = alike.log_settled ∙ ahead.log_settled;
   more = λ k. omega (arith, ahead.more k, alike.settled k);
   within = λ k. omega (arith, ahead.within k, alike.settled k, ap length (alike.tape k));
-}
-
-pub alike_ahead : (s t u : State) → Alike s t → IsAhead t u → IsAhead s u
-alike_ahead s t u alike ahead = record {
-  log = ahead.log ∙ alike.log;
-  tape = λ k. ahead.tape k ∙ alike.tape k;
-  told = ahead.told ∙ alike.told;
-  log_settled = ahead.log_settled ∙ alike.log_settled;
-  more = λ k. omega (arith, ahead.more k, alike.settled k);
-  within = ahead.within;
 }
 
 -- where all is settled, no more can be
@@ -157,6 +153,11 @@ pub ahead_away : (away : List ℕ) (fs : List Effect) (s t : State) → IsAhead 
 ahead_away [] fs s t ahead = ahead_come fs s t ahead
 ahead_away (k ∷ away) fs s t ahead = ahead_away away fs s (comes (settles k) t) (ahead_settles k s t ahead)
 
+-- tapes were put away
+ahead_loaded : (away : List ℕ) (s t : State) → IsAhead s t → IsAhead s (come (map settles away) t)
+ahead_loaded [] s t ahead = ahead
+ahead_loaded (k ∷ away) s t ahead = ahead_loaded away s (comes (settles k) t) (ahead_settles k s t ahead)
+
 less_none : (n : ℕ) → n ≡ n - 0
 less_none n = omega arith
 
@@ -217,6 +218,32 @@ module _ {D : Type 0} (P : Plant D) where
         (λ a b was step. joint_more (state_of P old) es fs a b step)
         (λ a b c was step left next. ahead_then (state_of P old) (state_of P mid) es fs away a b c (done.state told) step.grows next);
     told = λ told. told_ahead_then (state_of P old) (state_of P mid) es fs away (state_of P new).told (done.state told) (second.told told);
+  }
+
+  -- nothing was done to a plant that is ahead of some state
+  pub standing_ahead : (s : D) (t : State) → P.sound s → (P.tells → IsAhead t (state_of P s)) → DoneAhead P [] s s
+  standing_ahead s t sound ahead = record { sound = sound; survives = λ told survives. survives; state = λ told. ahead_itself t (state_of P s) (ahead told) }
+
+  -- tapes were loaded there
+  pub loads_ahead : (old new : D) (t : State) → (P.tells → IsAhead t (state_of P old)) → Loads P old new → DoneAhead P [] old new
+  loads_ahead old new t ahead loads = record {
+    sound = loads.done.sound;
+    survives = loads.done.survives;
+    state = λ told. ahead_alike (state_of P old) (come (map settles loads.away) (state_of P old)) (state_of P new) (ahead_loaded loads.away (state_of P old) (state_of P old) (ahead_itself t (state_of P old) (ahead told))) (loads.done.state told);
+  }
+
+  pub loads_leave : (old new : D) (t : State) → (P.tells → IsAhead t (state_of P old)) → LeavesLoads P old new → Leaves P [] old new
+  loads_leave old new t ahead loads = record {
+    crash = λ told survives. weakened P.time old new (Joint (state_of P old) (map settles loads.away)) (Joint (state_of P old) []) (loads.leaves.crash told survives) (λ a b was step. record {
+      count = 0;
+      within = omega arith;
+      left = ahead_left (state_of P old) (come (take step.count (map settles loads.away)) (state_of P old)) b
+          (subst (λ (es : List Effect). IsAhead (state_of P old) (come es (state_of P old))) (sym (take-map settles step.count loads.away))
+          (ahead_loaded (take step.count loads.away) (state_of P old) (state_of P old) (ahead_itself t (state_of P old) (ahead told))))
+          step.left;
+      grows = step.grows;
+    });
+    told = λ told. subst (IsStartOf (state_of P new).told) (settling_keeps_told loads.away (state_of P old)) (loads.leaves.told told);
   }
 
   -- all is settled in the end

@@ -4,14 +4,13 @@ use Rattle.std.specs.Prelude.{max, Bool, true, false, if◌then◌else◌, Optio
 use Rattle.vnode_model.specs.declared.listed.VolEntry.{VolEntry}
 use Rattle.plant_core.specs.declared.plant.Plant.{Ghosts as Plant}
 use Rattle.plant_effects.specs.Runs.{state_of, Leaves, StaysQuiet}
-use Rattle.plant_effects.proofs.Joining.{leaves_more, leaves_both, done_both, nothing_done}
+use Rattle.plant_effects.proofs.Joining.{leaves_more}
 use Rattle.cell_core.specs.declared.cell.Cell.{Ghosts as Cell}
 use Rattle.cell_core.specs.Calls.{entry_of_stored}
 use Rattle.tape_config.specs.Configs.{Settings}
 use Rattle.tape_config.specs.declared.port.PortFields.{PortFields}
 use Rattle.tape_scan.specs.Slots.{Slot}
 use Rattle.tape_scan.specs.Looking.{HasSlots, Loads, LeavesLoads}
-use Rattle.tape_scan.proofs.Looking.{loads_nothing, loads_leave_nothing}
 use Rattle.tape_choice.specs.Append.{AreWhole}
 use Rattle.budb.specs.Views.{BudbView}
 use Rattle.dump_job.specs.declared.fault.JobFault.{JobFault}
@@ -33,11 +32,11 @@ use Rattle.dump_commands.specs.Trials.{trial_text}
 use Rattle.dump_commands.specs.Courses.{Point, course}
 use Rattle.dump_commands.specs.Running.{IsAtPoint}
 use Rattle.dump_commands.specs.Answers.{Answer, said, commit_of, begun_point, begun, tape_for, refused_or, begun_or, real_answer, trial_answer, order_answer, port_answer, dump_answer, IsAnswered, IsFinished}
-use Rattle.dump_commands.proofs.Ahead.{leaves_ahead}
+use Rattle.dump_commands.proofs.Ahead.{standing_ahead, loads_ahead, loads_leave, done_ahead_both, leaves_ahead}
 use Rattle.dump_commands.proofs.Passing.{FoundTape, passes, found_tape}
 use Rattle.dump_commands.proofs.Ways.{SlotLaws}
 use Rattle.dump_commands.proofs.Steps.{IsReady}
-use Rattle.dump_commands.proofs.Scenes.{scene_slots, scene_whole, scene_later, scene_settled, tape_told, answered_said, begun_done, begun_at, begin_left, begun_answered}
+use Rattle.dump_commands.proofs.Scenes.{scene_slots, scene_whole, scene_later, tape_told, answered_said, begun_done, begun_at, begin_left, begun_answered}
 
 -- ---- a dump that is begun
 
@@ -100,7 +99,7 @@ module _ {D E : Type 0} (P : Plant D) (C : Cell E) (s : Scene) (o : DumpOrder) (
 
 module _ {D E : Type 0} (P : Plant D) (C : Cell E) (s : Scene) (o : DumpOrder) (budb : BudbView) (old : D) (site : E) (told : P.tells) (is : IsScene P C s budb old site) where
   search_left : (mid : D) (a : Answer) → LeavesLoads P old mid → Leaves P a.effects old mid
-  search_left mid a left = leaves_more P [] a.effects old mid (loads_leave_nothing P old mid (λ _. scene_settled P C s budb old site is) left)
+  search_left mid a left = leaves_more P [] a.effects old mid (loads_leave P old mid s.state (λ _. is.state) left)
 
   pub real_left : (mid : D) → LeavesLoads P old mid → Leaves P (real_answer s o).effects old mid
   real_left mid left = search_left mid (real_answer s o) left
@@ -121,7 +120,7 @@ module _ {D E : Type 0} (P : Plant D) (C : Cell E) (s : Scene) (o : DumpOrder) (
     pub refused_answered : (text : List ℕ) (d : Dumped) → refusal_by entries o fault ≡ Some text → Loads P old mid → d.text ≡ text → d.time ≡ s.time → IsAnswered P s (real_answer s o) budb old mid d
     refused_answered text d refused loads text_is time =
         subst (λ (a : Answer). IsAnswered P s a budb old mid d) (sym (real_refused text refused))
-        (answered_said P C s told budb old mid site text d is (loads_nothing P old mid (λ _. scene_settled P C s budb old site is) loads) text_is time)
+        (answered_said P C s told budb old mid site text d is (loads_ahead P old mid s.state (λ _. is.state) loads) text_is time)
 
     pub passed_tape : refusal_by entries o fault ≡ None → FoundTape (tape_for s o)
     passed_tape passed = found_tape (tape_for s o) (sym fault_is ∙ (passes entries o fault passed).fault)
@@ -131,14 +130,14 @@ module _ {D E : Type 0} (P : Plant D) (C : Cell E) (s : Scene) (o : DumpOrder) (
     real_begun t found passed = ap (λ (r : Option (List ℕ)). refused_or s r (begun_or s o (tape_for s o))) (by_scene ∙ passed) ∙ ap (begun_or s o) found
 
     passed_scene : Loads P old mid → StaysQuiet P old mid → IsScene P C s budb mid site
-    passed_scene loads stays = scene_later P C s told budb old mid site site is (loads_nothing P old mid (λ _. scene_settled P C s budb old site is) loads) stays refl
+    passed_scene loads stays = scene_later P C s told budb old mid site site is (loads_ahead P old mid s.state (λ _. is.state) loads) stays refl
 
     pub passed_answered : refusal_by entries o fault ≡ None → Loads P old mid → StaysQuiet P old mid → (budb_after : BudbView) (new : D) (d : Dumped) → ((t : FirstTape) → IsScene P C s budb mid site → tape_for s o ≡ Ok t → IsAnswered P s (begun s o t) budb_after mid new d) → IsAnswered P s (real_answer s o) budb_after old new d
     passed_answered passed loads stays budb_after new d makes =
         let found : FoundTape (tape_for s o) = passed_tape passed in
         let made : IsAnswered P s (begun s o found.tape) budb_after mid new d = makes found.tape (passed_scene loads stays) found.is in
         subst (λ (a : Answer). IsAnswered P s a budb_after old new d) (sym (real_begun found.tape found.is passed)) (record {
-          done = done_both P [] (begun s o found.tape).effects old mid new (loads_nothing P old mid (λ _. scene_settled P C s budb old site is) loads) made.done;
+          done = done_ahead_both P [] (begun s o found.tape).effects old mid new (loads_ahead P old mid s.state (λ _. is.state) loads) made.done;
           text = made.text;
           time = made.time;
           keeps = made.keeps;
@@ -155,7 +154,7 @@ module _ {D E : Type 0} (P : Plant D) (C : Cell E) (s : Scene) (o : DumpOrder) (
     passed_left passed loads left stays new makes =
         let found : FoundTape (tape_for s o) = passed_tape passed in
         subst (λ (a : Answer). Leaves P a.effects old new) (sym (real_begun found.tape found.is passed))
-        (leaves_both P [] (begun s o found.tape).effects old mid new (loads_nothing P old mid (λ _. scene_settled P C s budb old site is) loads) (loads_leave_nothing P old mid (λ _. scene_settled P C s budb old site is) left) (makes found.tape (passed_scene loads stays) found.is))
+        (leaves_ahead P [] (begun s o found.tape).effects [] old mid new (loads_ahead P old mid s.state (λ _. is.state) loads) (loads_leave P old mid s.state (λ _. is.state) left) (makes found.tape (passed_scene loads stays) found.is))
 
 -- ---- an order, a trial or not
 
@@ -177,7 +176,7 @@ order_real s a o is = ap (λ (b : Bool). if b then trial_answer s o else real_an
 pub trial_answered : {D E : Type 0} (P : Plant D) (C : Cell E) (s : Scene) (a : DumpCommand) (o : DumpOrder) (budb : BudbView) (old : D) (site : E) (d : Dumped) → a.trial ≡ true → P.sound old → P.tells → IsScene P C s budb old site → d.text ≡ (trial_answer s o).reply → d.time ≡ s.time → IsAnswered P s (order_answer s a o) budb old old d
 trial_answered P C s a o budb old site d trial sound told is text time =
     subst (λ (x : Answer). IsAnswered P s x budb old old d) (sym (order_trial s a o trial ∙ trial_said s o))
-    (answered_said P C s told budb old old site (trial_answer s o).reply d is (nothing_done P old sound) text time)
+    (answered_said P C s told budb old old site (trial_answer s o).reply d is (standing_ahead P old s.state sound (λ _. is.state)) text time)
 
 pub trial_told : {D E : Type 0} (P : Plant D) (C : Cell E) (s : Scene) (a : DumpCommand) (o : DumpOrder) (budb : BudbView) (old : D) (site : E) (r : Result Dumped DumpStop) → a.trial ≡ true → P.sound old → P.tells → IsScene P C s budb old site
     → IfOk r (λ (d : Dumped). (d.text ≡ (trial_answer s o).reply) × (d.time ≡ s.time)) → IfOk r (IsAnswered P s (order_answer s a o) budb old old)
@@ -191,7 +190,6 @@ pub scene_read : {D E : Type 0} (P : Plant D) (C : Cell E) (s : Scene) (budb : B
 scene_read P C s budb plant site site_after is same = record {
   keeps = is.keeps;
   state = is.state;
-  settled = is.settled;
   slots = is.slots;
   present = is.present;
   cell = same ∙ is.cell;
@@ -202,7 +200,7 @@ unfolding dump_answer
 dump_refused P C s used a now budb old site text d sound told finds asked same time =
     subst (λ (x : Answer). IsAnswered P s x budb old old d)
     (sym (ap (port_answer s a) ((λ i. asked_port (sym finds.config i) (sym finds.scene.keeps.fold i) a) ∙ asked)))
-    (answered_said P C s told budb old old site text d finds.scene (nothing_done P old sound) same (time ∙ finds.time))
+    (answered_said P C s told budb old old site text d finds.scene (standing_ahead P old s.state sound (λ _. finds.scene.state)) same (time ∙ finds.time))
 
 pub dump_ordered : {D E : Type 0} (P : Plant D) (C : Cell E) (s : Scene) (used : Settings) (a : DumpCommand) (now : ℕ) (budb : BudbView) (old : D) (site : E) (entries : List VolEntry) (port : PortFields) (o : DumpOrder) → Finds P C s used budb old site now → asked_port used budb.database a ≡ Ok port → entries ≡ map entry_of_stored (C.list site) → o ≡ order_of used budb.database entries now a port → order_answer s a o ≡ dump_answer s a
 unfolding dump_answer

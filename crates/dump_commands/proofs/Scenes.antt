@@ -4,11 +4,11 @@ use Rattle.std.specs.Prelude.{Some, None, Result, Ok, not, IsTrue}
 use Rattle.std.specs.List.{list_any}
 use Rattle.std.proofs.lemmas.Bool.{false≢true}
 use Rattle.plant_core.specs.declared.plant.Plant.{Ghosts as Plant}
-use Rattle.plant_core.specs.Crashes.{State, Alike, IsSettled, IsWithin}
+use Rattle.plant_core.specs.Crashes.{State, IsSettled, IsWithin}
 use Rattle.plant_core.specs.Effects.{Effect, commits, settles, come}
 use Rattle.plant_core.specs.Records.{Record, block_with, mark, bad, NoBad}
-use Rattle.plant_effects.specs.Runs.{state_of, Done, Leaves, StaysQuiet}
-use Rattle.plant_effects.proofs.States.{alike_both, alike_come, come_append}
+use Rattle.plant_effects.specs.Runs.{state_of, Leaves, StaysQuiet}
+use Rattle.plant_effects.proofs.States.{come_append}
 use Rattle.plant_effects.proofs.Joining.{Fits, nothing_left}
 use Rattle.cell_core.specs.declared.cell.Cell.{Ghosts as Cell}
 use Rattle.tape_scan.specs.Looking.{HasSlots}
@@ -27,10 +27,11 @@ use Rattle.dump_commands.specs.declared.running.End.{End}
 use Rattle.dump_commands.specs.declared.told.Dumped.{Dumped}
 use Rattle.dump_commands.specs.Scenes.{Scene, slots_in, is_bad, whole_in, IsScene}
 use Rattle.dump_commands.specs.Courses.{Course, course}
-use Rattle.dump_commands.specs.Running.{IsAhead, DoneAhead, IsAtPoint, IsEnded, answer_of}
+use Rattle.dump_commands.specs.Ahead.{IsAhead, DoneAhead}
+use Rattle.dump_commands.specs.Running.{IsAtPoint, IsEnded, answer_of}
 use Rattle.dump_commands.specs.Answers.{said, begin_of, commit_of, begun_point, end_line, ended, begun, tape_for, IsAnswered}
-use Rattle.dump_commands.proofs.Ahead.{alike_ahead, nothing_ahead, behind_loads, done_ahead_both, leaves_ahead, ahead_done}
-use Rattle.dump_commands.proofs.Settling.{commit_settled, settled_alike}
+use Rattle.dump_commands.proofs.Ahead.{ahead_both, ahead_come, nothing_ahead, behind_loads, done_ahead_both, leaves_ahead}
+use Rattle.dump_commands.proofs.Settling.{commit_settled}
 use Rattle.dump_commands.proofs.Ways.{SlotLaws, has_slots}
 
 -- ---- tapes without a bad record
@@ -74,28 +75,24 @@ module _ {D E : Type 0} (P : Plant D) (C : Cell E) (s : Scene) where
       λ i. first_tape (is.keeps.fold i) (slots_in s) (whole_in s) o (size i)
 
   -- tapes were loaded, and nothing else is otherwise
-  pub scene_later : P.tells → (budb : BudbView) (old new : D) (site site_after : E) → IsScene P C s budb old site → Done P [] old new → StaysQuiet P old new → C.list site_after ≡ C.list site → IsScene P C s budb new site_after
+  pub scene_later : P.tells → (budb : BudbView) (old new : D) (site site_after : E) → IsScene P C s budb old site → DoneAhead P [] old new → StaysQuiet P old new → C.list site_after ≡ C.list site → IsScene P C s budb new site_after
   scene_later told budb old new site site_after is done stays list = record {
     keeps = is.keeps;
-    state = alike_both s.state (state_of P old) (state_of P new) is.state (done.state told);
-    settled = is.settled;
+    state = ahead_both s.state (state_of P old) (state_of P new) is.state (done.state told);
     slots = stays.stays.slots ∙ is.slots;
     present = λ k. ap (λ (f : ℕ → Bool). f k) stays.stays.present ∙ is.present k;
     cell = list ∙ is.cell;
   }
 
-  pub scene_settled : (budb : BudbView) (plant : D) (site : E) → IsScene P C s budb plant site → IsSettled (state_of P plant)
-  scene_settled budb plant site is = settled_alike s.state (state_of P plant) is.state is.settled
-
   -- nothing but a reply
-  pub answered_said : P.tells → (budb : BudbView) (old new : D) (site : E) (text : List ℕ) (d : Dumped) → IsScene P C s budb old site → Done P [] old new → d.text ≡ text → d.time ≡ s.time → IsAnswered P s (said s text) budb old new d
+  pub answered_said : P.tells → (budb : BudbView) (old new : D) (site : E) (text : List ℕ) (d : Dumped) → IsScene P C s budb old site → DoneAhead P [] old new → d.text ≡ text → d.time ≡ s.time → IsAnswered P s (said s text) budb old new d
   answered_said told budb old new site text d is done same time = record {
     done = done;
     text = same;
     time = time;
     keeps = is.keeps;
-    state = alike_both s.state (state_of P old) (state_of P new) is.state (done.state told);
-    settled = is.settled;
+    state = ahead_both s.state (state_of P old) (state_of P new) is.state (done.state told);
+    settled = λ whole. whole;
   }
 
   -- ---- a dump is begun
@@ -123,12 +120,12 @@ module _ {D E : Type 0} (P : Plant D) (C : Cell E) (s : Scene) where
     begun_at laws told sound within log_told is found budb_after new job begun stays =
         let tape : begun.tape ≡ t = the_tape laws told log_told is found budb_after new job begun in
         let done : DoneAhead P (commit_of s o t) old new = begun_done laws told sound within log_told is found budb_after new job begun in
-        let ahead : IsAhead (come (commit_of s o t) s.state) (state_of P new) = alike_ahead (come (commit_of s o t) s.state) (come (commit_of s o t) (state_of P old)) (state_of P new) (alike_come (commit_of s o t) s.state (state_of P old) is.state) (done.state told) in
+        let ahead : IsAhead (come (commit_of s o t) s.state) (state_of P new) = ahead_both (come (commit_of s o t) s.state) (come (commit_of s o t) (state_of P old)) (state_of P new) (ahead_come (commit_of s o t) s.state (state_of P old) is.state) (done.state told) in
         let kept : Keeps (s.log ++ begin_changes (id_of o budb.database) begun.tape.take) (state_of P new).log budb_after = begun.keeps told s.log (subst (λ (l : List ℕ). Keeps s.log l budb) (sym is.state.log) is.keeps) in
         record {
           keeps = subst (λ (l : List ℕ). Keeps (s.log ++ begin_of s o t) l budb_after) ahead.log (subst (λ (x : Database × FirstTape). Keeps (s.log ++ begin_changes (id_of o x.0) x.1.take) (state_of P new).log budb_after) (λ i. (is.keeps.fold i, tape i)) kept);
           state = ahead;
-          settled = commit_settled (encoded (begin_of s o t)) s.state is.settled;
+          settled = λ whole. commit_settled (encoded (begin_of s o t)) s.state whole;
           slots = stays.stays.slots ∙ is.slots;
           present = λ k. ap (λ (f : ℕ → Bool). f k) stays.stays.present ∙ is.present k;
           cell = is.cell;
@@ -151,14 +148,12 @@ module _ {D E : Type 0} (P : Plant D) (C : Cell E) (s : Scene) where
         let c : Course = course s (begun_point s o t) in
         let es : List Effect = commit_of s o t ++ (course s (begun_point s o t)).effects in
         let joined : come (commit_of s o t ++ (course s (begun_point s o t)).effects) s.state ≡ come (course s (begun_point s o t)).effects (come (commit_of s o t) s.state) = come_append (commit_of s o t) (course s (begun_point s o t)).effects s.state in
-        let settled : IsSettled (come (commit_of s o t ++ (course s (begun_point s o t)).effects) s.state) = subst IsSettled (sym joined) ended.over.settled in
-        let alike : Alike (come (commit_of s o t ++ (course s (begun_point s o t)).effects) s.state) (come (commit_of s o t ++ (course s (begun_point s o t)).effects) (state_of P old)) = alike_come (commit_of s o t ++ (course s (begun_point s o t)).effects) s.state (state_of P old) is.state in
-        let done : Done P (commit_of s o t ++ (course s (begun_point s o t)).effects) old new = ahead_done P (commit_of s o t ++ (course s (begun_point s o t)).effects) old new (λ _. settled_alike _ _ alike settled) (done_ahead_both P (commit_of s o t) (course s (begun_point s o t)).effects old mid new first ended.done) in
+        let done : DoneAhead P (commit_of s o t ++ (course s (begun_point s o t)).effects) old new = done_ahead_both P (commit_of s o t) (course s (begun_point s o t)).effects old mid new first ended.done in
         record {
           done = done;
           text = text ∙ (λ i. end_line o.set o.port.offset (ended.over.keeps.fold i).listed (sym ended.answer i));
           time = time;
           keeps = subst (λ (l : List ℕ). Keeps (course s (begun_point s o t)).log l budb_after) (sym (ap (λ (u : State). u.log) joined)) ended.over.keeps;
-          state = alike_both _ _ _ alike (done.state told);
-          settled = settled;
+          state = ahead_both (come es s.state) (come es (state_of P old)) (state_of P new) (ahead_come es s.state (state_of P old) is.state) (done.state told);
+          settled = λ whole. subst IsSettled (sym joined) (ended.over.settled whole);
         }

@@ -1,8 +1,8 @@
 -- What is settled of the tapes when records are put on one of them: all but that one, and that one too behind a filemark.
-use Rattle.std.proofs.Common.{◌≡◌, ◌≢◌, ℕ, List, [], ◌∷◌, length, take, false, inl, inr, refl, sym, ◌∙◌, ap}
+use Rattle.std.proofs.Common.{◌≡◌, ◌≢◌, ℕ, List, [], ◌∷◌, length, take, false, inl, inr, refl, sym, ◌∙◌}
 use Rattle.std.specs.Prelude.{if◌then◌else◌, ◌==◌}
 use Rattle.std.proofs.lemmas.Bool.{cases_Bool, eqb-true, eq-eqb, false≢true}
-use Rattle.plant_core.specs.Crashes.{State, IsSettled, Alike}
+use Rattle.plant_core.specs.Crashes.{State, IsSettled}
 use Rattle.plant_core.specs.Effects.{commits, puts, settles, cuts, comes, come}
 use Rattle.plant_core.specs.Records.{Record, mark}
 use Rattle.plant_effects.proofs.States.{come_append}
@@ -63,9 +63,3 @@ unfolding puts_on
 end_settled slot i s is =
     let marked : IsSettled (comes (settles slot) (comes (puts slot mark) (come (put_on slot i) s))) = mark_settled slot (comes (puts slot mark) (come (put_on slot i) s)) (put_settled slot mark (come (put_on slot i) s) (put_item slot i s is)) in
     rw (come_append (put_on slot i) (puts_on slot (Filemark ∷ [])) s) marked
-
-pub settled_alike : (s t : State) → Alike s t → IsSettled s → IsSettled t
-settled_alike s t alike is = record {
-  log = alike.log_settled ∙ is.log ∙ sym (ap length alike.log);
-  tapes = λ k. alike.settled k ∙ is.tapes k ∙ sym (ap length (alike.tape k));
-}

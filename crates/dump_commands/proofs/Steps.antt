@@ -19,7 +19,8 @@ use Rattle.dump_commands.specs.declared.running.End.{End}
 use Rattle.dump_commands.specs.declared.running.End.TheVariants.{Made, Refused}
 use Rattle.dump_commands.specs.Scenes.{Scene}
 use Rattle.dump_commands.specs.Courses.{Point, goes_on, around, next_event}
-use Rattle.dump_commands.specs.Running.{DoneAhead, IsAtPoint, Moves, answer_of}
+use Rattle.dump_commands.specs.Ahead.{DoneAhead}
+use Rattle.dump_commands.specs.Running.{IsAtPoint, Moves, answer_of}
 use Rattle.dump_commands.proofs.Ways.{SlotLaws, point_around, the_event, event_done, event_leaves, event_point, event_over}
 
 -- what is known of a plant in front of a step

@@ -27,7 +27,8 @@ use Rattle.dump_commands.specs.declared.running.End.{End}
 use Rattle.dump_commands.specs.declared.running.End.TheVariants.{Made, Refused}
 use Rattle.dump_commands.specs.Scenes.{Scene}
 use Rattle.dump_commands.specs.Courses.{Point, Course, goes_on, around, next_event, behind, last_event, course}
-use Rattle.dump_commands.specs.Running.{IsAhead, DoneAhead, IsAtPoint, IsOver, IsOnWay, IsEnded, answer_of}
+use Rattle.dump_commands.specs.Ahead.{IsAhead, DoneAhead}
+use Rattle.dump_commands.specs.Running.{IsAtPoint, IsOver, IsOnWay, IsEnded, answer_of}
 use Rattle.dump_commands.proofs.Ahead.{ahead_both, ahead_come, nothing_ahead, behind_loads, done_ahead_both, leaves_ahead}
 use Rattle.dump_commands.proofs.SettledCourses.{behind_settled_point, settled_over}
 use Rattle.dump_commands.proofs.CourseLaws.{course_more, course_last}
@@ -107,7 +108,7 @@ module _ {D E : Type 0} (P : Plant D) (C : Cell E) (s : Scene) where
     event_point told at done does stepped stays list = record {
       keeps = event_keeps told at done does stepped;
       state = event_ahead told at done;
-      settled = behind_settled_point s p at.settled;
+      settled = λ whole. behind_settled_point s p (at.settled whole);
       slots = stays.stays.slots ∙ at.slots;
       present = λ k. ap (λ (f : ℕ → Bool). f k) stays.stays.present ∙ at.present k;
       cell = list ∙ at.cell;
@@ -115,10 +116,10 @@ module _ {D E : Type 0} (P : Plant D) (C : Cell E) (s : Scene) where
     }
 
     pub event_over : P.tells → IsAtPoint P C s p budb old site job → DoneAhead P (next_event s p).effects old new → Does P (next_event s p) answer budb budb_after old new job_after → HasStepped answer
-        → job_after.phase ≡ phase.Over → IsOver (p.log ++ (next_event s p).changes) (come (next_event s p).effects p.state) budb_after
+        → job_after.phase ≡ phase.Over → IsOver s.state (p.log ++ (next_event s p).changes) (come (next_event s p).effects p.state) budb_after
     event_over told at done does stepped over = record {
       keeps = event_keeps told at done does stepped;
-      settled = settled_over (next_event s p).job (come (next_event s p).effects p.state) (sym (ap (λ (j : JobFields). j.phase) (does.job stepped)) ∙ over) (behind_settled_point s p at.settled);
+      settled = λ whole. settled_over (next_event s p).job (come (next_event s p).effects p.state) (sym (ap (λ (j : JobFields). j.phase) (does.job stepped)) ∙ over) (behind_settled_point s p (at.settled whole));
     }
 
   -- ---- the way
@@ -159,10 +160,10 @@ module _ {D E : Type 0} (P : Plant D) (C : Cell E) (s : Scene) where
         }
 
     IsEndedBy : Course → End → BudbView → D → Type 0
-    IsEndedBy c end budb new = (c.answer ≡ answer_of end) × IsOver c.log (come c.effects p.state) budb × DoneAhead P c.effects old new
+    IsEndedBy c end budb new = (c.answer ≡ answer_of end) × IsOver s.state c.log (come c.effects p.state) budb × DoneAhead P c.effects old new
 
     pub end_way : (end : End) (budb budb_after : BudbView) (mid new : D) (site : E) (job : JobFields) (way : IsOnWay P C s p old budb mid site job)
-        → (next_event s way.now).answer ≡ answer_of end → IsOver (way.now.log ++ (next_event s way.now).changes) (come (next_event s way.now).effects way.now.state) budb_after
+        → (next_event s way.now).answer ≡ answer_of end → IsOver s.state (way.now.log ++ (next_event s way.now).changes) (come (next_event s way.now).effects way.now.state) budb_after
         → DoneAhead P (next_event s way.now).effects mid new → IsEnded P s p end budb_after old new
     unfolding IsEndedBy
     end_way end budb budb_after mid new site job way told over done =
@@ -171,7 +172,7 @@ module _ {D E : Type 0} (P : Plant D) (C : Cell E) (s : Scene) where
         let whole : Course = record { effects = way.effects ++ (next_event s way.now).effects; log = way.now.log ++ (next_event s way.now).changes; answer = (next_event s way.now).answer } in
         let is : course s p ≡ whole = way.rest ∙ ap (λ (c : Course). record { effects = way.effects ++ c.effects; log = c.log; answer = c.answer }) last in
         let state : come (next_event s way.now).effects way.now.state ≡ come whole.effects p.state = ap (come (next_event s way.now).effects) way.state ∙ sym (come_append way.effects (next_event s way.now).effects p.state) in
-        let by : IsEndedBy whole end budb_after new = (told, subst (λ (t : State). IsOver whole.log t budb_after) state over, done_ahead_both P way.effects (next_event s way.now).effects old mid new way.done done) in
+        let by : IsEndedBy whole end budb_after new = (told, subst (λ (t : State). IsOver s.state whole.log t budb_after) state over, done_ahead_both P way.effects (next_event s way.now).effects old mid new way.done done) in
         let ended : IsEndedBy (course s p) end budb_after new = subst (λ (c : Course). IsEndedBy c end budb_after new) (sym is) by in
         record { answer = ended.0; over = ended.1; done = ended.2 }
 

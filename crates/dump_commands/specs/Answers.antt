@@ -4,9 +4,9 @@ use Rattle.bk_text.specs.Blanks.{is_same_text}
 use Rattle.vnode_model.specs.declared.listed.VolEntry.{VolEntry}
 use Rattle.vnode_model.specs.declared.volumes.VolumeFields.{VolumeFields}
 use Rattle.plant_core.specs.declared.plant.Plant.{Ghosts as Plant}
-use Rattle.plant_core.specs.Crashes.{Alike, IsSettled}
+use Rattle.plant_core.specs.Crashes.{IsSettled}
 use Rattle.plant_core.specs.Effects.{Effect, commits, come}
-use Rattle.plant_effects.specs.Runs.{state_of, Done as DoneAll}
+use Rattle.plant_effects.specs.Runs.{state_of}
 use Rattle.cell_core.specs.declared.stored.Stored.{Stored}
 use Rattle.cell_core.specs.declared.stored.Taken.{Taken}
 use Rattle.cell_core.specs.Calls.{entry_at, clone_at}
@@ -31,6 +31,7 @@ use Rattle.dump_job.specs.Beginning.{id_of, begin_changes, begun_job, first_tape
 use Rattle.dump_commands.specs.declared.command.DumpCommand.{DumpCommand}
 use Rattle.dump_commands.specs.declared.running.End.{End}
 use Rattle.dump_commands.specs.declared.told.Dumped.{Dumped}
+use Rattle.dump_commands.specs.Ahead.{IsAhead, DoneAhead}
 use Rattle.dump_commands.specs.Scenes.{Scene, database_in, slots_in, entries_in, whole_in}
 use Rattle.dump_commands.specs.Orders.{asked_port, order_of}
 use Rattle.dump_commands.specs.Refusals.{fault_line, fault_text, fault_of, refusal_by, trial_refusal}
@@ -43,7 +44,7 @@ abbrev pub Contents : Type 0
 Contents = ℕ → List ℕ → Result VolumeFields Refusal
 
 -- What comes of a dump: its effects on the plant, the reply, which is told behind them, the changes of the journal and the session's time
--- behind it, and what dumps have of volumes then. Loads of tapes are no effect, since all else is settled where a tape is loaded.
+-- behind it, and what dumps have of volumes then. Loads of tapes are no effect: by them more may be settled than the effects say.
 pub record Answer : Type 0 where
   pub effects : List Effect
   pub reply : List ℕ
@@ -162,15 +163,15 @@ dump_answer s a = port_answer s a (asked_port s.config (database_in s) a)
 
 -- ---- what is owed of it
 
--- A dump was answered: its effects were done, and its text and the time behind it are handed back; behind it the database keeps the log, and
--- all that was put is settled.
+-- A dump was answered: its effects were done, and its text and the time behind it are handed back; behind it the database keeps the log. More
+-- may be settled than the effects say, and all is where all was before.
 pub record IsAnswered {D : Type 0} (P : Plant D) (s : Scene) (a : Answer) (budb : BudbView) (old new : D) (told : Dumped) : Type 0 where
-  pub done : DoneAll P a.effects old new
+  pub done : DoneAhead P a.effects old new
   pub text : told.text ≡ a.reply
   pub time : told.time ≡ a.time
   pub keeps : Keeps a.log (come a.effects s.state).log budb
-  pub state : Alike (come a.effects s.state) (state_of P new)
-  pub settled : IsSettled (come a.effects s.state)
+  pub state : IsAhead (come a.effects s.state) (state_of P new)
+  pub settled : IsSettled s.state → IsSettled (come a.effects s.state)
 
 -- A dump went from this point to its end, and this was told of it.
 pub record IsFinished {D : Type 0} (P : Plant D) (s : Scene) (p : Point) (set : List ℕ) (offset : ℕ) (text : List ℕ) (budb : BudbView) (old new : D) : Type 0 where

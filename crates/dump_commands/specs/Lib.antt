@@ -1,4 +1,5 @@
 pub mod Expanding
+pub mod Ahead
 pub mod Scenes
 pub mod Orders
 pub mod Refusals

@@ -1,6 +1,5 @@
--- What is so of a plant while a dump is on its way: more may be settled on its tapes than the effects say, since a tape that is put away
--- is settled.
-use Rattle.std.specs.Prelude.{◌≡◌, ◌≢◌, ℕ, ◌≤◌, true, List, ◌++◌, length, Option, Some, None}
+-- What is so of a plant while a dump is on its way.
+use Rattle.std.specs.Prelude.{◌≡◌, ◌≢◌, ℕ, true, List, ◌++◌, length, Option, Some, None}
 use Rattle.plant_core.specs.declared.plant.Plant.{Ghosts as Plant}
 use Rattle.plant_core.specs.Crashes.{State, IsSettled}
 use Rattle.plant_core.specs.Effects.{Effect, come}
@@ -17,25 +16,9 @@ use Rattle.dump_job.specs.declared.fields.Phase.TheVariants as phase
 use Rattle.dump_job.specs.Events.{Event}
 use Rattle.dump_commands.specs.declared.running.End.{End}
 use Rattle.dump_commands.specs.declared.running.End.TheVariants.{Made, Refused}
+use Rattle.dump_commands.specs.Ahead.{IsAhead, DoneAhead}
 use Rattle.dump_commands.specs.Scenes.{Scene}
 use Rattle.dump_commands.specs.Courses.{Point, goes_on, behind, course}
-
--- ---- more may be settled
-
--- the same state, but that more may be settled of its tapes; no more is settled than there is
-pub record IsAhead (s t : State) : Type 0 where
-  pub log : t.log ≡ s.log
-  pub tape : (k : ℕ) → t.tape k ≡ s.tape k
-  pub told : t.told ≡ s.told
-  pub log_settled : t.log_settled ≡ s.log_settled
-  pub more : (k : ℕ) → s.settled k ≤ t.settled k
-  pub within : (k : ℕ) → t.settled k ≤ length (t.tape k)
-
--- these effects were done, and more may be settled
-pub record DoneAhead {D : Type 0} (P : Plant D) (effects : List Effect) (old new : D) : Type 0 where
-  pub sound : P.sound new
-  pub survives : P.tells → P.survives old → P.survives new
-  pub state : P.tells → IsAhead (come effects (state_of P old)) (state_of P new)
 
 -- ---- what is settled between two events
 
@@ -59,11 +42,11 @@ IsSettledFor j s = IsSettledAt j.phase j.reel.slot s
 
 -- ---- a dump on its way
 
--- What stands there is this point of a dump.
+-- What stands there is this point of a dump. Where all was settled in the scene, all is settled but for what the dump put on the tape in hand.
 pub record IsAtPoint {D E : Type 0} (P : Plant D) (C : Cell E) (s : Scene) (p : Point) (budb : BudbView) (plant : D) (site : E) (has : JobFields) : Type 0 where
   pub keeps : Keeps p.log p.state.log budb
   pub state : IsAhead p.state (state_of P plant)
-  pub settled : IsSettledFor p.job p.state
+  pub settled : IsSettled s.state → IsSettledFor p.job p.state
   pub slots : (P.view plant).slots ≡ s.slots
   pub present : (k : ℕ) → (P.view plant).present k ≡ s.present k
   pub cell : C.list site ≡ s.cell
@@ -73,15 +56,15 @@ abbrev pub answer_of : End → StepAnswer
 answer_of (Made id) = answer.Done id
 answer_of (Refused fault) = answer.Refused fault
 
--- a log and a state are these, all is settled, and the database keeps the log
-pub record IsOver (log : List Change) (state : State) (budb : BudbView) : Type 0 where
+-- a log and a state are these, the database keeps the log, and all is settled where it was before
+pub record IsOver (before : State) (log : List Change) (state : State) (budb : BudbView) : Type 0 where
   pub keeps : Keeps log state.log budb
-  pub settled : IsSettled state
+  pub settled : IsSettled before → IsSettled state
 
 -- an event was done: the dump goes on from the point behind it, or it is over
 abbrev pub Moves : {D E : Type 0} → Plant D → Cell E → Scene → Point → Event → Option End → BudbView → D → E → JobFields → Type 0
 Moves P C s p e None budb plant site job = (goes_on e.answer ≡ true) × IsAtPoint P C s (behind p e) budb plant site job
-Moves P C s p e (Some end) budb plant site job = (e.answer ≡ answer_of end) × IsOver (p.log ++ e.changes) (come e.effects p.state) budb
+Moves P C s p e (Some end) budb plant site job = (e.answer ≡ answer_of end) × IsOver s.state (p.log ++ e.changes) (come e.effects p.state) budb
 
 -- some events were done, and from this point on the rest of the course is left
 pub record IsOnWay {D E : Type 0} (P : Plant D) (C : Cell E) (s : Scene) (p : Point) (old : D) (budb : BudbView) (plant : D) (site : E) (job : JobFields) : Type 0 where
@@ -96,5 +79,5 @@ pub record IsOnWay {D E : Type 0} (P : Plant D) (C : Cell E) (s : Scene) (p : Po
 -- all events were done
 pub record IsEnded {D : Type 0} (P : Plant D) (s : Scene) (p : Point) (end : End) (budb : BudbView) (old new : D) : Type 0 where
   pub answer : (course s p).answer ≡ answer_of end
-  pub over : IsOver (course s p).log (come (course s p).effects p.state) budb
+  pub over : IsOver s.state (course s p).log (come (course s p).effects p.state) budb
   pub done : DoneAhead P (course s p).effects old new

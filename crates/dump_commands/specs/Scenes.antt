@@ -3,7 +3,7 @@ use Rattle.std.specs.Prelude.{◌≡◌, ℕ, Bool, true, false, not, List, map}
 use Rattle.std.specs.List.{list_any}
 use Rattle.plant_core.specs.declared.plant.Plant.{Ghosts as Plant}
 use Rattle.plant_core.specs.Records.{Record, block_with, mark, bad}
-use Rattle.plant_core.specs.Crashes.{State, Alike, IsSettled}
+use Rattle.plant_core.specs.Crashes.{State}
 use Rattle.plant_effects.specs.Runs.{state_of}
 use Rattle.vnode_model.specs.declared.listed.VolEntry.{VolEntry}
 use Rattle.cell_core.specs.declared.cell.Cell.{Ghosts as Cell}
@@ -17,6 +17,7 @@ use Rattle.budb_fold.specs.declared.database.Database.{Database}
 use Rattle.budb_fold.specs.Database.{after}
 use Rattle.budb.specs.Views.{BudbView}
 use Rattle.budb.specs.Kept.{Keeps}
+use Rattle.dump_commands.specs.Ahead.{IsAhead}
 
 -- What a dump finds: the configuration, which of so many slots are here, the changes of the journal, the cell's list, the plant's state (its
 -- log's bytes are those of the changes), and the session's time.
@@ -49,11 +50,10 @@ is_bad bad = true
 abbrev pub whole_in : Scene → ℕ → Bool
 whole_in s k = not (list_any is_bad (s.state.tape k))
 
--- What stands there is this scene, and all that was put is settled, as it is between two commands.
+-- What stands there is this scene, of whose tapes more may be settled.
 pub record IsScene {D E : Type 0} (P : Plant D) (C : Cell E) (s : Scene) (budb : BudbView) (plant : D) (site : E) : Type 0 where
   pub keeps : Keeps s.log s.state.log budb
-  pub state : Alike s.state (state_of P plant)
-  pub settled : IsSettled s.state
+  pub state : IsAhead s.state (state_of P plant)
   pub slots : (P.view plant).slots ≡ s.slots
   pub present : (k : ℕ) → (P.view plant).present k ≡ s.present k
   pub cell : C.list site ≡ s.cell

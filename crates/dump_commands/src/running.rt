@@ -7,7 +7,8 @@ ghost use Rattle.dump_job.specs.Jobs.{FitsJob, HasPlaces};
 ghost use Rattle.dump_job.specs.Left.{left_of};
 ghost use Rattle.dump_commands.specs.Scenes.{Scene};
 ghost use Rattle.dump_commands.specs.Courses.{Point, next_event, course};
-ghost use Rattle.dump_commands.specs.Running.{DoneAhead, IsAtPoint, Moves, IsEnded};
+ghost use Rattle.dump_commands.specs.Ahead.{DoneAhead};
+ghost use Rattle.dump_commands.specs.Running.{IsAtPoint, Moves, IsEnded};
 
 use crate::stop::DumpStop;
 use budb::Budb;

@@ -15,10 +15,11 @@ use Rattle.budb_changes.specs.declared.change.Change.{Change}
 use Rattle.budb_changes.specs.Bytes.{encoded}
 use Rattle.budb_changes.specs.Forms.{AreChanges}
 use Rattle.budb_changes.proofs.Logs.{same_changes}
-use Rattle.backup_session.specs.Worlds.{World, Contents}
+use Rattle.backup_session.specs.Worlds.{World, Setting, Contents}
 use Rattle.backup_session.specs.Views.{SessionView}
 use Rattle.backup_session.specs.Opening.{opened, first_time}
-use Rattle.backup_session.specs.Fitting.{Fits}
+use Rattle.backup_session.specs.Fitting.{Fits, Stands as StandsThere}
+use Rattle.backup_session.proofs.Settling.{stands_fit}
 use Rattle.rehearsal.specs.Playing.{StandsOn}
 use Rattle.rehearsal.specs.Sessions.{Stands, HasFiles}
 
@@ -59,15 +60,16 @@ module _ {D E : Type 0} (P : Plant D) (C : Cell E) where
   -- the session that is opened fits the world
   pub opened_stands : (w : World) (config : Settings) (old new : D) (site site2 : E) (session : SessionView) → StandsOn P C w old site → config ≡ w.setting.config → w.time ≡ first_time w.log w.cell
       → (log : List Change) → AreChanges log → (state_of P old).log ≡ encoded log
-      → (IsSettled (state_of P old) → (contents : Contents) → Fits P C (opened (record { config = config; slots = (P.view old).slots; present = (P.view old).present }) log (C.list site) contents (state_of P old)) new site2 session)
+      → ((contents : Contents) → StandsThere P C (opened (record { config = config; slots = (P.view old).slots; present = (P.view old).present }) log (C.list site) contents (state_of P old)) new site2 session)
       → Fits P C w new site2 session
-  opened_stands w config old new site site2 session stands config_is time_is log form is fits =
+  opened_stands w config old new site site2 session stands config_is time_is log form is opens =
       let state = alike_same w.state (state_of P old) stands.state in
       let same : log ≡ w.log = same_changes log w.log form stands.form (sym is ∙ stands.state.log ∙ stands.journal) in
-      let settled = subst IsSettled state stands.settled in
+      let setting : Setting = record { config = config; slots = (P.view old).slots; present = (P.view old).present } in
+      let fits = stands_fit P C (opened setting log (C.list site) w.contents (state_of P old)) new site2 session (subst IsSettled state stands.settled) (opens w.contents) in
       let there = world_same w config (P.view old).slots (P.view old).present (C.list site) (state_of P old) config_is stands.slots stands.present stands.cell time_is state in
       subst (λ (x : World). Fits P C x new site2 session) there
-      (subst (λ (l : List Change). Fits P C (opened (record { config = config; slots = (P.view old).slots; present = (P.view old).present }) l (C.list site) w.contents (state_of P old)) new site2 session) same (fits settled w.contents))
+      (subst (λ (l : List Change). Fits P C (opened (record { config = config; slots = (P.view old).slots; present = (P.view old).present }) l (C.list site) w.contents (state_of P old)) new site2 session) same fits)
 
   -- what a session leaves
   pub left_stands : (w : World) (plant : D) (site : E) (session : SessionView) → Fits P C w plant site session → StandsOn P C w plant site

@@ -10,6 +10,7 @@ pub mod Verdicts
 pub mod Turns
 pub mod Scans
 pub mod Images
+pub mod TurnReads
 pub mod Bringing
 pub mod Orders
 pub mod DumpTurns

@@ -106,6 +106,15 @@ pub fn worlds_at_rest_hold()
     ensures { (w : World) (records : AnyList DumpRecordFields) → Holds (seen_in w.state) (archive_of w) records → IsSettled w.state → ((k : ℕ) → IsTrue (w.setting.present k) → k < w.setting.slots) → HasTapes w → HoldsWorld w }
 {}
 
+/// Also where records that another caller put wait to be settled a command keeps the archive that the plant holds, as reads give it: its turn
+/// doesn't ask what is settled.
+pub fn commands_keep_what_reads_give()
+    ensures { (w : World) (now : ℕ) (command : Command) (records : AnyList DumpRecordFields) → HasForms command → Holds (seen_in w.state) (archive_of w) records → ((k : ℕ) → IsTrue (w.setting.present k) → k < w.setting.slots) → HasTapes w → IsReadyForCommand (at_moment w now) command
+        → let v = after_turn w (turn w now command) in (behind : AnyList DumpRecordFields) × Holds (seen_in v.state) (archive_of v) behind }
+{
+    commands_keep_the_archive();
+}
+
 /// Blank tapes under an empty journal hold the archive without dumps, whatever its contents are.
 pub fn blank_worlds_hold_no_dump()
     ensures { (w : World) → w.log ≡ [] → IsNothing (seen_in w.state) → IsSettled w.state → ((k : ℕ) → IsTrue (w.setting.present k) → k < w.setting.slots) → HasTapes w → HoldsWorld w }

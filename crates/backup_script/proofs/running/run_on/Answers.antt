@@ -1,6 +1,7 @@
 use Rattle.std.proofs.Common.{[], ap, refl, Err}
 use Rattle.plant_effects.proofs.Joining.{done_both}
 use Rattle.std.specs.Str.Lines.{lines}
+use Rattle.backup_session.proofs.Settling.{stands_fit}
 use Rattle.backup_script.specs.Scripts.{script}
 use Rattle.backup_script.specs.Ended.{world_on}
 use Rattle.backup_script.specs.declared.running.RunStop.TheVariants.{Read, TooLong}
@@ -21,8 +22,8 @@ returns-in-Ok-run_script-clause-ran g c = λ told tells_cell tells_clock source 
     let n = c.run_script.new in
     let w = world_on P C c.args.config log contents old c.args.cell.now in
     let ms = g.K.Clock.moments c.args.clock.now in
-    let f = c.in-Ok.ensures.fits told in
-    let fits = opened_fits P C c.args.config log contents old mid c.args.cell.now c.open.new.cell c.in-Ok.session form is f.0 f.1 f.2 (f.3 tells_cell settled contents) in
+    let f = c.in-Ok.ensures.stands told in
+    let fits = opened_fits P C c.args.config log contents old mid c.args.cell.now c.open.new.cell c.in-Ok.session form is f.0 f.1 f.2 (stands_fit P C (world_on P C c.args.config f.0 contents old c.args.cell.now) mid c.open.new.cell c.in-Ok.session settled (f.3 tells_cell contents)) in
     let ran = c.in-Ok-run_script.ensures.ran told tells_cell tells_clock source w fits held in (
       went_ends P C w ms old mid n.plant n.cell c.in-Ok.ensures.done c.in-Ok.ensures.leaves (script w ms (lines (g.S.Source.left c.args.source.now))) n.session (g.K.Clock.moments n.clock) ran.went,
       told_effects P C (script w ms (lines (g.S.Source.left c.args.source.now))).effects old n.plant c.in-Ok-run_script.refused told (done_both P [] (script w ms (lines (g.S.Source.left c.args.source.now))).effects old mid n.plant c.in-Ok.ensures.done ran.went.done)
@@ -34,9 +35,9 @@ returns-in-Ok-run_script-clause-flag g c = λ told tells_cell settled.
     let P = g.P.Plant in
     let C = g.C.Cell in
     let old = c.args.plant.now in
-    let f = c.in-Ok.ensures.fits told in
+    let f = c.in-Ok.ensures.stands told in
     told_behind P C old c.open.new.plant c.run_script.new.plant c.in-Ok-run_script.refused told c.in-Ok.ensures.done
-    (c.in-Ok-run_script.ensures.flag told tells_cell (world_on P C c.args.config f.0 no_contents old c.args.cell.now) (f.3 tells_cell settled no_contents))
+    (c.in-Ok-run_script.ensures.flag told tells_cell (world_on P C c.args.config f.0 no_contents old c.args.cell.now) (stands_fit P C (world_on P C c.args.config f.0 no_contents old c.args.cell.now) c.open.new.plant c.open.new.cell c.in-Ok.session settled (f.3 tells_cell no_contents)))
 
 pub returns-in-Ok-run_script-clause-left : goal.returns-in-Ok-run_script-clause-left
 returns-in-Ok-run_script-clause-left g c = λ told tells_cell tells_clock source settled log form is contents held.
@@ -46,8 +47,8 @@ returns-in-Ok-run_script-clause-left g c = λ told tells_cell tells_clock source
     let mid = c.open.new.plant in
     let n = c.run_script.new in
     let w = world_on P C c.args.config log contents old c.args.cell.now in
-    let f = c.in-Ok.ensures.fits told in
-    let fits = opened_fits P C c.args.config log contents old mid c.args.cell.now c.open.new.cell c.in-Ok.session form is f.0 f.1 f.2 (f.3 tells_cell settled contents) in
+    let f = c.in-Ok.ensures.stands told in
+    let fits = opened_fits P C c.args.config log contents old mid c.args.cell.now c.open.new.cell c.in-Ok.session form is f.0 f.1 f.2 (stands_fit P C (world_on P C c.args.config f.0 contents old c.args.cell.now) mid c.open.new.cell c.in-Ok.session settled (f.3 tells_cell contents)) in
     left_after P C w (g.K.Clock.moments c.args.clock.now) old mid n.plant n.cell c.in-Ok.ensures.done c.in-Ok.ensures.leaves (lines (g.S.Source.left c.args.source.now)) (c.run_script.ensures.left told tells_cell tells_clock source w fits held)
 
 pub returns-in-Ok-clause-left : goal.returns-in-Ok-clause-left
@@ -58,8 +59,8 @@ returns-in-Ok-clause-left g c = λ told tells_cell tells_clock source settled lo
     let mid = c.open.new.plant in
     let n = c.run_script.new in
     let w = world_on P C c.args.config log contents old c.args.cell.now in
-    let f = c.in-Ok.ensures.fits told in
-    let fits = opened_fits P C c.args.config log contents old mid c.args.cell.now c.open.new.cell c.in-Ok.session form is f.0 f.1 f.2 (f.3 tells_cell settled contents) in
+    let f = c.in-Ok.ensures.stands told in
+    let fits = opened_fits P C c.args.config log contents old mid c.args.cell.now c.open.new.cell c.in-Ok.session form is f.0 f.1 f.2 (stands_fit P C (world_on P C c.args.config f.0 contents old c.args.cell.now) mid c.open.new.cell c.in-Ok.session settled (f.3 tells_cell contents)) in
     left_after P C w (g.K.Clock.moments c.args.clock.now) old mid n.plant n.cell c.in-Ok.ensures.done c.in-Ok.ensures.leaves (lines (g.S.Source.left c.args.source.now)) (c.run_script.ensures.left told tells_cell tells_clock source w fits held)
 
 pub returns-in-Ok-clause-read_short : goal.returns-in-Ok-clause-read_short
@@ -70,8 +71,8 @@ returns-in-Ok-clause-read_short g c = λ told tells_cell tells_clock source sett
     let mid = c.open.new.plant in
     let n = c.run_script.new in
     let w = world_on P C c.args.config log contents old c.args.cell.now in
-    let f = c.in-Ok.ensures.fits told in
-    let fits = opened_fits P C c.args.config log contents old mid c.args.cell.now c.open.new.cell c.in-Ok.session form is f.0 f.1 f.2 (f.3 tells_cell settled contents) in
+    let f = c.in-Ok.ensures.stands told in
+    let fits = opened_fits P C c.args.config log contents old mid c.args.cell.now c.open.new.cell c.in-Ok.session form is f.0 f.1 f.2 (stands_fit P C (world_on P C c.args.config f.0 contents old c.args.cell.now) mid c.open.new.cell c.in-Ok.session settled (f.3 tells_cell contents)) in
     short_ends P C w (g.K.Clock.moments c.args.clock.now) old mid n.plant n.cell c.in-Ok.ensures.done c.in-Ok.ensures.leaves (g.S.Source.left c.args.source.now) (g.S.Source.left n.source) n.session (g.K.Clock.moments n.clock)
     (c.in-Err-run_script.ensures.read_short told tells_cell tells_clock source w fits held (ap (λ (e : ServeStop). Err e) (c.serving_stop.ensures.read (err_same Read c.serving_stop.result stops))))
 
@@ -83,8 +84,8 @@ returns-in-Ok-clause-long_short g c = λ told tells_cell tells_clock source sett
     let mid = c.open.new.plant in
     let n = c.run_script.new in
     let w = world_on P C c.args.config log contents old c.args.cell.now in
-    let f = c.in-Ok.ensures.fits told in
-    let fits = opened_fits P C c.args.config log contents old mid c.args.cell.now c.open.new.cell c.in-Ok.session form is f.0 f.1 f.2 (f.3 tells_cell settled contents) in
+    let f = c.in-Ok.ensures.stands told in
+    let fits = opened_fits P C c.args.config log contents old mid c.args.cell.now c.open.new.cell c.in-Ok.session form is f.0 f.1 f.2 (stands_fit P C (world_on P C c.args.config f.0 contents old c.args.cell.now) mid c.open.new.cell c.in-Ok.session settled (f.3 tells_cell contents)) in
     short_ends P C w (g.K.Clock.moments c.args.clock.now) old mid n.plant n.cell c.in-Ok.ensures.done c.in-Ok.ensures.leaves (g.S.Source.left c.args.source.now) (g.S.Source.left n.source) n.session (g.K.Clock.moments n.clock)
     (c.in-Err-run_script.ensures.long_short told tells_cell tells_clock source w fits held (ap (λ (e : ServeStop). Err e) (c.serving_stop.ensures.long (err_same TooLong c.serving_stop.result stops))))
 
@@ -119,19 +120,19 @@ returns-clause-left g c = λ told tells_cell tells_clock source settled log form
     (c.in-Err.ensures.cell tells_cell) c.in-Err.ensures.leaves
 
 pub returns-in-Ok-run_script-clause-refused_log_looks : goal.returns-in-Ok-run_script-clause-refused_log_looks
-returns-in-Ok-run_script-clause-refused_log_looks g c = λ told none. let f = c.in-Ok.ensures.fits told in absurd (none (f.0, f.1, f.2))
+returns-in-Ok-run_script-clause-refused_log_looks g c = λ told none. let f = c.in-Ok.ensures.stands told in absurd (none (f.0, f.1, f.2))
 
 pub returns-in-Ok-run_script-clause-refused_log_cell : goal.returns-in-Ok-run_script-clause-refused_log_cell
-returns-in-Ok-run_script-clause-refused_log_cell g c = λ told none. let f = c.in-Ok.ensures.fits told in absurd (none (f.0, f.1, f.2))
+returns-in-Ok-run_script-clause-refused_log_cell g c = λ told none. let f = c.in-Ok.ensures.stands told in absurd (none (f.0, f.1, f.2))
 
 pub returns-in-Ok-run_script-clause-refused_log_clock : goal.returns-in-Ok-run_script-clause-refused_log_clock
-returns-in-Ok-run_script-clause-refused_log_clock g c = λ told none. let f = c.in-Ok.ensures.fits told in absurd (none (f.0, f.1, f.2))
+returns-in-Ok-run_script-clause-refused_log_clock g c = λ told none. let f = c.in-Ok.ensures.stands told in absurd (none (f.0, f.1, f.2))
 
 pub returns-in-Ok-clause-refused_log_looks : goal.returns-in-Ok-clause-refused_log_looks
-returns-in-Ok-clause-refused_log_looks g c = λ told none. let f = c.in-Ok.ensures.fits told in absurd (none (f.0, f.1, f.2))
+returns-in-Ok-clause-refused_log_looks g c = λ told none. let f = c.in-Ok.ensures.stands told in absurd (none (f.0, f.1, f.2))
 
 pub returns-in-Ok-clause-refused_log_cell : goal.returns-in-Ok-clause-refused_log_cell
-returns-in-Ok-clause-refused_log_cell g c = λ told none. let f = c.in-Ok.ensures.fits told in absurd (none (f.0, f.1, f.2))
+returns-in-Ok-clause-refused_log_cell g c = λ told none. let f = c.in-Ok.ensures.stands told in absurd (none (f.0, f.1, f.2))
 
 pub returns-in-Ok-clause-refused_log_clock : goal.returns-in-Ok-clause-refused_log_clock
-returns-in-Ok-clause-refused_log_clock g c = λ told none. let f = c.in-Ok.ensures.fits told in absurd (none (f.0, f.1, f.2))
+returns-in-Ok-clause-refused_log_clock g c = λ told none. let f = c.in-Ok.ensures.stands told in absurd (none (f.0, f.1, f.2))

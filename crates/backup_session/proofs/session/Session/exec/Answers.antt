@@ -4,8 +4,8 @@ use Rattle.plant_effects.specs.Runs.{Leaves}
 use Rattle.backup_session.specs.Views.{SessionView}
 use Rattle.backup_session.specs.Worlds.{Turn, at_moment}
 use Rattle.backup_session.specs.Machine.{done}
-use Rattle.backup_session.specs.Fitting.{Turned, OnTheWay}
-use Rattle.backup_session.proofs.Carrying.{turn_done, fits_at, turned_at, some_at, in_ok}
+use Rattle.backup_session.specs.Fitting.{TurnDone, OnTheWay}
+use Rattle.backup_session.proofs.Carrying.{turn_done, stands_at, turned_at, some_at, in_ok}
 use Rattle.backup_session.proofs.session.Session.exec.Goals as goal
 
 pub returns-clause-turned : goal.returns-clause-turned
@@ -17,8 +17,8 @@ returns-clause-turned g c = λ told seen w fits held.
     let was = ap (λ (s : SessionView). s.time) c.self.view_is in
     let time : c.max-self-inside.result ≡ max c.args.self.now.time (min c.args.now 4294967295) = omega (arith, c.max-self-inside.ensures, c.min.ensures, was) in
     let moment = at_moment w c.args.now in
-    let here = fits_at P C w old c.args.cell.now c.args.self.now fits c.args.now later (ap (λ (s : SessionView). s.budb) c.self.view_is) (ap (λ (s : SessionView). s.config) c.self.view_is) time in
-    subst (λ (t : Turn). IfOk c.run.result (λ reply. Turned P C w t old c.run.new.plant c.run.new.cell c.run.new.self reply)) (sym (turn_done w c.args.now c.args.command.now))
+    let here = stands_at P C w old c.args.cell.now c.args.self.now fits c.args.now later (ap (λ (s : SessionView). s.budb) c.self.view_is) (ap (λ (s : SessionView). s.config) c.self.view_is) time in
+    subst (λ (t : Turn). IfOk c.run.result (λ reply. TurnDone P C w t old c.run.new.plant c.run.new.cell c.run.new.self reply)) (sym (turn_done w c.args.now c.args.command.now))
     (in_ok c.run.result _ _ (λ reply turned. turned_at P C w c.args.now (done moment c.args.command.now) old c.run.new.plant c.run.new.cell c.run.new.self reply turned) (c.run.ensures.turned told seen moment here held))
 
 pub returns-clause-some_turn : goal.returns-clause-some_turn
@@ -29,7 +29,7 @@ returns-clause-some_turn g c = λ told seen w fits.
     let later : SessionView = record { config = c.self.inside.config; budb = c.self.inside.budb; time = c.max-self-inside.result } in
     let was = ap (λ (s : SessionView). s.time) c.self.view_is in
     let time : c.max-self-inside.result ≡ max c.args.self.now.time (min c.args.now 4294967295) = omega (arith, c.max-self-inside.ensures, c.min.ensures, was) in
-    let here = fits_at P C w old c.args.cell.now c.args.self.now fits c.args.now later (ap (λ (s : SessionView). s.budb) c.self.view_is) (ap (λ (s : SessionView). s.config) c.self.view_is) time in
+    let here = stands_at P C w old c.args.cell.now c.args.self.now fits c.args.now later (ap (λ (s : SessionView). s.budb) c.self.view_is) (ap (λ (s : SessionView). s.config) c.self.view_is) time in
     some_at P C w c.args.now old c.run.new.plant c.run.new.cell c.run.new.self c.run.result (c.run.ensures.some_turn told seen (at_moment w c.args.now) here)
 
 pub returns-clause-leaves : goal.returns-clause-leaves
@@ -40,7 +40,7 @@ returns-clause-leaves g c = λ told seen w fits.
     let later : SessionView = record { config = c.self.inside.config; budb = c.self.inside.budb; time = c.max-self-inside.result } in
     let was = ap (λ (s : SessionView). s.time) c.self.view_is in
     let time : c.max-self-inside.result ≡ max c.args.self.now.time (min c.args.now 4294967295) = omega (arith, c.max-self-inside.ensures, c.min.ensures, was) in
-    let here = fits_at P C w old c.args.cell.now c.args.self.now fits c.args.now later (ap (λ (s : SessionView). s.budb) c.self.view_is) (ap (λ (s : SessionView). s.config) c.self.view_is) time in
+    let here = stands_at P C w old c.args.cell.now c.args.self.now fits c.args.now later (ap (λ (s : SessionView). s.budb) c.self.view_is) (ap (λ (s : SessionView). s.config) c.self.view_is) time in
     subst (λ (t : Turn). Leaves P t.effects old c.run.new.plant) (sym (turn_done w c.args.now c.args.command.now)) (c.run.ensures.leaves told seen (at_moment w c.args.now) here)
 
 pub returns-clause-cells : goal.returns-clause-cells
@@ -51,5 +51,5 @@ returns-clause-cells g c = λ told seen w fits held.
     let later : SessionView = record { config = c.self.inside.config; budb = c.self.inside.budb; time = c.max-self-inside.result } in
     let was = ap (λ (s : SessionView). s.time) c.self.view_is in
     let time : c.max-self-inside.result ≡ max c.args.self.now.time (min c.args.now 4294967295) = omega (arith, c.max-self-inside.ensures, c.min.ensures, was) in
-    let here = fits_at P C w old c.args.cell.now c.args.self.now fits c.args.now later (ap (λ (s : SessionView). s.budb) c.self.view_is) (ap (λ (s : SessionView). s.config) c.self.view_is) time in
+    let here = stands_at P C w old c.args.cell.now c.args.self.now fits c.args.now later (ap (λ (s : SessionView). s.budb) c.self.view_is) (ap (λ (s : SessionView). s.config) c.self.view_is) time in
     subst (λ (t : Turn). OnTheWay w.cell t.cells (C.list c.run.new.cell)) (sym (turn_done w c.args.now c.args.command.now)) (c.run.ensures.cells told seen (at_moment w c.args.now) here held)

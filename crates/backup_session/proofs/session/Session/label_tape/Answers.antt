@@ -31,7 +31,7 @@ returns-in-None-clause-turned g c = λ told w fits.
     let listed = c.as_slice-3.ensures ∙ ap (λ (d : Database). d.listed) (c.database.ensures ∙ ap (λ (s : SessionView). s.budb.database) c.self.view_is) in
     let is = labels_are P w old c.args.self.now fits c.args.slot c.args.name.now c.args.pname.now c.in_ok-old.old c.in_ok-label.label c.as_slice-3.result.now [] (e.label told) c.in_ok-label.ensures listed c.in-None.ensures in
     subst (λ (t : Turn). IfOk c.label_only.result (λ reply. TurnedPlant P w t old new c.label_only.new.self reply)) is
-    (in_ok c.label_only.result _ _ (λ reply turned. front_turned P w (labeled w c.args.slot c.in_ok-label.label []) old mid new c.label_only.new.self reply e.done turned) (c.label_only.ensures.turned told w here))
+    (in_ok c.label_only.result _ _ (λ reply turned. front_turned P w (labeled w c.args.slot c.in_ok-label.label []) old mid new c.args.self.now c.label_only.new.self reply fits e.done turned) (c.label_only.ensures.turned told w here))
 
 pub returns-in-None-clause-leaves : goal.returns-in-None-clause-leaves
 returns-in-None-clause-leaves g c = λ told w fits.
@@ -57,7 +57,7 @@ returns-clause-turned g c = λ told w fits.
     let listed = c.as_slice-3.ensures ∙ ap (λ (d : Database). d.listed) (c.database.ensures ∙ ap (λ (s : SessionView). s.budb.database) c.self.view_is) in
     let is = labels_are P w old c.args.self.now fits c.args.slot c.args.name.now c.args.pname.now c.in_ok-old.old c.in_ok-label.label c.as_slice-3.result.now (Take c.in-Some.initial ∷ []) (e.label told) c.in_ok-label.ensures listed c.in-Some.ensures in
     subst (λ (t : Turn). IfOk c.take_and_label.result (λ reply. TurnedPlant P w t old new c.take_and_label.new.self reply)) is
-    (in_ok c.take_and_label.result _ _ (λ reply turned. front_turned P w (labeled w c.args.slot c.in_ok-label.label (Take c.in-Some.initial ∷ [])) old mid new c.take_and_label.new.self reply e.done turned) (c.take_and_label.ensures.turned told w here))
+    (in_ok c.take_and_label.result _ _ (λ reply turned. front_turned P w (labeled w c.args.slot c.in_ok-label.label (Take c.in-Some.initial ∷ [])) old mid new c.args.self.now c.take_and_label.new.self reply fits e.done turned) (c.take_and_label.ensures.turned told w here))
 
 pub returns-clause-leaves : goal.returns-clause-leaves
 returns-clause-leaves g c = λ told w fits.

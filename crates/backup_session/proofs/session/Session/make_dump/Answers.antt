@@ -2,7 +2,7 @@ use Rattle.std.proofs.Common.{refl, sym, subst}
 use Rattle.dump_commands.specs.Answers.{dump_answer}
 use Rattle.backup_session.specs.Views.{SessionView}
 use Rattle.backup_session.specs.Dumps.{scene_of}
-use Rattle.backup_session.specs.Fitting.{Fits}
+use Rattle.backup_session.specs.Fitting.{Stands}
 use Rattle.backup_session.proofs.DumpLaws.{dump_finds, dump_turned}
 use Rattle.backup_session.proofs.session.Session.make_dump.Goals as goal
 
@@ -13,7 +13,7 @@ returns-in-Ok-clause-turned g c = λ told seen w fits.
     let old = c.args.plant.now in
     let site = c.args.cell.now in
     let here : SessionView = record { config = c.self.inside.config; budb = c.self.inside.budb; time = c.self.inside.time } in
-    let there : Fits P C w old site here = subst (λ (s : SessionView). Fits P C w old site s) (sym c.self.view_is) fits in
+    let there : Stands P C w old site here = subst (λ (s : SessionView). Stands P C w old site s) (sym c.self.view_is) fits in
     dump_turned P C w old site here there (dump_answer (scene_of w) c.args.asked.now) c.dump.new.budb c.dump.new.plant c.dump.new.cell c.in-Ok.dumped _ c.new.result
     (c.in-Ok.ensures.answered told seen (scene_of w) (dump_finds P C w old site here there)) c.dump.ensures.stays.stays (c.dump.ensures.list seen) refl refl refl c.new.ensures
 
@@ -24,7 +24,7 @@ returns-in-Ok-clause-leaves g c = λ told seen w fits.
     let old = c.args.plant.now in
     let site = c.args.cell.now in
     let here : SessionView = record { config = c.self.inside.config; budb = c.self.inside.budb; time = c.self.inside.time } in
-    let there : Fits P C w old site here = subst (λ (s : SessionView). Fits P C w old site s) (sym c.self.view_is) fits in
+    let there : Stands P C w old site here = subst (λ (s : SessionView). Stands P C w old site s) (sym c.self.view_is) fits in
     c.dump.ensures.leaves told seen (scene_of w) (dump_finds P C w old site here there)
 
 pub returns-in-Err-clause-leaves : goal.returns-in-Err-clause-leaves
@@ -34,5 +34,5 @@ returns-in-Err-clause-leaves g c = λ told seen w fits.
     let old = c.args.plant.now in
     let site = c.args.cell.now in
     let here : SessionView = record { config = c.self.inside.config; budb = c.self.inside.budb; time = c.self.inside.time } in
-    let there : Fits P C w old site here = subst (λ (s : SessionView). Fits P C w old site s) (sym c.self.view_is) fits in
+    let there : Stands P C w old site here = subst (λ (s : SessionView). Stands P C w old site s) (sym c.self.view_is) fits in
     c.dump.ensures.leaves told seen (scene_of w) (dump_finds P C w old site here there)

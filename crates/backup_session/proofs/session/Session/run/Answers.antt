@@ -6,7 +6,7 @@ use Rattle.backup_session.specs.Worlds.{Turn}
 use Rattle.backup_session.specs.Cells.{cell_answer}
 use Rattle.backup_session.specs.Dumps.{dump_turn}
 use Rattle.backup_session.specs.Machine.{on_cell, on_plant, done}
-use Rattle.backup_session.specs.Fitting.{Fits, Turned, OnTheWay}
+use Rattle.backup_session.specs.Fitting.{Stands, TurnDone, OnTheWay}
 use Rattle.backup_session.proofs.Carrying.{done_cell, done_archive, done_dump, done_plant, plant_cells, fits_plant, list_stays, turned_by, turned_cell, cell_way, in_ok}
 use Rattle.backup_session.proofs.RestoreLaws.{held_archive}
 use Rattle.backup_session.proofs.Silent.{plant_silent, dump_silent, somehow}
@@ -18,11 +18,11 @@ returns-then-asks_cell-clause-turned g c = λ told seen w fits held.
     let C = g.C.Cell in
     let old = c.args.plant.now in
     let here : SessionView = record { config = c.self.inside.config; budb = c.self.inside.budb; time = c.self.inside.time } in
-    let there : Fits P C w old c.args.cell.now here = subst (λ (s : SessionView). Fits P C w old c.args.cell.now s) (sym c.self.view_is) fits in
+    let there : Stands P C w old c.args.cell.now here = subst (λ (s : SessionView). Stands P C w old c.args.cell.now s) (sym c.self.view_is) fits in
     let is = done_cell w c.args.command.now (sym c.asks_cell.ensures ∙ c.if-asks_cell.true) in
-    subst (λ (t : Turn). IfOk c.on_cell.result (λ reply. Turned P C w t old old c.on_cell.new.cell c.args.self.now reply)) (sym is)
+    subst (λ (t : Turn). IfOk c.on_cell.result (λ reply. TurnDone P C w t old old c.on_cell.new.cell c.args.self.now reply)) (sym is)
     (in_ok c.on_cell.result _ _
-    (λ reply answer. subst (λ (s : SessionView). Turned P C w (on_cell w (cell_answer w.cell w.time c.args.command.now)) old old c.on_cell.new.cell s reply) c.self.view_is (turned_cell P C w old c.args.cell.now here there c.on_cell.new.cell reply c.args.command.now c.requires answer)) (c.on_cell.ensures.answer seen))
+    (λ reply answer. subst (λ (s : SessionView). TurnDone P C w (on_cell w (cell_answer w.cell w.time c.args.command.now)) old old c.on_cell.new.cell s reply) c.self.view_is (turned_cell P C w old c.args.cell.now here there c.on_cell.new.cell reply c.args.command.now c.requires answer)) (c.on_cell.ensures.answer seen))
 
 pub returns-then-asks_cell-clause-some_turn : goal.returns-then-asks_cell-clause-some_turn
 returns-then-asks_cell-clause-some_turn g c = λ told seen w fits.
@@ -30,11 +30,11 @@ returns-then-asks_cell-clause-some_turn g c = λ told seen w fits.
     let C = g.C.Cell in
     let old = c.args.plant.now in
     let here : SessionView = record { config = c.self.inside.config; budb = c.self.inside.budb; time = c.self.inside.time } in
-    let there : Fits P C w old c.args.cell.now here = subst (λ (s : SessionView). Fits P C w old c.args.cell.now s) (sym c.self.view_is) fits in
+    let there : Stands P C w old c.args.cell.now here = subst (λ (s : SessionView). Stands P C w old c.args.cell.now s) (sym c.self.view_is) fits in
     let t = on_cell w (cell_answer w.cell w.time c.args.command.now) in
     somehow P C w t old old c.on_cell.new.cell c.args.self.now c.on_cell.result refl
     (in_ok c.on_cell.result _ _
-    (λ reply answer. subst (λ (s : SessionView). Turned P C w t old old c.on_cell.new.cell s reply) c.self.view_is (turned_cell P C w old c.args.cell.now here there c.on_cell.new.cell reply c.args.command.now c.requires answer)) (c.on_cell.ensures.answer seen))
+    (λ reply answer. subst (λ (s : SessionView). TurnDone P C w t old old c.on_cell.new.cell s reply) c.self.view_is (turned_cell P C w old c.args.cell.now here there c.on_cell.new.cell reply c.args.command.now c.requires answer)) (c.on_cell.ensures.answer seen))
 
 pub returns-then-asks_cell-clause-leaves : goal.returns-then-asks_cell-clause-leaves
 returns-then-asks_cell-clause-leaves g c = λ told seen w fits.
@@ -47,7 +47,7 @@ returns-then-asks_cell-clause-cells g c = λ told seen w fits held.
     let C = g.C.Cell in
     let old = c.args.plant.now in
     let here : SessionView = record { config = c.self.inside.config; budb = c.self.inside.budb; time = c.self.inside.time } in
-    let there : Fits P C w old c.args.cell.now here = subst (λ (s : SessionView). Fits P C w old c.args.cell.now s) (sym c.self.view_is) fits in
+    let there : Stands P C w old c.args.cell.now here = subst (λ (s : SessionView). Stands P C w old c.args.cell.now s) (sym c.self.view_is) fits in
     let is = done_cell w c.args.command.now (sym c.asks_cell.ensures ∙ c.if-asks_cell.true) in
     subst (λ (t : Turn). OnTheWay w.cell t.cells (C.list c.on_cell.new.cell)) (sym is) (cell_way P C w old c.args.cell.now here there (C.list c.on_cell.new.cell) c.args.command.now (c.on_cell.ensures.left seen))
 
@@ -57,7 +57,7 @@ returns-then-asks_archive-clause-turned g c = λ told seen w fits held.
     let C = g.C.Cell in
     let is = done_archive w c.args.command.now (sym c.asks_cell.ensures ∙ c.if-asks_cell.false) (sym c.asks_archive.ensures ∙ c.if-asks_archive.true) in
     let holds = held_archive w c.args.command.now (sym c.asks_archive.ensures ∙ c.if-asks_archive.true) held in
-    subst (λ (t : Turn). IfOk c.on_archive.result (λ reply. Turned P C w t c.args.plant.now c.on_archive.new.plant c.on_archive.new.cell c.args.self.now reply)) (sym is) (c.on_archive.ensures.turned told seen w fits holds)
+    subst (λ (t : Turn). IfOk c.on_archive.result (λ reply. TurnDone P C w t c.args.plant.now c.on_archive.new.plant c.on_archive.new.cell c.args.self.now reply)) (sym is) (c.on_archive.ensures.turned told seen w fits holds)
 
 pub returns-then-asks_archive-clause-some_turn : goal.returns-then-asks_archive-clause-some_turn
 returns-then-asks_archive-clause-some_turn g c = λ told seen w fits. c.on_archive.ensures.some_turn told seen w fits
@@ -78,7 +78,7 @@ returns-then-asks_dump-clause-turned g c = λ told seen w fits held.
     let P = g.P.Plant in
     let C = g.C.Cell in
     let is = done_dump w c.args.command.now (sym c.asks_cell.ensures ∙ c.if-asks_cell.false) (sym c.asks_archive.ensures ∙ c.if-asks_archive.false) (sym c.asks_dump.ensures ∙ c.if-asks_dump.true) in
-    subst (λ (t : Turn). IfOk c.on_dump.result (λ reply. Turned P C w t c.args.plant.now c.on_dump.new.plant c.on_dump.new.cell c.on_dump.new.self reply)) (sym is) (c.on_dump.ensures.turned told seen w fits)
+    subst (λ (t : Turn). IfOk c.on_dump.result (λ reply. TurnDone P C w t c.args.plant.now c.on_dump.new.plant c.on_dump.new.cell c.on_dump.new.self reply)) (sym is) (c.on_dump.ensures.turned told seen w fits)
 
 pub returns-then-asks_dump-clause-some_turn : goal.returns-then-asks_dump-clause-some_turn
 returns-then-asks_dump-clause-some_turn g c = λ told seen w fits.
@@ -100,7 +100,7 @@ returns-else-asks_dump-clause-turned g c = λ told seen w fits held.
     let old = c.args.plant.now in
     let new = c.on_plant.new.plant in
     let is = done_plant w c.args.command.now (sym c.asks_cell.ensures ∙ c.if-asks_cell.false) (sym c.asks_archive.ensures ∙ c.if-asks_archive.false) (sym c.asks_dump.ensures ∙ c.if-asks_dump.false) in
-    subst (λ (t : Turn). IfOk c.on_plant.result (λ reply. Turned P C w t old new c.args.cell.now c.on_plant.new.self reply)) (sym is)
+    subst (λ (t : Turn). IfOk c.on_plant.result (λ reply. TurnDone P C w t old new c.args.cell.now c.on_plant.new.self reply)) (sym is)
     (in_ok c.on_plant.result _ _
     (λ reply turned. turned_by P C w old c.args.cell.now c.args.self.now fits (on_plant w c.args.command.now) new c.on_plant.new.self reply (plant_cells w c.args.command.now) turned)
     (c.on_plant.ensures.turned told w (fits_plant P C w old c.args.cell.now c.args.self.now fits)))

@@ -13,7 +13,7 @@ use Rattle.backup_replies.specs.declared.refusals.Refusal.TheVariants.{LogFull}
 use Rattle.backup_replies.specs.Texts.{refused_number}
 use Rattle.backup_session.specs.Views.{SessionView}
 use Rattle.backup_session.specs.Tapes.{labeled}
-use Rattle.backup_session.proofs.Taking.{commit_leaves, full_turned, both_leave, both_turned, settled_behind}
+use Rattle.backup_session.proofs.Taking.{commit_leaves, full_turned, both_leave, both_turned}
 use Rattle.backup_session.proofs.session.Session.take_and_label.Goals as goal
 
 pub returns-in_err-refused_number-in-Err-LogFull-clause-leaves : goal.returns-in_err-refused_number-in-Err-LogFull-clause-leaves
@@ -82,7 +82,7 @@ returns-in_err-write_label-in-Ok-clause-leaves g c = λ told w fits.
     let never : 268435456 < (P.view old).log_size + length (encoded (Take c.args.initial ∷ [])) → ⊥ = subst (λ (l : List Change). 268435456 < (P.view old).log_size + length (encoded l) → ⊥) is (λ over. ⊎_elim (λ f. cc) (λ f. cc) (e.only_full over)) in
     both_leave P w old c.args.self.now fits (g.met.P.Plant.log_told old told c.requires.sound) c.args.slot c.args.label.now (Take c.args.initial) mid new never
     (subst (λ (l : List Change). Done P (commits (encoded l) ∷ []) old mid) is e.done)
-    (subst (λ (l : List Change). Leaves P (commits (encoded l) ∷ []) old mid) is c.commit.ensures.leaves) (c.write_label.ensures.leaves (settled_behind P w old mid c.args.self.now (encoded c.as_slice.result.now) fits e.done))
+    (subst (λ (l : List Change). Leaves P (commits (encoded l) ∷ []) old mid) is c.commit.ensures.leaves) c.write_label.ensures.leaves
 
 pub returns-in-Ok-clause-leaves : goal.returns-in-Ok-clause-leaves
 returns-in-Ok-clause-leaves g c = λ told w fits.
@@ -95,7 +95,7 @@ returns-in-Ok-clause-leaves g c = λ told w fits.
     let never : 268435456 < (P.view old).log_size + length (encoded (Take c.args.initial ∷ [])) → ⊥ = subst (λ (l : List Change). 268435456 < (P.view old).log_size + length (encoded l) → ⊥) is (λ over. ⊎_elim (λ f. cc) (λ f. cc) (e.only_full over)) in
     both_leave P w old c.args.self.now fits (g.met.P.Plant.log_told old told c.requires.sound) c.args.slot c.args.label.now (Take c.args.initial) mid new never
     (subst (λ (l : List Change). Done P (commits (encoded l) ∷ []) old mid) is e.done)
-    (subst (λ (l : List Change). Leaves P (commits (encoded l) ∷ []) old mid) is c.commit.ensures.leaves) (c.write_label.ensures.leaves (settled_behind P w old mid c.args.self.now (encoded c.as_slice.result.now) fits e.done))
+    (subst (λ (l : List Change). Leaves P (commits (encoded l) ∷ []) old mid) is c.commit.ensures.leaves) c.write_label.ensures.leaves
 
 pub returns-in-Ok-clause-turned : goal.returns-in-Ok-clause-turned
 returns-in-Ok-clause-turned g c = λ told w fits.
@@ -110,7 +110,7 @@ returns-in-Ok-clause-turned g c = λ told w fits.
     let later : SessionView = record { config = c.self.inside.config; budb = c.commit.new.self; time = c.self.inside.time } in
     let kept : Keeps w.log (state_of P old).log c.self.inside.budb = record { form = fits.keeps.form; is = fits.state.log ∙ fits.keeps.is; fold = ap (λ (s : SessionView). s.budb.database) c.self.view_is ∙ fits.keeps.fold } in
     both_turned P w old c.args.self.now fits (g.met.P.Plant.log_told old told c.requires.sound) c.args.slot c.args.label.now (Take c.args.initial) mid new never
-    (subst (λ (l : List Change). Done P (commits (encoded l) ∷ []) old mid) is e.done) later c.new.result told (f.done (settled_behind P w old mid c.args.self.now (encoded c.as_slice.result.now) fits e.done))
+    (subst (λ (l : List Change). Done P (commits (encoded l) ∷ []) old mid) is e.done) later c.new.result told f.done
     (stays_both P old mid new c.commit.ensures.stays.stays c.write_label.ensures.stays.stays)
     (subst (λ (l : List Change). Keeps (w.log ++ l) (state_of P mid).log c.commit.new.self) is (e.keeps told w.log kept))
     (ap (λ (s : SessionView). s.time) c.self.view_is) (ap (λ (s : SessionView). s.config) c.self.view_is) (c.new.ensures ∙ c.requires.reply)
