@@ -14,7 +14,7 @@ mod telling;
 mod top;
 mod words;
 
-pub use archives::an_image_is_an_entry;
+pub use archives::{an_image_is_an_entry, an_image_is_not_refused};
 pub use edge::{explain, program, words_of};
 pub use status::Status;
 pub use top::run;

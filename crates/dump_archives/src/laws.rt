@@ -34,7 +34,7 @@ pub fn a_dump_keeps_the_archive()
 }
 
 /// Behind a dump, be it made or refused, all that a dump asks is so again, of the archive with the dump's contents: the cell is fair to the dumps
-/// that there are then, each id on a tape is known or past, and listed dumps end on their last tapes.
+/// that there are then, and each id on a tape is known or past.
 pub fn what_a_dump_asks_is_so_behind_it()
     ensures { (s : Scene) (command : AnyCommand) (contents : AnyContents) (records : AnyList DumpRecordFields) → IsCommandForm command → AsksOfScene s contents records
         → AsksBehind s (dump_answer s command) ((dump_answer s command).contents contents) }

@@ -1,3 +1,4 @@
+pub mod ReadLaws
 pub mod NeighbourLaws
 pub mod PartLaws
 pub mod LyingLaws

@@ -1,3 +1,4 @@
+pub mod Rest
 pub mod Neighbours
 pub mod Made
 pub mod Writing

@@ -16,6 +16,6 @@ pub use events::{
 };
 pub use steps::{
     a_dump_runs_behind_loads, a_dump_runs_in_states_alike, each_image_of_a_step_holds,
-    each_step_keeps, listed_dumps_stay_whole,
+    each_step_keeps, listed_dumps_stay_whole, what_is_settled_is_not_read,
 };
 pub use texts::{an_ended_part_is_closed, records_are_read_off_again};

@@ -1,16 +1,18 @@
 //! Laws of a dump's steps on a plant, each the contract of a function without a body.
 
-ghost use Rattle.std.specs.Prelude.{ℕ, Result, List as AnyList, map, ◌++◌};
+ghost use Rattle.std.specs.Prelude.{◌≡◌, ℕ, Result, List as AnyList, map, ◌++◌};
 ghost use Rattle.vnode_model.specs.declared.volumes.VolumeFields.{VolumeFields as AnyVolume};
 ghost use Rattle.cell_core.specs.declared.stored.Taken.{Taken as AnyTaken};
 ghost use Rattle.budb_changes.specs.declared.change.Change.{Change as AnyChange};
 ghost use Rattle.budb_changes.specs.declared.records.DumpRecordFields.{DumpRecordFields};
-ghost use Rattle.plant_core.specs.Crashes.{State, Alike};
+ghost use Rattle.plant_core.specs.Crashes.{State, Alike, seen_in};
 ghost use Rattle.plant_core.specs.Effects.{Effect, settles, come, Joint};
 ghost use Rattle.plant_core.specs.Stock.{Stock};
-ghost use Rattle.archive_model.specs.Archives.{Archive, Refusal, listed_of};
+ghost use Rattle.archive_model.specs.Archives.{Archive, Refusal, listed_of, Holds};
+ghost use Rattle.archive_model.specs.Settled.{HoldsSettled};
 ghost use Rattle.dump_job.specs.declared.fields.JobFields.{JobFields as AnyJob};
 ghost use Rattle.dump_job.specs.Events.{Around, event};
+ghost use Rattle.dump_laws.specs.Rest.{settled_whole};
 ghost use Rattle.dump_laws.specs.Made.{Made};
 ghost use Rattle.dump_laws.specs.Running.{RunsIn};
 ghost use Rattle.dump_laws.specs.Keeping.{MayStep, contents_behind, clones_behind, dumps_behind, AreAllHeld, Keeps, ImageHolds};
@@ -35,6 +37,13 @@ pub fn each_step_keeps()
 pub fn each_image_of_a_step_holds()
     ensures { (s : State) (a : Archive) (records : AnyList DumpRecordFields) (around : Around) (j : AnyJob) (m : Made) → RunsIn s a records j m → MayStep a records around j → (away : AnyList ℕ) (old c : Stock)
         → Joint s (map settles away ++ (event around j).effects) old c → ImageHolds a (a.log ++ (event around j).changes) (contents_behind a j m j.phase) c }
+{}
+
+/// What these laws say of a state that is settled whole is so of what reads give where records of another caller wait to be settled: such a state
+/// and the same one settled whole read alike behind all effects, and the second holds settled what the first holds as reads give it.
+pub fn what_is_settled_is_not_read()
+    ensures holds { (s : State) (a : Archive) (records : AnyList DumpRecordFields) → Holds (seen_in s) a records → HoldsSettled (settled_whole s) a records }
+    ensures reads { (s : State) (effects : AnyList Effect) → seen_in (come effects (settled_whole s)) ≡ seen_in (come effects s) }
 {}
 
 /// Where all tapes of listed dumps are held they are so behind what keeps the archive, and in each image of it.

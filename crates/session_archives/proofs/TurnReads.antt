@@ -1,9 +1,9 @@
 -- A command's turn doesn't ask what is settled: of two worlds of which reads give the same it is the same.
-use Rattle.std.proofs.Common.{◌≡◌, zero, suc, ℕ, ◌<◌, Some, None, List, [], ◌∷◌, ◌++◌, length, take, refl, ◌∙◌, ap, subst}
-use Rattle.std.specs.Prelude.{◌==◌, not, if◌then◌else◌, Option, Result, Ok, Err, IsTrue}
+use Rattle.std.proofs.Common.{◌≡◌, zero, suc, ℕ, ◌<◌, Some, None, List, [], ◌∷◌, ◌++◌, length, refl, ◌∙◌, ap, subst}
+use Rattle.std.specs.Prelude.{not, if◌then◌else◌, Option, Result, Ok, Err, IsTrue}
 use Rattle.std.specs.List.{list_any}
 use Rattle.plant_core.specs.Crashes.{State, seen_in}
-use Rattle.plant_core.specs.Effects.{Effect, commits, replaces, tells, puts, settles, cuts, comes, come}
+use Rattle.plant_core.specs.Effects.{tells, come}
 use Rattle.plant_core.specs.Records.{Record}
 use Rattle.tape_config.specs.declared.port.PortFields.{PortFields}
 use Rattle.tape_answers.specs.Slots.{slots_of}
@@ -23,6 +23,8 @@ use Rattle.dump_commands.specs.Refusals.{refusal_by, trial_refusal, fault_of}
 use Rattle.dump_commands.specs.Trials.{trial_text}
 use Rattle.dump_commands.specs.Courses.{Point, goes_on, next_event, behind, event_then, course_by, course_within, events_left, course}
 use Rattle.dump_commands.specs.Answers.{Answer, said, refused_or, commit_of, begun_point, ended, begun, begun_or, tape_for, real_answer, trial_answer, order_answer, port_answer, dump_answer}
+use Rattle.dump_laws.specs.Rest.{settled_whole}
+use Rattle.dump_laws.proofs.ReadLaws.{ReadsAlike, reads_come, alike_at_rest}
 use Rattle.backup_words.specs.declared.command.Command.{Command}
 use Rattle.backup_words.specs.declared.command.Command.TheVariants.{Dump}
 use Rattle.backup_session.specs.Asks.{asks_cell, asks_archive, asks_dump}
@@ -33,30 +35,9 @@ use Rattle.backup_session.specs.Machine.{on_cell, on_plant, done, turn}
 use Rattle.backup_session.specs.Restores.{archive_turn}
 use Rattle.backup_session.specs.Scanning.{adding, slots_turn}
 use Rattle.backup_session.specs.Worlds.{World, Turn, archive_of, after_turn, at_moment}
-use Rattle.command_forms.specs.Forms.{HasForms}
 use Rattle.session_archives.specs.Held.{HoldsWorld}
-use Rattle.session_archives.specs.Ready.{IsReadyForCommand}
+use Rattle.session_archives.specs.Ready.{IsInOrder, IsReady}
 use Rattle.session_archives.proofs.Images.{world_at_rest}
-
--- ---- effects
-
--- reads give the same of both
-pub record ReadsAlike (s t : State) : Type 0 where
-  pub log : t.log ≡ s.log
-  pub tape : t.tape ≡ s.tape
-  pub told : t.told ≡ s.told
-
-reads_comes : (e : Effect) (s t : State) → ReadsAlike s t → ReadsAlike (comes e s) (comes e t)
-reads_comes (commits bytes) s t alike = record { log = ap (λ (l : List ℕ). l ++ bytes) alike.log; tape = alike.tape; told = alike.told }
-reads_comes (replaces bytes) s t alike = record { log = refl; tape = alike.tape; told = alike.told }
-reads_comes (tells text) s t alike = record { log = alike.log; tape = alike.tape; told = ap (λ (l : List ℕ). l ++ text) alike.told }
-reads_comes (puts k r) s t alike = record { log = alike.log; tape = ap (λ (f : ℕ → List Record). λ (j : ℕ). if j == k then f j ++ r ∷ [] else f j) alike.tape; told = alike.told }
-reads_comes (settles k) s t alike = record { log = alike.log; tape = alike.tape; told = alike.told }
-reads_comes (cuts k n) s t alike = record { log = alike.log; tape = ap (λ (f : ℕ → List Record). λ (j : ℕ). if j == k then take n (f j) else f j) alike.tape; told = alike.told }
-
-pub reads_come : (es : List Effect) (s t : State) → ReadsAlike s t → ReadsAlike (come es s) (come es t)
-reads_come [] s t alike = alike
-reads_come (e ∷ es) s t alike = reads_come es (comes e s) (comes e t) (reads_comes e s t alike)
 
 -- ---- dumps
 
@@ -151,23 +132,42 @@ turn_same w t now command alike = done_same (at_moment w now) t alike command
 
 -- ---- a world of which not all is settled
 
--- the same state, settled whole
-settled_whole : State → State
-settled_whole s = record s { log_settled = length s.log; settled = λ k. length (s.tape k) }
+-- the same world, settled whole
+abbrev pub at_rest : World → World
+at_rest w = record w { state = settled_whole w.state }
 
-module _ (keeps : (w : World) (now : ℕ) (command : Command) → HasForms command → HoldsWorld w → IsReadyForCommand (at_moment w now) command → HoldsWorld (after_turn w (turn w now command))) where
-  pub reads_keep : (w : World) (now : ℕ) (command : Command) (records : List DumpRecordFields) → HasForms command → Holds (seen_in w.state) (archive_of w) records → ((k : ℕ) → IsTrue (w.setting.present k) → k < w.setting.slots) → HasTapes w → IsReadyForCommand (at_moment w now) command
-      → let v = after_turn w (turn w now command) in (behind : List DumpRecordFields) × Holds (seen_in v.state) (archive_of v) behind
-  unfolding settled_whole
-  reads_keep w now command records form held within has ready =
-      let whole : World = record w { state = settled_whole w.state } in
-      let at_rest : HoldsWorld whole = world_at_rest whole records held (record { log = refl; tapes = λ k. refl }) within (record { slots = has.slots; records = has.records }) in
-      let ready_there : IsReadyForCommand (at_moment whole now) command = λ asks. (let r = ready asks in record { order = r.order; name = r.name; ports = r.ports }) in
-      let alike : ReadsAlike w.state (settled_whole w.state) = record { log = refl; tape = refl; told = refl } in
-      let t : Turn = turn w now command in
-      let held_there : HoldsWorld (after_turn whole t) = subst (λ (x : Turn). HoldsWorld (after_turn whole x)) (turn_same w (settled_whole w.state) now command alike) (keeps whole now command form at_rest ready_there) in
-      let back : ReadsAlike (after_turn w t).state (after_turn whole t).state = reads_come (tells t.reply ∷ []) (come t.effects w.state) (come t.effects (settled_whole w.state)) (reads_come t.effects w.state (settled_whole w.state) alike) in (
-        held_there.records,
-        subst (λ (y : List ℕ × (ℕ → List Record) × List ℕ). Holds (record { log = Some y.0; tape = y.1; told = y.2 }) (record { log = t.log; slots = slots_of w.setting.slots w.setting.present y.1; contents = t.contents }) held_there.records)
-            (λ i. (back.log i, back.tape i, back.told i)) held_there.holds.seen,
+module _ (w : World) (now : ℕ) (command : Command) where
+  abbrev its_turn : Turn
+  its_turn = turn w now command
+
+  turn_at_rest : turn (at_rest w) now command ≡ its_turn
+  turn_at_rest = turn_same w (settled_whole w.state) now command (alike_at_rest w.state)
+
+  back : ReadsAlike (after_turn w its_turn).state (after_turn (at_rest w) its_turn).state
+  back = reads_come (tells its_turn.reply ∷ []) (come its_turn.effects w.state) (come its_turn.effects (settled_whole w.state)) (reads_come its_turn.effects w.state (settled_whole w.state) (alike_at_rest w.state))
+
+  -- the plant holds the archive of the world, as reads give it
+  pub holds_at_rest : (records : List DumpRecordFields) → Holds (seen_in w.state) (archive_of w) records → ((k : ℕ) → IsTrue (w.setting.present k) → k < w.setting.slots) → HasTapes w → HoldsWorld (at_rest w)
+  holds_at_rest records held within has = world_at_rest (at_rest w) records held (record { log = refl; tapes = λ k. refl }) within (record { slots = has.slots; records = has.records })
+
+  pub ready_at_rest : IsReady (at_moment w now) → IsReady (at_moment (at_rest w) now)
+  ready_at_rest ready = record { order = ready.order; name = ready.name; ports = ready.ports }
+
+  -- so it does behind the command
+  pub reads_hold : HoldsWorld (after_turn (at_rest w) (turn (at_rest w) now command)) → let v = after_turn w (turn w now command) in (behind : List DumpRecordFields) × Holds (seen_in v.state) (archive_of v) behind
+  reads_hold held =
+      let there : HoldsWorld (after_turn (at_rest w) its_turn) = subst (λ (t : Turn). HoldsWorld (after_turn (at_rest w) t)) turn_at_rest held in (
+        there.records,
+        subst (λ (y : List ℕ × (ℕ → List Record) × List ℕ). Holds (record { log = Some y.0; tape = y.1; told = y.2 }) (record { log = its_turn.log; slots = slots_of w.setting.slots w.setting.present y.1; contents = its_turn.contents }) there.records)
+            (λ i. (back.log i, back.tape i, back.told i)) there.holds.seen,
       )
+
+  -- and the world is ready behind it where it is so settled whole
+  pub reads_ready : IsReady (after_turn (at_rest w) (turn (at_rest w) now command)) → IsReady (after_turn w (turn w now command))
+  reads_ready ready =
+      let there : IsReady (after_turn (at_rest w) its_turn) = subst (λ (t : Turn). IsReady (after_turn (at_rest w) t)) turn_at_rest ready in
+      record {
+        order = subst (λ (f : ℕ → List Record). IsInOrder (after_turn w its_turn).cell its_turn.time (record { log = its_turn.log; slots = slots_of w.setting.slots w.setting.present f; contents = its_turn.contents })) back.tape there.order;
+        name = there.name;
+        ports = there.ports;
+      }

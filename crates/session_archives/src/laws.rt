@@ -106,13 +106,16 @@ pub fn worlds_at_rest_hold()
     ensures { (w : World) (records : AnyList DumpRecordFields) → Holds (seen_in w.state) (archive_of w) records → IsSettled w.state → ((k : ℕ) → IsTrue (w.setting.present k) → k < w.setting.slots) → HasTapes w → HoldsWorld w }
 {}
 
-/// Also where records that another caller put wait to be settled a command keeps the archive that the plant holds, as reads give it: its turn
-/// doesn't ask what is settled.
+/// Also where records that another caller put wait to be settled a command keeps the archive that the plant holds, as reads give it, and leaves a
+/// world ready that was: its turn doesn't ask what is settled.
 pub fn commands_keep_what_reads_give()
-    ensures { (w : World) (now : ℕ) (command : Command) (records : AnyList DumpRecordFields) → HasForms command → Holds (seen_in w.state) (archive_of w) records → ((k : ℕ) → IsTrue (w.setting.present k) → k < w.setting.slots) → HasTapes w → IsReadyForCommand (at_moment w now) command
+    ensures holds { (w : World) (now : ℕ) (command : Command) (records : AnyList DumpRecordFields) → HasForms command → Holds (seen_in w.state) (archive_of w) records → ((k : ℕ) → IsTrue (w.setting.present k) → k < w.setting.slots) → HasTapes w → IsReadyForCommand (at_moment w now) command
         → let v = after_turn w (turn w now command) in (behind : AnyList DumpRecordFields) × Holds (seen_in v.state) (archive_of v) behind }
+    ensures ready { (w : World) (now : ℕ) (command : Command) (records : AnyList DumpRecordFields) → HasForms command → NamesApart command → RestoresApart w command → Holds (seen_in w.state) (archive_of w) records → ((k : ℕ) → IsTrue (w.setting.present k) → k < w.setting.slots) → HasTapes w
+        → IsReady (at_moment w now) → IsReady (after_turn w (turn w now command)) }
 {
     commands_keep_the_archive();
+    commands_leave_a_ready_world_ready();
 }
 
 /// Blank tapes under an empty journal hold the archive without dumps, whatever its contents are.

@@ -1,5 +1,10 @@
-use Rattle.session_archives.proofs.TurnReads.{reads_keep}
+use Rattle.session_archives.proofs.TurnReads.{at_rest, holds_at_rest, ready_at_rest, reads_hold, reads_ready}
 use Rattle.session_archives.proofs.laws.commands_keep_what_reads_give.Goals as goal
 
-pub returns : goal.returns
-returns c = reads_keep c.commands_keep_the_archive.ensures.behind
+pub returns-clause-holds : goal.returns-clause-holds
+returns-clause-holds c = λ w now command records form held within has ready.
+    reads_hold w now command (c.commands_keep_the_archive.ensures.behind (at_rest w) now command form (holds_at_rest w now command records held within has) (λ asks. ready_at_rest w now command (ready asks)))
+
+pub returns-clause-ready : goal.returns-clause-ready
+returns-clause-ready c = λ w now command records form named apart held within has ready.
+    reads_ready w now command (c.commands_leave_a_ready_world_ready.ensures (at_rest w) now command form named apart (holds_at_rest w now command records held within has) (ready_at_rest w now command ready))
