@@ -17,11 +17,12 @@ const PICKS: [Pick; 5] = [
     Pick::Torn(255),
 ];
 
-/// How many runs were made, and how many of them kept what is promised; and how many dumps were listed behind all of them, and how many
+/// How many runs were made, how many of them were stopped or failed on the way, and how many kept what is promised; and how many dumps were listed behind all of them, and how many
 /// of these were listed again once the journal was lost.
 #[derive(Clone, Copy)]
 pub struct Counts {
     pub runs: u64,
+    pub stopped: u64,
     pub kept: u64,
     pub listed: u64,
     pub again: u64,
@@ -31,6 +32,7 @@ impl Counts {
     fn new() -> Counts {
         Counts {
             runs: 0,
+            stopped: 0,
             kept: 0,
             listed: 0,
             again: 0,
@@ -39,6 +41,9 @@ impl Counts {
 
     fn add(&mut self, trial: Trial) {
         self.runs = self.runs.saturating_add(1);
+        if !trial.is_whole {
+            self.stopped = self.stopped.saturating_add(1);
+        }
         if trial.is_kept {
             self.kept = self.kept.saturating_add(1);
         }
@@ -93,6 +98,23 @@ fn pick_of(state: u64) -> Pick {
         1 => Pick::New,
         _ => Pick::Torn(bits),
     }
+}
+
+/// Whether the script makes just so many calls of the media: it is stopped in the last of them, and in none behind it.
+pub fn makes_calls(alloc: Global, world: &World, count: u32) -> anyhow::Result<bool> {
+    let wanted = Wanted::new(alloc, world)?;
+    let count = u64::from(count);
+    let mishap = Mishap::MediaStops;
+    let last = try_call(
+        alloc,
+        world,
+        &wanted,
+        mishap,
+        count.saturating_sub(1),
+        Pick::Old,
+    )?;
+    let behind = try_call(alloc, world, &wanted, mishap, count, Pick::Old)?;
+    Ok(!last.is_whole && behind.is_whole)
 }
 
 /// Stops the script in so many calls at random, each below a bound. It isn't run to its end.

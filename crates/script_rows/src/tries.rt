@@ -2,7 +2,7 @@
 
 use crate::cuts::{change, cut};
 use crate::lines::print_line;
-use crate::mishaps::{Counts, try_calls, try_random};
+use crate::mishaps::{Counts, makes_calls, try_calls, try_random};
 use crate::numbers::{bytes, number, small_byte, small_number, two_words};
 use crate::script::Script;
 use crate::sweeps::{Places, sweep};
@@ -43,7 +43,8 @@ fn try_mishaps(
     print_counts(alloc, world, counts, printed)
 }
 
-/// Stops in calls at random by the words of a step, and prints the counts.
+/// Stops in calls at random by the words of a step, and prints the counts, how many runs were stopped, and whether the script makes just as many
+/// calls as there are to choose from.
 fn random_by(
     alloc: Global,
     world: &World,
@@ -54,7 +55,15 @@ fn random_by(
     let (count, bound) = two_words(more)?;
     let (count, bound) = (small_number(count)?, small_number(bound)?);
     let counts = try_random(alloc, world, number(seed)?, count, bound)?;
-    print_counts(alloc, world, counts, printed)
+    print_counts(alloc, world, counts, printed)?;
+    let stopped = counts.stopped;
+    let calls = if makes_calls(alloc, world, bound)? {
+        "all"
+    } else {
+        "not all"
+    };
+    let line = format!(in alloc; "stopped {stopped} in {calls} of its calls")?;
+    print_line(printed, line.as_str())
 }
 
 /// Runs the script over media with a byte that turns, by the words of a step.
