@@ -126,23 +126,6 @@ module _ {D : Type 0} (P : Plant D) (w : World) (old : D) (session : SessionView
           settles = λ whole. settled_label slot a (come (commits (encoded (c ∷ [])) ∷ []) w.state) (settled_commit (encoded (c ∷ [])) w.state whole);
         })
 
--- a tape whose dumps are none that are listed
-pub only_labeled : {D : Type 0} (P : Plant D) (w : World) (old new : D) (session : SessionView) (slot : ℕ) (a : LabelFields) (reply : ReplyView) → FitsPlant P w old session → P.tells → DoneAhead P (putting_label slot a) old new → Stays P old new
-    → reply.text ≡ labeled_lines a.afs a.permanent slot → TurnedPlant P w (labeled w slot a []) old new session reply
-only_labeled P w old new session slot a reply fits told done stays text = record {
-  done = done;
-  text = text;
-  fits = record {
-    keeps = subst (λ (l : List ℕ). Keeps w.log l session.budb) (sym (log_stays slot a w.state)) fits.keeps;
-    time = fits.time;
-    config = fits.config;
-    state = ahead_behind P (putting_label slot a) old new w.state told fits.state done;
-    slots = stays.slots ∙ fits.slots;
-    present = λ k. ap (λ (p : ℕ → Bool). p k) stays.present ∙ fits.present k;
-  };
-  settles = settled_label slot a w.state;
-}
-
 -- ---- where a tape is
 
 -- only the slot itself is looked at

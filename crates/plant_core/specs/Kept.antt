@@ -63,3 +63,7 @@ records_are loaded k s is = ap (λ (l : Option ℕ). count_at l s) is
 -- a log within its limit is within the law's
 pub short_log : (bytes log : List ℕ) → bytes ≡ log → length bytes ≤ 268435456 → length log ≤ 2 ^ 38
 short_log bytes log same short = omega (arith, ap length same, short)
+
+-- a tape within its limit is within the law's
+pub short_tape : (kept tape : List Record) → kept ≡ tape → length kept ≤ 524288 → length tape ≤ 4294967295
+short_tape kept tape same short = omega (arith, ap length same, short)

@@ -40,7 +40,7 @@ pub struct MemPlant {
 }
 
 impl Plant for MemPlant {
-    ghost use Rattle.plant_core.specs.Kept.{always_within, settled_is_left, is_below, below_is, records_are, short_log};
+    ghost use Rattle.plant_core.specs.Kept.{always_within, settled_is_left, is_below, below_is, records_are, short_log, short_tape};
     ghost use Rattle.plant_core.specs.Shown.{IsSound, Survives, events_of, view_of, moments_of};
     ghost use Rattle.plant_core.specs.declared.event.Event.{Event};
     ghost use Rattle.std.specs.Prelude.{refl, List};
@@ -70,6 +70,8 @@ impl Plant for MemPlant {
     ghost log_told = { λ m tells sound. refl };
 
     ghost log_small = { λ m sound. short_log m.log.items (after m.past.items blank).log m.log_kept m.log_short };
+
+    ghost short_tapes = { λ m k tells sound. short_tape (records_at m.tapes.items k) ((after m.past.items blank).tape k) (m.tapes_kept k) (m.short k) };
 
     ghost within = { λ m tells sound. always_within m.past.items };
 

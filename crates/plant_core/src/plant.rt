@@ -240,6 +240,9 @@ pub trait Plant {
     /// No log has more bytes than its form allows: 2^38, more than can be put.
     ghost log_small: { (s : Self) → sound s → (view s).log_size ≤ 2 ^ 38 };
 
+    /// No tape has more records than a number of four bytes counts.
+    ghost short_tapes: { (s : Self) (k : ℕ) → tells → sound s → length ((view s).state.tape k) ≤ 4294967295 };
+
     /// No more is settled than there is.
     ghost within: { (s : Self) → tells → sound s → IsWithin (view s).state };
 

@@ -1,5 +1,5 @@
 -- The laws of a plant, of one over a media.
-use Rattle.std.proofs.Common.{◌≡◌, ◌≢◌, inl, inr, ℕ, ◌+◌, ◌-◌, ◌^◌, ◌<◌, ◌≤◌, Bool, List, length, take, Some, IsTrue, sym, ◌∙◌, ap, subst, arith}
+use Rattle.std.proofs.Common.{◌≡◌, ◌≢◌, inl, inr, ℕ, ◌+◌, ◌-◌, ◌^◌, ◌<◌, ◌≤◌, Bool, List, length, take, Option, Some, IsTrue, sym, ◌∙◌, ap, subst, arith}
 use Rattle.crash_moments.specs.Moments.{Moments}
 use Rattle.media_core.specs.Media.{Image}
 use Rattle.crash_moments.specs.Telling.{IsFront}
@@ -9,13 +9,15 @@ use Rattle.crash_log.proofs.Fitting.{settled_front, settled_within, log_left, wh
 use Rattle.plant_core.specs.Crashes.{State, IsTorn, IsWithin, LeftIn, settled_part}
 use Rattle.plant_core.specs.Stock.{Stock}
 use Rattle.plant_media.specs.Stock.{tape_of, journal_of, stock_of}
-use Rattle.plant_media.specs.Loaded.{TapeSuits}
+use Rattle.plant_media.specs.Loaded.{TapeSuits, tape_in}
 use Rattle.plant_media.specs.Slots.{records_in, settled_in, slots_here, tape_at}
 use Rattle.plant_media.specs.State.{shown_of, moments_of, loaded_of, Suits}
 use Rattle.plant_media.specs.declared.plant.MediaPlant.{MediaPlant}
+use Rattle.plant_media.specs.declared.tape.Tape.{Tape}
 use Rattle.plant_media.specs.Shown.{journal_whole}
 use Rattle.plant_media.specs.Slotting as slotting
-use Rattle.plant_media.specs.Slotting.{shown_tape, shown_log, shown_told, shown_settled, shown_kept, one_stock, which, of_loaded, at_other, settled_other, loaded_counted, torn_left, settled_read}
+use Rattle.plant_media.specs.Counts.{few_in, few_loaded}
+use Rattle.plant_media.specs.Slotting.{at_loaded, shown_tape, shown_log, shown_told, shown_settled, shown_kept, one_stock, which, of_loaded, at_other, settled_other, loaded_counted, torn_left, settled_read}
 
 pub few : (n : ℕ) → n ≤ 65536 → n - 1 ≤ 65535
 few n le = omega arith
@@ -48,6 +50,17 @@ module _ {D : Type 0} (tells : Type 0) (moments : Moments D Image) (seen : D →
     pub log_counted : length_of plant.journal ≡ length state.log
     log_counted = sym (ap length (shown_log plant.journal plant.tape image) ∙ ap (λ (f : ℕ). length (log_bytes plant.journal (image.file f))) (sym suits.journal.file)
         ∙ bytes_long moments seen plant.journal plant.media (suits.journal.fits told))
+
+    pub few_records : (k : ℕ) → length (state.tape k) ≤ 4294967295
+    few_records k = elim (which plant.tape k) [
+      | inl (t, is, slot) ↦
+          let suit : TapeSuits tells moments seen present t plant.media = of_loaded (λ t. TapeSuits tells moments seen present t plant.media) plant.tape t is suits.loaded in
+          let room : length (log_bytes t.log (image.file (t.slot + 1))) ≤ 2 ^ 38 =
+          subst (λ (f : ℕ). length (log_bytes t.log (image.file f)) ≤ 2 ^ 38) suit.file (omega (arith, bytes_long moments seen t.log plant.media (suit.fits told), small_log t.log)) in
+          let one : state.tape k ≡ tape_in t image = shown_tape plant.journal plant.tape image k ∙ ap (λ (o : Option Tape). tape_at o image k) is ∙ at_loaded t image k (sym slot) in
+          omega (arith, ap length one, few_loaded t image room)
+      | inr other ↦ omega (arith, ap length (shown_tape plant.journal plant.tape image k ∙ at_other plant.tape image k other), few_in (image.file (k + 1)))
+    ]
 
     pub all_within : IsWithin state
     all_within = record {

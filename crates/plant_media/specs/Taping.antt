@@ -33,9 +33,6 @@ tape_then moments f tape old mid new first second = joined moments old mid new (
     (λ a b was step. record { here = inl step.here; others = step.others; told = step.told })
     (λ a b c was step left next. record { here = ⊎_elim (λ same. inl (same ∙ step.here)) (λ is. inr is) next.here; others = λ k ne. next.others k ne ∙ step.others k ne; told = next.told ∙ step.told })
 
-pub same_or : {D : Type 0} (moments : Moments D Image) (f : ℕ) (tape : List Record) (old new : D) → Leads moments old new (AtFile f SameTape) → Leads moments old new (AtFile f (TapeOr tape))
-same_or moments f tape old new leads = weakened moments old new (AtFile f SameTape) (AtFile f (TapeOr tape)) leads (λ a b was step. record { here = inl step.here; others = step.others; told = step.told })
-
 -- the same with a file and a tape by other names of them
 pub turn_at : {D : Type 0} (moments : Moments D Image) (f g : ℕ) (S T : List Record) (old new : D) → f ≡ g → S ≡ T → Leads moments old new (AtFile f (TapeOr S)) → Leads moments old new (AtFile g (TapeOr T))
 turn_at moments f g S T old new same is leads = at_file moments f g (TapeOr T) old new same (subst (λ (l : List Record). Leads moments old new (AtFile f (TapeOr l))) is leads)

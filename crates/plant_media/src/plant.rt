@@ -176,7 +176,7 @@ impl<M: Media> MediaPlant<M> {
 
 impl<M: Media> Plant for MediaPlant<M> {
     ghost use Rattle.plant_media.specs.State.{view_of, moments_of, IsSound, Survives};
-    ghost use Rattle.plant_media.specs.Laws.{few, below, small_log, is_here, counted, log_counted, all_within, others_whole, is_left, told_is_left, settled_is_left};
+    ghost use Rattle.plant_media.specs.Laws.{few, below, small_log, is_here, counted, log_counted, few_records, all_within, others_whole, is_left, told_is_left, settled_is_left};
 
     ghost tells = { M.tells };
 
@@ -203,6 +203,8 @@ impl<M: Media> Plant for MediaPlant<M> {
     ghost log_told = { λ s told sound. log_counted M.tells (as_read M.seen) M.seen M.present s sound told };
 
     ghost log_small = { λ s sound. small_log s.journal };
+
+    ghost short_tapes = { λ s k told sound. few_records M.tells (as_read M.seen) M.seen M.present s sound told k };
 
     ghost within = { λ s told sound. all_within M.tells (as_read M.seen) M.seen M.present s sound told };
 

@@ -74,10 +74,6 @@ abbrev pub takes : Option ℕ → List Change
 takes None = []
 takes (Some initial) = Take initial ∷ []
 
--- the changes that are committed before the tape is cut
-abbrev pub take_of : List DumpRecordFields → Option LabelFields → List Change
-take_of listed label = takes (forgotten listed label)
-
 -- the permanent name of a label, which a new label keeps; nothing where there is no label
 abbrev pub permanent_in : Option LabelFields → List ℕ
 permanent_in None = []

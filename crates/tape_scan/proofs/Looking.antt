@@ -1,17 +1,13 @@
 -- How what looking at tapes does is joined.
-use Rattle.std.proofs.Common.{◌≡◌, ◌≢◌, inl, inr, ℕ, Bool, true, false, Option, Some, None, List, [], ◌∷◌, ◌++◌, length, take, map, refl, sym, ap, ◌∙◌, subst, arith}
+use Rattle.std.proofs.Common.{◌≡◌, ◌≢◌, ℕ, Bool, true, false, Option, Some, None, List, [], ◌∷◌, ◌++◌, map, refl, sym, ap, ◌∙◌, subst}
 use Rattle.std.specs.Prelude.{Result, Err, if◌then◌else◌, ◌==◌}
-use Rattle.std.proofs.lemmas.Bool.{cases_Bool, eqb-true}
-use Rattle.std.proofs.lemmas.List.{map-append, take-map}
+use Rattle.std.proofs.lemmas.List.{map-append}
 use Rattle.crash_moments.specs.Moments.{Rose}
-use Rattle.crash_moments.proofs.Joining.{weakened}
 use Rattle.plant_core.specs.declared.plant.Plant.{Ghosts as Plant}
-use Rattle.plant_core.specs.Crashes.{State, Alike, IsSettled}
-use Rattle.plant_core.specs.Effects.{Effect, settles, come, comes, putting_away, Joint}
+use Rattle.plant_core.specs.Crashes.{State}
+use Rattle.plant_core.specs.Effects.{Effect, settles, come, comes, putting_away}
 use Rattle.plant_core.specs.Records.{Record}
-use Rattle.plant_core.specs.Stock.{Stock}
-use Rattle.plant_effects.specs.Runs.{state_of, loaded_of, Done, IsStartOf, Leaves, SameNumbers, StaysQuiet}
-use Rattle.plant_effects.proofs.States.{alike_self, alike_both, left_alike}
+use Rattle.plant_effects.specs.Runs.{state_of, loaded_of, Done, Leaves, SameNumbers, StaysQuiet}
 use Rattle.plant_effects.proofs.Joining.{Fits, nothing_done, nothing_left, done_both, leaves_both, quiet_both, nothing_quiet}
 use Rattle.tape_text.specs.Items.{Read}
 use Rattle.tape_scan.specs.Slots.{Slot}
@@ -160,44 +156,4 @@ module _ {D : Type 0} (P : Plant D) where
   a_load_leaves old new slot leaves = record {
     away = away_of (loaded_of P old) slot;
     leaves = subst (λ (es : List Effect). Leaves P es old new) (away_is (loaded_of P old) slot) leaves;
-  }
-
--- ---- where all is settled
-
-settled_again : (k j : ℕ) (s : State) → IsSettled s → (if j == k then length (s.tape j) else s.settled j) ≡ s.settled j
-settled_again k j s is = elim (cases_Bool (j == k)) [
-  | inl hit ↦ rw hit (sym (is.tapes j))
-  | inr miss ↦ rw miss refl
-]
-
-still_settled : (k : ℕ) (s : State) → IsSettled s → IsSettled (comes (settles k) s)
-still_settled k s is = record { log = is.log; tapes = λ j. settled_again k j s is ∙ is.tapes j }
-
-settling_settled : (away : List ℕ) (s : State) → IsSettled s → Alike s (come (map settles away) s)
-settling_settled [] s is = alike_self s
-settling_settled (k ∷ away) s is =
-    alike_both s (comes (settles k) s) (come (map settles away) (comes (settles k) s))
-    (record { log = refl; tape = λ j. refl; told = refl; log_settled = refl; settled = λ j. settled_again k j s is })
-    (settling_settled away (comes (settles k) s) (still_settled k s is))
-
-module _ {D : Type 0} (P : Plant D) where
-  -- loads settle what is settled already
-  pub loads_nothing : (old new : D) → (P.tells → IsSettled (state_of P old)) → Loads P old new → Done P [] old new
-  loads_nothing old new is loads = record {
-    sound = loads.done.sound;
-    survives = loads.done.survives;
-    state = λ told. alike_both (state_of P old) (come (map settles loads.away) (state_of P old)) (state_of P new) (settling_settled loads.away (state_of P old) (is told)) (loads.done.state told);
-  }
-
-  pub loads_leave_nothing : (old new : D) → (P.tells → IsSettled (state_of P old)) → LeavesLoads P old new → Leaves P [] old new
-  loads_leave_nothing old new is loads = record {
-    crash = λ told survives. weakened P.time old new (Joint (state_of P old) (map settles loads.away)) (Joint (state_of P old) []) (loads.leaves.crash told survives) (λ a b was step. record {
-      count = 0;
-      within = omega arith;
-      left = left_alike (state_of P old) (come (take step.count (map settles loads.away)) (state_of P old)) b
-          (subst (λ (es : List Effect). Alike (state_of P old) (come es (state_of P old))) (sym (take-map settles step.count loads.away)) (settling_settled (take step.count loads.away) (state_of P old) (is told)))
-          step.left;
-      grows = step.grows;
-    });
-    told = λ told. subst (IsStartOf (state_of P new).told) (settling_keeps_told loads.away (state_of P old)) (loads.leaves.told told);
   }
