@@ -1,5 +1,5 @@
 -- A DUMP, whatever it is told: it keeps the archive, and leaves one.
-use Rattle.std.proofs.Common.{◌≡◌, ◌⊎◌, ℕ, zero, suc, ◌+◌, ◌<◌, ◌≤◌, max, Bool, true, false, Option, Some, None, Ok, Err, List, [], ◌∷◌, ◌++◌, length, refl, sym, subst, arith, inl, inr}
+use Rattle.std.proofs.Common.{◌≡◌, ◌⊎◌, ℕ, zero, suc, ◌+◌, ◌<◌, ◌≤◌, max, Bool, true, false, Option, Some, None, Ok, Err, List, [], ◌∷◌, ◌++◌, length, take, refl, sym, subst, arith, inl, inr}
 use Rattle.std.specs.Prelude.{Contains, Result, slice_get, ◌&&◌, if◌then◌else◌}
 use Rattle.std.specs.Option.{unwrap_or}
 use Rattle.std.proofs.lemmas.List.Elements.{All-weaker}
@@ -19,6 +19,8 @@ use Rattle.volume_sets.specs.Sets.{entries_under}
 use Rattle.dump_levels.specs.Elements.{paths_above}
 use Rattle.budb.proofs.FoldForms.{forms_after}
 use Rattle.budb_changes.specs.declared.records.DumpRecordFields.{DumpRecordFields}
+use Rattle.budb_changes.specs.declared.change.Change.{Change}
+use Rattle.budb_changes.proofs.Logs.{same_changes}
 use Rattle.budb_changes.specs.Bytes.{encoded}
 use Rattle.budb_changes.specs.Forms.{AreChanges}
 use Rattle.budb_fold.specs.Database.{is_initial, without, after}
@@ -42,6 +44,7 @@ use Rattle.dump_job.specs.declared.first_tapes.FirstTape.{FirstTape}
 use Rattle.dump_job.specs.Beginning.{new_id, id_of, begin_changes, begun_job, place_tape, first_tape}
 use Rattle.dump_forms.specs.Forms.{HasForms}
 use Rattle.dump_forms.specs.Begins.{IsOrderForm}
+use Rattle.dump_forms.specs.Journals.{IsJournalAfter}
 use Rattle.dump_forms.proofs.BeginForms.{begin_forms}
 use Rattle.dump_forms.proofs.SlotForms.{tapes_fit}
 use Rattle.dump_laws.specs.Running.{RunsIn}
@@ -60,16 +63,16 @@ use Rattle.dump_commands.specs.Answers.{Contents, Answer, said, contents_with, b
 use Rattle.dump_commands.proofs.Passing.{Passes, passes}
 use Rattle.dump_commands.proofs.Settling.{commit_settled}
 use Rattle.dump_commands.proofs.OrderForms.{order_form}
-use Rattle.dump_archives.specs.Asking.{archive_in, AsksOfScene}
-use Rattle.dump_archives.specs.Keeping.{IsKnown, HoldsOnTheWay, EachKeepsListed, AsksBehind}
+use Rattle.dump_archives.specs.Asking.{archive_with, archive_in, AsksOfScene}
+use Rattle.dump_archives.specs.Keeping.{IsKnown, HeadsUpTo, KnowsIds, HoldsOnTheWay, EachKeepsListed, AsksBehind}
 use Rattle.dump_archives.proofs.Clones.{AreUp, expansion_up, expansion_within, good_places, HasGoodPlaces}
 use Rattle.dump_archives.proofs.Contents.{free_contents, dumped_same, grown_other}
 use Rattle.dump_archives.proofs.Courses.{Underway, Left, course_done}
 use Rattle.dump_archives.proofs.Fairs.{fewer_fair}
 use Rattle.dump_archives.proofs.Formed.{label_fits}
 use Rattle.dump_archives.proofs.Growing.{greatest_begun}
+use Rattle.dump_archives.proofs.Heads.{StaysUpTo, stays_known, heads_raised}
 use Rattle.dump_archives.proofs.Keeping.{Keeps, keeps_then, keeps_so, kept_after}
-use Rattle.dump_archives.proofs.Puts.{HeadsUpTo}
 use Rattle.dump_archives.proofs.Slots.{ReadOnce}
 use Rattle.dump_archives.proofs.Staying.{kept_step}
 
@@ -263,7 +266,7 @@ module _ (once : ReadOnce) (s : Scene) (contents : Contents) (records : List Dum
   its_course = course s point
 
   course_way : Keeps s.slots s.present grown IsLow point.log point.state its_course.effects its_course.log × Left once s o contents asks.cell asks.form.cell few good later_made asks.named its_course.log (come its_course.effects point.state)
-      × IsSettled (come its_course.effects point.state)
+      × IsSettled (come its_course.effects point.state) × StaysUpTo its s.slots s.present point.state its_course.effects
   course_way = course_done once s o contents asks.cell asks.form.cell few good later_made asks.named point underway
 
   begun_way : Keeps s.slots s.present grown IsLow s.log s.state (commit_of s o t ++ its_course.effects) its_course.log
@@ -272,6 +275,16 @@ module _ (once : ReadOnce) (s : Scene) (contents : Contents) (records : List Dum
   begun_known : Keeps s.slots s.present grown (IsKnown (ended s o t its_course).time (after its_course.log).greatest) s.log s.state (commit_of s o t ++ its_course.effects) its_course.log
   begun_known =
       keeps_so s.slots s.present grown (IsKnown (ended s o t its_course).time (after its_course.log).greatest) IsLow (λ d low. inl (let more = course_way.1.greatest in omega (arith, low, more))) (commit_of s o t ++ its_course.effects) s.state s.log its_course.log begun_way
+
+  -- ids that were known are known on the way: the new one is begun before it stands on a tape
+  begun_ids : (count : ℕ) (changes : List Change) → IsJournalAfter s.log (take count (commit_of s o t ++ its_course.effects)) changes → KnowsIds (archive_in s contents)
+      → KnowsIds (archive_with s grown changes (come (take count (commit_of s o t ++ its_course.effects)) s.state).tape)
+  begun_ids zero changes journal known = subst (λ (l : List Change). KnowsIds (archive_with s grown l s.state.tape)) (sym journal) known
+  begun_ids (suc count) changes (more, are, journal) known =
+      let same : more ≡ begin_of s o t = same_changes more (begin_of s o t) are.form begin.0 (sym are.is) in
+      let low : its ≤ (after (s.log ++ more)).greatest = subst (λ (l : List Change). its ≤ (after (s.log ++ l)).greatest) (sym same) (greatest_begun s.log _ its) in
+      let there = stays_known its s.slots s.present count its_course.effects point.state (s.log ++ more) changes course_way.3 low journal in
+      heads_raised its (after changes).greatest _ there.0 there.1
 
   -- what is known has the contents that it had
   begun_others : (d : DumpRecordFields) (name : List ℕ) → IsKnown s.time (database_in s).greatest d → grown d.id name ≡ contents d.id name
@@ -312,12 +325,18 @@ pub record KeptBy (s : Scene) (contents : Contents) (a : Answer) : Type 0 where
   pub keeps : Keeps s.slots s.present (a.contents contents) (IsKnown a.time (after a.log).greatest) s.log s.state a.effects a.log
   pub behind : AsksBehind s a (a.contents contents)
   pub others : (d : DumpRecordFields) (name : List ℕ) → IsKnown s.time (database_in s).greatest d → a.contents contents d.id name ≡ contents d.id name
+  pub ids : (count : ℕ) (changes : List Change) → IsJournalAfter s.log (take count a.effects) changes → KnowsIds (archive_in s contents) → KnowsIds (archive_with s (a.contents contents) changes (come (take count a.effects) s.state).tape)
+
+said_ids : (s : Scene) (contents : Contents) (count : ℕ) (changes : List Change) → IsJournalAfter s.log (take count []) changes → KnowsIds (archive_in s contents) → KnowsIds (archive_with s contents changes (come (take count []) s.state).tape)
+said_ids s contents zero changes journal known = subst (λ (l : List Change). KnowsIds (archive_with s contents l s.state.tape)) (sym journal) known
+said_ids s contents (suc count) changes journal known = subst (λ (l : List Change). KnowsIds (archive_with s contents l s.state.tape)) (sym journal) known
 
 said_kept : (s : Scene) (contents : Contents) (records : List DumpRecordFields) → AsksOfScene s contents records → (text : List ℕ) → KeptBy s contents (said s text)
 said_kept s contents records asks text = record {
   keeps = ((records, asks.holds, known_dumps s contents records asks), refl);
   behind = record { records = records; asks = asks };
   others = λ d name known. refl;
+  ids = said_ids s contents;
 }
 
 module _ (once : ReadOnce) (s : Scene) (contents : Contents) (records : List DumpRecordFields) (asks : AsksOfScene s contents records) where
@@ -337,6 +356,7 @@ module _ (once : ReadOnce) (s : Scene) (contents : Contents) (records : List Dum
         keeps = begun_known once s contents records asks o order.form order.time order.parent pass.some good t is;
         behind = begun_asks once s contents records asks o order.form order.time order.parent pass.some good t is;
         others = begun_others once s contents records asks o order.form order.time order.parent pass.some good t is;
+        ids = begun_ids once s contents records asks o order.form order.time order.parent pass.some good t is;
       }
   by_tape o order f pass (Err fault) is = said_kept s contents records asks _
 
@@ -379,7 +399,7 @@ module _ (once : ReadOnce) (s : Scene) (contents : Contents) (records : List Dum
   pub on_the_way : (a : DumpCommand) → IsCommandForm a → HoldsOnTheWay s (dump_answer s a) contents
   on_the_way a command count =
       let x = kept_after s.slots s.present ((dump_answer s a).contents contents) (IsKnown (dump_answer s a).time (after (dump_answer s a).log).greatest) count (dump_answer s a).effects s.state s.log (dump_answer s a).log (answer_kept a command).keeps in
-      record { changes = x.0; journal = x.1; records = x.2.0; holds = x.2.1; known = x.2.2 }
+      record { changes = x.0; journal = x.1; records = x.2.0; holds = x.2.1; known = x.2.2; ids = (answer_kept a command).ids count x.0 x.1 }
 
   pub each_keeps_listed : (a : DumpCommand) → IsCommandForm a → EachKeepsListed s (dump_answer s a).effects
   each_keeps_listed a command count e at =

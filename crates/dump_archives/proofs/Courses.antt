@@ -66,10 +66,12 @@ use Rattle.dump_archives.proofs.Fairs.{fewer_fair, done_fair}
 use Rattle.dump_archives.proofs.Fields.{Same, event_same, event_label, IsStream, AllAllowed, event_stream, IsRunning, event_runs, event_cuts}
 use Rattle.dump_archives.proofs.Formed.{is_formed, label_fits}
 use Rattle.dump_archives.proofs.Growing.{greatest_more}
+use Rattle.dump_archives.proofs.Heads.{StaysUpTo, event_up, stays_then}
 use Rattle.dump_archives.proofs.Lasts.{Finds, event_over}
 use Rattle.dump_archives.proofs.Lengths.{IsCounted, Bounds, event_bounds}
 use Rattle.dump_archives.proofs.Keeping.{archive_at, Keeps, keeps_then}
-use Rattle.dump_archives.proofs.Puts.{HeadsUpTo, heads_on}
+use Rattle.dump_archives.specs.Keeping.{HeadsUpTo}
+use Rattle.dump_archives.proofs.Puts.{heads_on}
 use Rattle.dump_archives.proofs.Slots.{ReadOnce}
 use Rattle.dump_archives.proofs.Ways.{event_way, last_slots}
 
@@ -370,6 +372,9 @@ module _ (once : ReadOnce) (s : Scene) (o : DumpOrder) (contents : Contents) (is
     heads_then : HeadsUpTo its (slots_at state_then)
     heads_then = subst (HeadsUpTo its) slots_then (heads_on its (listed_of a) a.slots z.slots put_then (subst (HeadsUpTo its) (sym u.slots) u.heads))
 
+    pub up_of : StaysUpTo its s.slots s.present p.state e.effects
+    up_of = event_up its s.slots s.present e.effects p.state (event_cuts (around s p) j) u.heads heads_then
+
     greatest_then : its ≤ (after (p.log ++ e.changes)).greatest
     greatest_then = (let more = greatest_more p.log e.changes in omega (arith, u.greatest, more))
 
@@ -485,16 +490,17 @@ module _ (once : ReadOnce) (s : Scene) (o : DumpOrder) (contents : Contents) (is
   -- ---- the course
 
   abbrev pub Done : Point → Course → Type 0
-  Done p c = Keeps s.slots s.present grown IsLow p.log p.state c.effects c.log × Left c.log (come c.effects p.state) × IsSettled (come c.effects p.state)
+  Done p c =
+      Keeps s.slots s.present grown IsLow p.log p.state c.effects c.log × Left c.log (come c.effects p.state) × IsSettled (come c.effects p.state) × StaysUpTo its s.slots s.present p.state c.effects
 
   then_done : (p : Point) (u : Underway p) (rest : Course) → Done (behind p (next_event s p)) rest → Done p (event_then (next_event s p) rest)
   then_done p u rest next =
       let e : Event = next_event s p in
       let state : come (e.effects ++ rest.effects) p.state ≡ come rest.effects (come e.effects p.state) = come_append e.effects rest.effects p.state in
-      (keeps_then s.slots s.present grown IsLow e.effects rest.effects p.state p.log (p.log ++ e.changes) rest.log (way_of p u) next.0, subst (Left rest.log) (sym state) next.1, subst IsSettled (sym state) next.2)
+      (keeps_then s.slots s.present grown IsLow e.effects rest.effects p.state p.log (p.log ++ e.changes) rest.log (way_of p u) next.0, subst (Left rest.log) (sym state) next.1, subst IsSettled (sym state) next.2, stays_then its s.slots s.present e.effects rest.effects p.state (up_of p u) next.3)
 
   last_done : (p : Point) (u : Underway p) → goes_on (next_event s p).answer ≡ false → Done p (last_event p (next_event s p))
-  last_done p u last = (way_of p u, left_of p u, last_settled p u last)
+  last_done p u last = (way_of p u, left_of p u, last_settled p u last, up_of p u)
 
   within_done : (n : ℕ) (p : Point) → events_left s.cell p.job ≤ n → Underway p → Done p (course s p)
   within_done zero p few u = elim (cases_Bool (goes_on (next_event s p).answer)) [

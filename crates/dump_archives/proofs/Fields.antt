@@ -281,58 +281,63 @@ phase_running phase.Over a j more = absurd (no_more more)
 pub event_runs : (a : Around) (j : JobFields) → RunsOn (event a j)
 event_runs a j = phase_running j.phase a j
 
--- ---- effects: no tape is cut but by the first one
+-- ---- effects: no tape is cut but by the first one, and the log isn't replaced
 
-abbrev pub HasNoCut : List Effect → Type 0
-HasNoCut [] = Unit {0}
-HasNoCut (commits bytes ∷ es) = HasNoCut es
-HasNoCut (replaces bytes ∷ es) = HasNoCut es
-HasNoCut (tells text ∷ es) = HasNoCut es
-HasNoCut (puts k r ∷ es) = HasNoCut es
-HasNoCut (settles k ∷ es) = HasNoCut es
-HasNoCut (cuts k n ∷ es) = ⊥
+abbrev pub OnlyAdds : List Effect → Type 0
+OnlyAdds [] = Unit {0}
+OnlyAdds (commits bytes ∷ es) = OnlyAdds es
+OnlyAdds (replaces bytes ∷ es) = ⊥
+OnlyAdds (tells text ∷ es) = OnlyAdds es
+OnlyAdds (puts k r ∷ es) = OnlyAdds es
+OnlyAdds (settles k ∷ es) = OnlyAdds es
+OnlyAdds (cuts k n ∷ es) = ⊥
 
 abbrev pub CutsFirst : List Effect → Type 0
 CutsFirst [] = Unit {0}
-CutsFirst (e ∷ es) = HasNoCut es
+CutsFirst (commits bytes ∷ es) = OnlyAdds es
+CutsFirst (replaces bytes ∷ es) = ⊥
+CutsFirst (tells text ∷ es) = OnlyAdds es
+CutsFirst (puts k r ∷ es) = OnlyAdds es
+CutsFirst (settles k ∷ es) = OnlyAdds es
+CutsFirst (cuts k n ∷ es) = OnlyAdds es
 
-no_cut_first : (es : List Effect) → HasNoCut es → CutsFirst es
-no_cut_first [] none = tt
-no_cut_first (commits bytes ∷ es) none = none
-no_cut_first (replaces bytes ∷ es) none = none
-no_cut_first (tells text ∷ es) none = none
-no_cut_first (puts k r ∷ es) none = none
-no_cut_first (settles k ∷ es) none = none
-no_cut_first (cuts k n ∷ es) none = absurd none
+adds_first : (es : List Effect) → OnlyAdds es → CutsFirst es
+adds_first [] none = tt
+adds_first (commits bytes ∷ es) none = none
+adds_first (replaces bytes ∷ es) none = absurd none
+adds_first (tells text ∷ es) none = none
+adds_first (puts k r ∷ es) none = none
+adds_first (settles k ∷ es) none = none
+adds_first (cuts k n ∷ es) none = absurd none
 
-no_cut_joined : (es fs : List Effect) → HasNoCut es → HasNoCut fs → HasNoCut (es ++ fs)
-no_cut_joined [] fs a b = b
-no_cut_joined (commits bytes ∷ es) fs a b = no_cut_joined es fs a b
-no_cut_joined (replaces bytes ∷ es) fs a b = no_cut_joined es fs a b
-no_cut_joined (tells text ∷ es) fs a b = no_cut_joined es fs a b
-no_cut_joined (puts k r ∷ es) fs a b = no_cut_joined es fs a b
-no_cut_joined (settles k ∷ es) fs a b = no_cut_joined es fs a b
-no_cut_joined (cuts k n ∷ es) fs a b = absurd a
+adds_joined : (es fs : List Effect) → OnlyAdds es → OnlyAdds fs → OnlyAdds (es ++ fs)
+adds_joined [] fs a b = b
+adds_joined (commits bytes ∷ es) fs a b = adds_joined es fs a b
+adds_joined (replaces bytes ∷ es) fs a b = absurd a
+adds_joined (tells text ∷ es) fs a b = adds_joined es fs a b
+adds_joined (puts k r ∷ es) fs a b = adds_joined es fs a b
+adds_joined (settles k ∷ es) fs a b = adds_joined es fs a b
+adds_joined (cuts k n ∷ es) fs a b = absurd a
 
-put_no_cut : (k : ℕ) (i : Item) → HasNoCut (put_on k i)
-put_no_cut k (Says f) = tt
-put_no_cut k Filemark = tt
-put_no_cut k Nothing = tt
+put_adds : (k : ℕ) (i : Item) → OnlyAdds (put_on k i)
+put_adds k (Says f) = tt
+put_adds k Filemark = tt
+put_adds k Nothing = tt
 
-puts_no_cut : (k : ℕ) (items : List Item) → HasNoCut (puts_on k items)
+puts_add : (k : ℕ) (items : List Item) → OnlyAdds (puts_on k items)
 unfolding puts_on
-puts_no_cut k [] = tt
-puts_no_cut k (i ∷ is) = no_cut_joined (put_on k i) (puts_on k is) (put_no_cut k i) (puts_no_cut k is)
+puts_add k [] = tt
+puts_add k (i ∷ is) = adds_joined (put_on k i) (puts_on k is) (put_adds k i) (puts_add k is)
 
-committing_no_cut : (changes : List Change) → HasNoCut (committing changes)
-committing_no_cut [] = tt
-committing_no_cut (c ∷ cs) = tt
+committing_adds : (changes : List Change) → OnlyAdds (committing changes)
+committing_adds [] = tt
+committing_adds (c ∷ cs) = tt
 
-closing_no_cut : (k : ℕ) (items : List Item) (changes : List Change) → CutsFirst (puts_on k items ++ committing changes)
-closing_no_cut k items changes = no_cut_first (puts_on k items ++ committing changes) (no_cut_joined (puts_on k items) (committing changes) (puts_no_cut k items) (committing_no_cut changes))
+closing_adds : (k : ℕ) (items : List Item) (changes : List Change) → CutsFirst (puts_on k items ++ committing changes)
+closing_adds k items changes = adds_first (puts_on k items ++ committing changes) (adds_joined (puts_on k items) (committing changes) (puts_add k items) (committing_adds changes))
 
 put_cuts : (k : ℕ) (items : List Item) → CutsFirst (puts_on k items)
-put_cuts k items = no_cut_first (puts_on k items) (puts_no_cut k items)
+put_cuts k items = adds_first (puts_on k items) (puts_add k items)
 
 clone_by_cuts : (e : Option VolEntry) (c : Option Taken) (j : JobFields) → CutsFirst (clone_by e c j).effects
 clone_by_cuts None c j = tt
@@ -345,7 +350,7 @@ clone_cuts cell (Some place) j = clone_by_cuts (entry_at cell place) (clone_at c
 
 part_cuts : (cut : Bool) (o : Option Chosen) (size : ℕ) (j : JobFields) → CutsFirst (part_end_by cut o size j).effects
 part_cuts cut None size j = put_cuts j.reel.slot (part_end_items 1 j)
-part_cuts cut (Some c) size j = closing_no_cut j.reel.slot (part_end_items 1 j) (part_end_by cut (Some c) size j).changes
+part_cuts cut (Some c) size j = closing_adds j.reel.slot (part_end_items 1 j) (part_end_by cut (Some c) size j).changes
 
 hand_cuts : (step : Hand → Event) (hand : Option Hand) (j : JobFields) → ((h : Hand) → CutsFirst (step h).effects) → CutsFirst (hand_event step hand j).effects
 hand_cuts step None j each = tt
@@ -360,13 +365,13 @@ piece_cuts true h j room = rw room (put_cuts j.reel.slot (piece_items h))
 piece_cuts false h j room = rw room (put_cuts j.reel.slot (end_items 0 h))
 
 phase_cuts : (p : Phase) (a : Around) (j : JobFields) → CutsFirst (event_by p a j).effects
-phase_cuts phase.Tape a j = puts_no_cut j.reel.slot (tape_items (uses_for j (items_at a.slots j.reel.slot)) j)
+phase_cuts phase.Tape a j = puts_add j.reel.slot (tape_items (uses_for j (items_at a.slots j.reel.slot)) j)
 phase_cuts phase.Clone a j = clone_cuts a.cell (slice_get j.places (length (volumes_done j))) j
 phase_cuts phase.Head a j = hand_cuts (λ h. head_event a h j) j.hand j (λ h. head_cuts (has_room 4 2 (counts_on j.port j.reel)) a h j refl)
 phase_cuts phase.Piece a j = hand_cuts (λ h. piece_event h j) j.hand j (λ h. piece_cuts (has_room 3 2 (counts_on j.port j.reel)) h j refl)
 phase_cuts phase.VolumeEnd a j = hand_cuts (λ h. putting (end_items 1 h) j (volume_ended h j)) j.hand j (λ h. put_cuts j.reel.slot (end_items 1 h))
 phase_cuts phase.PartEnd a j = part_cuts true (next_choice a.listed a.slots j) a.log_size j
-phase_cuts phase.DumpEnd a j = closing_no_cut j.reel.slot (part_end_items 0 j) (event_by phase.DumpEnd a j).changes
+phase_cuts phase.DumpEnd a j = closing_adds j.reel.slot (part_end_items 0 j) (event_by phase.DumpEnd a j).changes
 phase_cuts phase.Over a j = tt
 
 pub event_cuts : (a : Around) (j : JobFields) → CutsFirst (event a j).effects

@@ -3,13 +3,14 @@ mod TapeNames
 pub mod Keeping
 pub mod Staying
 mod StreamBytes
-mod Growing
+pub mod Growing
 mod Clones
 mod Contents
 mod Fairs
 mod Fields
 mod Formed
 mod Puts
+pub mod Heads
 mod Ways
 mod Lasts
 mod Lengths

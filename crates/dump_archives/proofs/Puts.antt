@@ -9,12 +9,9 @@ use Rattle.tape_text.specs.Items.{Item, Says, Filemark, Nothing}
 use Rattle.tape_scan.specs.Slots.{Slot}
 use Rattle.archive_model.specs.Holding.{HasNoHead}
 use Rattle.dump_laws.specs.Keeping.{HavePut}
+use Rattle.dump_archives.specs.Keeping.{HeadsUpTo}
 
 -- ---- heads
-
--- every head on these slots is of a dump of at most this id
-abbrev pub HeadsUpTo : ℕ → List Slot → Type 0
-HeadsUpTo id slots = (k : ℕ) (s : Slot) (n : ℕ) (h : DumpHeadFields) → slice_get slots k ≡ Some s → slice_get s.items n ≡ Some (Says (frames.DumpHead h)) → h.id ≤ id
 
 has_no : (id : ℕ) (items : List Item) (n : ℕ) (h : DumpHeadFields) → HasNoHead id items → slice_get items n ≡ Some (Says (frames.DumpHead h)) → h.id ≡ id → ⊥
 has_no id [] n h none at is = absurd (cc)

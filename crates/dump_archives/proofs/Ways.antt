@@ -22,7 +22,7 @@ use Rattle.archive_model.specs.Turns.{is_here, StillHeld}
 use Rattle.dump_job.specs.declared.fields.JobFields.{JobFields}
 use Rattle.dump_forms.specs.Journals.{AreBytesOf, IsJournalAfter}
 use Rattle.dump_laws.specs.Keeping.{IsOnTheWay, Keeps as KeepsDump}
-use Rattle.dump_archives.proofs.Fields.{HasNoCut, CutsFirst}
+use Rattle.dump_archives.proofs.Fields.{OnlyAdds, CutsFirst}
 use Rattle.dump_archives.proofs.Keeping.{archive_at, HoldsAt, Keeps}
 use Rattle.dump_archives.proofs.Slots.{ReadOnce, slots_again}
 
@@ -68,16 +68,14 @@ module _ (once : ReadOnce) (n : ℕ) (present : ℕ → Bool) (contents : ℕ �
   joined_bytes s log changes bytes is are = ap₂ (λ (a b : List ℕ). a ++ b) is are.is ∙ sym (encoded_more log changes)
 
   -- effects that cut nothing
-  uncut : (es : List Effect) (s : State) (log new : List Change) (ks : List Kept) → HasNoCut es → s.log ≡ encoded log → AreChanges log → IsJournalAfter log es new → AreHeld s es ks → AreOn ks → Keeps n present contents Is log s es new
+  uncut : (es : List Effect) (s : State) (log new : List Change) (ks : List Kept) → OnlyAdds es → s.log ≡ encoded log → AreChanges log → IsJournalAfter log es new → AreHeld s es ks → AreOn ks → Keeps n present contents Is log s es new
   uncut [] s log new [] none is form journal held on = absurd held
   uncut [] s log new (x ∷ []) none is form journal held on = (held_at s log x is form (on_first x [] on) held, journal)
   uncut [] s log new (x ∷ y ∷ ks) none is form journal held on = absurd held
   uncut (commits bytes ∷ es) s log new [] none is form journal held on = absurd held
   uncut (commits bytes ∷ es) s log new (x ∷ ks) none is form (changes, are, journal) (held, rest) on =
       (held_at s log x is form (on_first x ks on) held, (changes, are, uncut es (comes (commits bytes) s) (log ++ changes) new ks none (joined_bytes s log changes bytes is are) (joined_form log changes form are.form) journal rest (on_rest x ks on)))
-  uncut (replaces bytes ∷ es) s log new [] none is form journal held on = absurd held
-  uncut (replaces bytes ∷ es) s log new (x ∷ ks) none is form (changes, are, journal) (held, rest) on =
-      (held_at s log x is form (on_first x ks on) held, (changes, are, uncut es (comes (replaces bytes) s) changes new ks none are.is are.form journal rest (on_rest x ks on)))
+  uncut (replaces bytes ∷ es) s log new ks none is form journal held on = absurd none
   uncut (tells text ∷ es) s log new [] none is form journal held on = absurd held
   uncut (tells text ∷ es) s log new (x ∷ ks) none is form journal (held, rest) on = (held_at s log x is form (on_first x ks on) held, uncut es (comes (tells text) s) log new ks none is form journal rest (on_rest x ks on))
   uncut (puts k r ∷ es) s log new [] none is form journal held on = absurd held
@@ -93,7 +91,7 @@ module _ (once : ReadOnce) (n : ℕ) (present : ℕ → Bool) (contents : ℕ �
   first_held (e ∷ es) s x ks held = held.0
 
   -- a cut, which is the first of these effects
-  cut_then : (es : List Effect) (k count : ℕ) (s : State) (log new : List Change) (x : Kept) (ks : List Kept) → HasNoCut es → s.log ≡ encoded log → AreChanges log → slots ≡ slots_of n present s.tape → IsJournalAfter log es new
+  cut_then : (es : List Effect) (k count : ℕ) (s : State) (log new : List Change) (x : Kept) (ks : List Kept) → OnlyAdds es → s.log ≡ encoded log → AreChanges log → slots ≡ slots_of n present s.tape → IsJournalAfter log es new
       → HoldsSettled s x.archive x.records → AreHeld (comes (cuts k count) s) es ks → IsOn x → AreOn ks → Keeps n present contents Is log s (cuts k count ∷ es) new
   cut_then [] k count s log new x [] none is form there journal held rest on more = absurd rest
   cut_then (e ∷ es) k count s log new x [] none is form there journal held rest on more = absurd rest
@@ -111,7 +109,7 @@ module _ (once : ReadOnce) (n : ℕ) (present : ℕ → Bool) (contents : ℕ �
   pub way : (es : List Effect) (s : State) (log new : List Change) (ks : List Kept) → CutsFirst es → s.log ≡ encoded log → AreChanges log → slots ≡ slots_of n present s.tape → IsJournalAfter log es new → AreHeld s es ks → AreOn ks → Keeps n present contents Is log s es new
   way [] s log new ks cut is form there journal held on = uncut [] s log new ks tt is form journal held on
   way (commits bytes ∷ es) s log new ks cut is form there journal held on = uncut (commits bytes ∷ es) s log new ks cut is form journal held on
-  way (replaces bytes ∷ es) s log new ks cut is form there journal held on = uncut (replaces bytes ∷ es) s log new ks cut is form journal held on
+  way (replaces bytes ∷ es) s log new ks cut is form there journal held on = absurd cut
   way (tells text ∷ es) s log new ks cut is form there journal held on = uncut (tells text ∷ es) s log new ks cut is form journal held on
   way (puts k r ∷ es) s log new ks cut is form there journal held on = uncut (puts k r ∷ es) s log new ks cut is form journal held on
   way (settles k ∷ es) s log new ks cut is form there journal held on = uncut (settles k ∷ es) s log new ks cut is form journal held on

@@ -1,23 +1,13 @@
 -- ARCHIVES THAT BRING NO DUMP: what stands behind an effect has no dump and no dump's head that wasn't there in front of it.
-use Rattle.std.proofs.Common.{◌≡◌, ◌⊎◌, ℕ, zero, suc, ◌≤◌, max, Bool, true, false, Some, None, List, [], ◌∷◌, ◌++◌, length, take, refl, sym, ap, subst, ◌∙◌, arith, inl, inr}
-use Rattle.std.specs.Prelude.{Result, Ok, Err, Contains, slice_get, unwrap_or, if◌then◌else◌}
+use Rattle.std.proofs.Common.{◌≡◌, ◌⊎◌, ℕ, zero, suc, ◌≤◌, true, false, Some, List, [], ◌∷◌, ◌++◌, length, take, refl, sym, ap, subst, ◌∙◌, arith, inl, inr}
+use Rattle.std.specs.Prelude.{Contains, slice_get}
 use Rattle.std.proofs.lemmas.Bool.{cases_Bool, eqb-true, eq-eqb}
 use Rattle.std.proofs.lemmas.List.Elements.{All-weaker, Contains-push_cases, Contains-append_left}
-use Rattle.volume_sets.specs.declared.sets.VolumeSet.{VolumeSet}
-use Rattle.volume_sets.specs.declared.sets.SetsFault.{SetsFault}
-use Rattle.dump_levels.specs.declared.levels.Level.{Level}
-use Rattle.dump_levels.specs.declared.levels.LevelFault.{LevelFault}
-use Rattle.dump_levels.specs.Trees.{after_add as after_add_level, after_set as after_set_level, after_remove as after_remove_level}
-use Rattle.volume_sets.specs.Testing.{is_pattern}
-use Rattle.volume_sets.specs.Sets.{after_add as after_add_set, after_remove as after_remove_set, after_add_entry, after_remove_entry}
 use Rattle.tape_frames.specs.declared.frame.Frame.TheVariants as frames
 use Rattle.tape_frames.specs.declared.dump_head.DumpHeadFields.{DumpHeadFields}
 use Rattle.budb_changes.specs.declared.records.DumpRecordFields.{DumpRecordFields}
 use Rattle.budb_changes.specs.declared.change.Change.{Change}
-use Rattle.budb_changes.specs.declared.change.Change.TheVariants.{AddSet, DelSet, AddEntry, DelEntry, AddLevel, SetExpiry, DelLevel, AddHost, DelHost, Begin, Take, Done1, Forget, Found1, Done, Found}
-use Rattle.budb_fold.specs.declared.database.Database.{Database}
-use Rattle.budb_fold.specs.Database.{is_dump, has_dump, has_port, fits_record, with_sets, with_levels, entry_of, after_change, after_from, after, blank}
-use Rattle.budb_fold.proofs.Folds.{fold_more}
+use Rattle.budb_fold.specs.Database.{is_dump, has_dump, after}
 use Rattle.tape_text.specs.Items.{Item, Says}
 use Rattle.tape_text.specs.Texts.{Part, Tape, tape_items}
 use Rattle.tape_text.specs.Parts.{FoundPart, parts_at, parts_of}
@@ -45,56 +35,6 @@ brings_then a b c first second = record {
   heads = λ h is. first.heads h (second.heads h is);
   greatest = omega (arith, first.greatest, second.greatest);
 }
-
--- ---- ids that were begun or recorded
-
-sets_grow : (db : Database) (r : Result (List VolumeSet) SetsFault) → db.greatest ≤ (unwrap_or (with_sets db r) db).greatest
-sets_grow db (Ok sets) = omega arith
-sets_grow db (Err fault) = omega arith
-
-levels_grow : (db : Database) (r : Result (List Level) LevelFault) → db.greatest ≤ (unwrap_or (with_levels db r) db).greatest
-levels_grow db (Ok levels) = omega arith
-levels_grow db (Err fault) = omega arith
-
-if_so : (db other : Database) (b : Bool) → db.greatest ≤ other.greatest → db.greatest ≤ (unwrap_or (if b then Some other else None) db).greatest
-if_so db other true more = more
-if_so db other false more = omega arith
-
-unless_so : (db other : Database) (b : Bool) → db.greatest ≤ other.greatest → db.greatest ≤ (unwrap_or (if b then None else Some other) db).greatest
-unless_so db other true more = omega arith
-unless_so db other false more = more
-
-entry_grows : (db : Database) (b : Bool) (r : Result (List VolumeSet) SetsFault) → db.greatest ≤ (unwrap_or (if b then with_sets db r else None) db).greatest
-entry_grows db true r = sets_grow db r
-entry_grows db false r = omega arith
-
-record_grows : (d : DumpRecordFields) (db : Database) → db.greatest ≤ (after_change (Found d) db).greatest
-record_grows d db = if_so db (record db { greatest = max db.greatest d.id; listed = db.listed ++ d ∷ [] }) (fits_record d db.listed) (omega arith)
-
-change_grows : (c : Change) (db : Database) → db.greatest ≤ (after_change c db).greatest
-change_grows (AddSet set) db = sets_grow db (after_add_set set db.sets)
-change_grows (DelSet set) db = sets_grow db (after_remove_set set db.sets)
-change_grows (AddEntry set server partition pattern) db = entry_grows db (is_pattern pattern) (after_add_entry set (entry_of server partition pattern) db.sets)
-change_grows (DelEntry set number) db = sets_grow db (after_remove_entry set number db.sets)
-change_grows (AddLevel level expiry) db = levels_grow db (after_add_level db.levels level expiry)
-change_grows (SetExpiry level expiry) db = levels_grow db (after_set_level db.levels level expiry)
-change_grows (DelLevel level) db = levels_grow db (after_remove_level db.levels level)
-change_grows (AddHost host port) db = unless_so db (record db { hosts = db.hosts ++ record { host = host; port = port } ∷ [] }) (has_port db.hosts port) (omega arith)
-change_grows (DelHost port) db = omega arith
-change_grows (Begin id) db = omega arith
-change_grows (Take initial) db = omega arith
-change_grows (Done1 dump) db = record_grows dump db
-change_grows (Forget id) db = omega arith
-change_grows (Found1 dump) db = record_grows dump db
-change_grows (Done dump) db = record_grows dump db
-change_grows (Found dump) db = record_grows dump db
-
-from_grows : (cs : List Change) (db : Database) → db.greatest ≤ (after_from cs db).greatest
-from_grows [] db = omega arith
-from_grows (c ∷ cs) db = omega (arith, change_grows c db, from_grows cs (after_change c db))
-
-pub log_grows : (log cs : List Change) → (after log).greatest ≤ (after (log ++ cs)).greatest
-log_grows log cs = subst (λ (db : Database). (after log).greatest ≤ db.greatest) (sym (fold_more log cs blank)) (from_grows cs (after log))
 
 -- ---- a log that lists no more dumps
 

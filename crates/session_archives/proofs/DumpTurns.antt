@@ -1,5 +1,5 @@
 -- A dump's turn keeps the archive, with what the dump has from its first effect on, and leaves a ready world in order.
-use Rattle.std.proofs.Common.{List, [], refl}
+use Rattle.std.proofs.Common.{List, [], length, refl}
 use Rattle.plant_core.specs.Effects.{come}
 use Rattle.budb_changes.specs.declared.records.DumpRecordFields.{DumpRecordFields}
 use Rattle.dump_forms.specs.Journals.{IsJournalAfter}
@@ -20,6 +20,7 @@ use Rattle.script_journals.specs.Worlds.{IsWorldForm}
 use Rattle.script_journals.proofs.TurnForms.{scene_form}
 use Rattle.session_archives.specs.Ready.{IsInOrder, IsReady, IsReadyForCommand}
 use Rattle.session_archives.proofs.Kept.{Finds, said_keeps}
+use Rattle.session_archives.proofs.Knowing.{known_whole}
 use Rattle.session_archives.proofs.Leading.{LeadsTurn, leads_turn}
 use Rattle.session_archives.proofs.Orders.{fair_to_any}
 
@@ -72,7 +73,7 @@ module _ (laws : DumpLaws) (w : World) (has : HasTapes w) (finds : Finds w) (rea
   leads_dumped = record {
     way = λ count.
         (let held = laws.way (scene_of w) a w.contents finds.holds.0 form (asks w has finds ready) count in
-        record { changes = held.changes; journal = held.journal; records = held.records; holds = held.holds });
+        record { changes = held.changes; journal = held.journal; records = held.records; holds = held.holds; ids = held.ids });
     listed = λ count e at.
         (let keeps = laws.listed (scene_of w) a w.contents finds.holds.0 form (asks w has finds ready) count e at in
         record { changes = keeps.changes; journal = keeps.journal; still = keeps.still });
@@ -80,6 +81,10 @@ module _ (laws : DumpLaws) (w : World) (has : HasTapes w) (finds : Finds w) (rea
     state = refl;
     setting = refl;
     finds = finds_dumped;
+    ids = λ known.
+        (let es = (dump_answer (scene_of w) a).effects in
+        let all = laws.way (scene_of w) a w.contents finds.holds.0 form (asks w has finds ready) (length es) in
+        known_whole w.setting.slots w.setting.present es w.state w.log (dump_answer (scene_of w) a).log all.changes all.journal (laws.bytes (scene_of w) a (scene_form w (ready_form w has finds ready)) form) (all.ids known));
   }
 
   short_dumped : AreShort (come (dump_answer (scene_of w) a).effects w.state).tape

@@ -11,6 +11,7 @@ use Rattle.tape_answers.specs.Reading.{items_of}
 use Rattle.tape_answers.specs.Slots.{slot_of, slots_from, slots_of}
 use Rattle.budb_changes.specs.declared.change.Change.{Change}
 use Rattle.budb_changes.specs.declared.records.DumpRecordFields.{DumpRecordFields}
+use Rattle.budb_fold.specs.Database.{after}
 use Rattle.archive_model.specs.Archives.{Archive, listed_of, Holds, AreBlank}
 use Rattle.archive_model.specs.Turns.{StillHeld, remaining}
 use Rattle.archive_model.proofs.StillLaws.{image_still_held}
@@ -18,7 +19,10 @@ use Rattle.archive_model.proofs.DumpLaws.{rest_holds}
 use Rattle.archive_model.proofs.HeldLaws.{blank_holds}
 use Rattle.backup_session.specs.Worlds.{World, Setting, Contents, archive_of}
 use Rattle.backup_session.specs.Bounded.{HasTapes}
+use Rattle.dump_archives.specs.Keeping.{KnowsIds}
+use Rattle.dump_archives.proofs.Heads.{slots_up}
 use Rattle.session_archives.specs.Held.{HoldsWorld, archive_with, HoldsAfter, HoldsOnTheWay, HoldsImage}
+use Rattle.session_archives.proofs.Knowing.{torn_none}
 use Rattle.session_archives.proofs.Slots.{ReadOnce, slots_again}
 
 pub image_holds : ReadOnce → (w : World) (contents : Contents) (effects : List Effect) (image : Stock) → HoldsAfter w contents effects → LeftIn (come effects w.state) image → HoldsImage w contents effects image
@@ -33,6 +37,7 @@ image_holds once w contents effects image held left =
       records = remaining (listed_of a) found.0 held.records;
       holds = subst (λ (l : List Slot). Holds image (record a { slots = l }) (remaining (listed_of a) found.0 held.records)) same found.3;
       still = subst (λ (l : List Slot). StillHeld (listed_of a) a.slots l) same found.2;
+      ids = λ known. slots_up (after held.changes).greatest w.setting.slots w.setting.present s.tape image.tape (λ k. torn_none (s.settled k) (s.tape k) (image.tape k) (left.tapes k)) (held.ids known);
     }
 
 pub joint_holds : ReadOnce → (w : World) (contents : ℕ → Contents) (effects : List Effect) (old image : Stock) → HoldsOnTheWay w contents effects → (joint : Joint w.state effects old image)
@@ -45,15 +50,15 @@ world_at_rest w records held settled within has = record { records = records; ho
 
 -- ---- an image that is opened again
 
-module _ (w : World) (contents : Contents) (effects : List Effect) (image : Stock) (held : HoldsImage w contents effects image) (v : World) (setting : v.setting ≡ w.setting) (is : v.contents ≡ contents) (log : v.log ≡ held.changes) (bytes : image.log ≡ Some v.state.log) (tapes : (k : ℕ) → v.state.tape k ≡ image.tape k) where
+module _ (w : World) (contents : Contents) (effects : List Effect) (image : Stock) (held : HoldsImage w contents effects image) (v : World) (setting : v.setting ≡ w.setting) (is : v.contents ≡ contents) (log : v.log ≡ held.changes) (tapes : (k : ℕ) → v.state.tape k ≡ image.tape k) where
   same_archive : archive_with w contents held.changes image.tape ≡ archive_of v
   same_archive =
       let x = sym setting in
       let tape : image.tape ≡ v.state.tape = λ i. λ k. sym (tapes k) i in
       λ i. record { log = sym log i; slots = slots_of (x i).slots (x i).present (tape i); contents = sym is i }
 
-  seen_again : Holds (seen_in v.state) (archive_of v) held.records
-  seen_again =
+  seen_again : image.log ≡ Some v.state.log → Holds (seen_in v.state) (archive_of v) held.records
+  seen_again bytes =
       let h = subst (λ (a : Archive). Holds image a held.records) same_archive held.holds in
       record {
         changes = h.changes;
@@ -63,8 +68,11 @@ module _ (w : World) (contents : Contents) (effects : List Effect) (image : Stoc
         kept = h.kept;
       }
 
-  pub opened_again : ((k : ℕ) → IsTrue (w.setting.present k) → k < w.setting.slots) → IsSettled v.state → HasTapes v → HoldsWorld v
-  opened_again within settled has = world_at_rest v held.records seen_again settled (subst (λ (x : Setting). (k : ℕ) → IsTrue (x.present k) → k < x.slots) (sym setting) within) has
+  pub known_again : KnowsIds (archive_of w) → KnowsIds (archive_of v)
+  known_again known = subst KnowsIds same_archive (held.ids known)
+
+  pub opened_again : image.log ≡ Some v.state.log → ((k : ℕ) → IsTrue (w.setting.present k) → k < w.setting.slots) → IsSettled v.state → HasTapes v → HoldsWorld v
+  opened_again bytes within settled has = world_at_rest v held.records (seen_again bytes) settled (subst (λ (x : Setting). (k : ℕ) → IsTrue (x.present k) → k < x.slots) (sym setting) within) has
 
 -- ---- blank tapes
 

@@ -11,6 +11,7 @@ use Rattle.tape_answers.specs.Reading.{frame_in}
 use Rattle.backup_session.specs.Worlds.{World, Turn, Contents, before_reply}
 use Rattle.backup_session.specs.Turns.{said}
 use Rattle.session_archives.proofs.Slots.{ReadOnce}
+use Rattle.session_archives.proofs.Knowing.{AddsNoHead}
 use Rattle.session_archives.proofs.Keeping.{HoldsAt, Keeps, keeps_last}
 
 -- how blocks and tapes are read
@@ -21,11 +22,12 @@ pub record Reads : Type 0 where
   pub none : (bytes : List ℕ) → frame_in bytes ≡ None → IsSpelled bytes → ⊥
   pub once : ReadOnce
 
--- each state on the way of a turn holds the archive, all is settled behind it, and the dumps have what they had
+-- each state on the way of a turn holds the archive, all is settled behind it, the dumps have what they had, and no dump's head is put
 pub record TurnKeeps (w : World) (t : Turn) : Type 0 where
   pub keeps : Keeps w.setting.slots w.setting.present w.contents w.log w.state t.effects t.log
   pub settled : IsSettled (come t.effects w.state)
   pub contents : t.contents ≡ w.contents
+  pub adds : AddsNoHead w.log t.effects t.log
 
 -- what a turn finds: the plant holds the archive, all is settled, and the slots that are here are among the plant's
 pub record Finds (w : World) : Type 0 where
@@ -43,7 +45,7 @@ finds_behind w t finds keeps = record {
 
 module _ (w : World) where
   pub said_keeps : Finds w → (text : List ℕ) → TurnKeeps w (said w text)
-  said_keeps finds text = record { keeps = (finds.holds, refl); settled = finds.settled; contents = refl }
+  said_keeps finds text = record { keeps = (finds.holds, refl); settled = finds.settled; contents = refl; adds = refl }
 
   pub picked : (b : Bool) (s t : Turn) → TurnKeeps w s → TurnKeeps w t → TurnKeeps w (if b then s else t)
   picked true s t is_s is_t = is_s

@@ -12,12 +12,13 @@ use Rattle.plant_core.specs.Effects.{commits, comes}
 use Rattle.tape_config.specs.declared.port.PortFields.{PortFields}
 use Rattle.tape_config.specs.Configs.{port_in}
 use Rattle.tape_frames.specs.declared.label.LabelFields.{LabelFields}
+use Rattle.tape_frames.specs.declared.dump_head.DumpHeadFields.{DumpHeadFields}
 use Rattle.tape_frames.specs.declared.frame.Frame.{Frame}
 use Rattle.tape_frames.specs.declared.frame.Frame.TheVariants.{Label, DumpHead, VolHead, Data, VolEnd, DumpEnd}
 use Rattle.tape_frames.specs.Layouts.{FitsLabel}
-use Rattle.tape_frames.specs.Frames.{Fits}
+use Rattle.tape_frames.specs.Frames.{Fits, spelling}
 use Rattle.tape_text.specs.Items.{Item, Says, Filemark, Nothing}
-use Rattle.tape_answers.specs.Reading.{frame_in, item_for, items_of}
+use Rattle.tape_answers.specs.Reading.{frame_in, item_for, item_of, items_of}
 use Rattle.budb_changes.specs.declared.records.TapePart.{TapePart}
 use Rattle.budb_changes.specs.declared.records.DumpRecordFields.{DumpRecordFields}
 use Rattle.budb_changes.specs.declared.change.Change.TheVariants.{Take}
@@ -37,6 +38,7 @@ use Rattle.backup_session.proofs.LabelLaws.{frame_label, nothing_label}
 use Rattle.backup_session.proofs.Settling.{settled_commit, settled_label}
 use Rattle.script_journals.proofs.Following.{own_bytes}
 use Rattle.session_archives.proofs.Effects.{taken_at, labeled_at}
+use Rattle.session_archives.proofs.Knowing.{IsNoHead}
 use Rattle.session_archives.proofs.Kept.{Reads, TurnKeeps, Finds, said_keeps, picked}
 
 -- ---- a label among items
@@ -152,6 +154,23 @@ new_fits old name pname fits is_name is_pname = record {
   carries = inl (refl, refl);
 }
 
+-- ---- what is put is no dump's head
+
+no_head_read : (reads : Reads) (a : LabelFields) → FitsLabel a → (h : DumpHeadFields) (o : Option Frame) → frame_in (spelling (Label a)) ≡ o → item_for o ≡ Says (DumpHead h) → ⊥
+no_head_read reads a fit h None is says = (let e : Nothing ≡ Says (DumpHead h) = says in cc)
+no_head_read reads a fit h (Some f) is says =
+    let read = reads.frame (spelling (Label a)) f is in
+    let same : Label a ≡ f = reads.one (Label a) f fit read.0 read.1 in
+    let head : f ≡ DumpHead h = cc in
+    let both : Label a ≡ DumpHead h = same ∙ head in
+    cc
+
+pub label_no_head : (reads : Reads) (a : LabelFields) → FitsLabel a → IsNoHead (item_of (block_with (spelling (Label a))))
+label_no_head reads a fit h is = no_head_read reads a fit h (frame_in (spelling (Label a))) refl is
+
+mark_no_head : IsNoHead (item_of mark)
+mark_no_head h is = (let e : Filemark ≡ Says (DumpHead h) = is in cc)
+
 -- ---- the turn
 
 module _ (reads : Reads) (w : World) (finds : Finds w) (slot : ℕ) (below : slot < w.setting.slots) (a : LabelFields) (fit : FitsLabel a) where
@@ -161,6 +180,7 @@ module _ (reads : Reads) (w : World) (finds : Finds w) (slot : ℕ) (below : slo
     keeps = labeled_at w.setting.slots w.setting.present w.contents reads.once w.state w.log slot a finds.holds below fit none;
     settled = settled_label slot a w.state finds.settled;
     contents = refl;
+    adds = (label_no_head reads a fit, (mark_no_head, refl));
   }
 
   -- a dump set is taken, and then no listed dump is held there
@@ -180,6 +200,7 @@ module _ (reads : Reads) (w : World) (finds : Finds w) (slot : ℕ) (below : slo
         );
         settled = settled_label slot a s (settled_commit (encoded changes) w.state finds.settled);
         contents = refl;
+        adds = (changes, own_bytes changes form, (label_no_head reads a fit, (mark_no_head, refl)));
       })
 
   none_of_initial : (initial : ℕ) → HasInitial initial (items_of (w.state.tape slot)) → list_any (is_initial initial) (after w.log).listed ≡ false → (d : DumpRecordFields) (tape : ℕ) → Contains (after w.log).listed d → holds d tape (items_of (w.state.tape slot)) ≡ true → ⊥

@@ -3,6 +3,7 @@ pub mod Slots
 pub mod Keeping
 pub mod Effects
 pub mod Staying
+pub mod Knowing
 pub mod Kept
 pub mod Leading
 pub mod Labels

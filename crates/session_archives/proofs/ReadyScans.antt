@@ -25,7 +25,8 @@ use Rattle.backup_session.specs.Turns.{said, length_with}
 use Rattle.backup_session.specs.Scanning.{stopped_line, left_line, slots_here, scans_of, has_wrong_parent, time_with, Step, says, recorded, added_if, then_turn, with_front, with_dump, adding, dumps_turn, then_said, tapes_turn, slots_turn, scan_turn}
 use Rattle.backup_session.proofs.ScanLaws.{all_here}
 use Rattle.session_archives.proofs.Kept.{Finds, finds_behind}
-use Rattle.session_archives.proofs.Bringing.{BringsNone, brings_then, log_grows, listing_brings}
+use Rattle.dump_archives.proofs.Growing.{greatest_more}
+use Rattle.session_archives.proofs.Bringing.{BringsNone, brings_then, listing_brings}
 use Rattle.session_archives.proofs.Scans.{IsThere, StepKeeps, says_keeps, record_fits, is_unlisted, there_behind, step_keeps, Assembles, all_there, HaveForms}
 use Rattle.session_archives.proofs.ReadyTapes.{KeepsOrder, said_orders}
 
@@ -57,7 +58,7 @@ module _ (w : World) (finds : Finds w) (d : DumpRecordFields) (there : IsThere w
       let fit : fits_record d (after w.log).listed ≡ true = record_fits d.id d.parent (has_dump (after w.log).listed d.id) (list_all is_whole d.volumes) right new in
       let more : (after log).listed ≡ (after w.log).listed ++ d ∷ [] = recorded_behind w.log (change.Found d) d (inr refl) fit in
       record {
-        brings = listing_brings (archive_of w) log d more un (log_grows w.log (change.Found d ∷ []));
+        brings = listing_brings (archive_of w) log d more un (greatest_more w.log (change.Found d ∷ []));
         cell = refl;
         later = time_later w.time d;
         four = λ four. time_four w.time d four there.form;

@@ -9,13 +9,12 @@ use Rattle.plant_core.specs.Crashes.{State}
 use Rattle.plant_core.specs.Effects.{commits, comes, come}
 use Rattle.tape_frames.specs.declared.label.LabelFields.{LabelFields}
 use Rattle.tape_frames.specs.declared.dump_head.DumpHeadFields.{DumpHeadFields}
-use Rattle.tape_frames.specs.declared.frame.Frame.{Frame}
 use Rattle.tape_frames.specs.declared.frame.Frame.TheVariants.{Label, DumpHead}
 use Rattle.tape_frames.specs.Layouts.{FitsLabel}
 use Rattle.tape_frames.specs.Frames.{spelling}
-use Rattle.tape_text.specs.Items.{Says, Filemark, Nothing}
+use Rattle.tape_text.specs.Items.{Says, Filemark}
 use Rattle.tape_scan.specs.Slots.{Slot}
-use Rattle.tape_answers.specs.Reading.{frame_in, item_for, items_of}
+use Rattle.tape_answers.specs.Reading.{items_of}
 use Rattle.tape_answers.specs.Slots.{slot_of as slot_at, slots_of}
 use Rattle.budb_changes.specs.declared.records.DumpRecordFields.{DumpRecordFields}
 use Rattle.budb_changes.specs.declared.change.Change.{Change}
@@ -36,9 +35,10 @@ use Rattle.backup_session.specs.Tapes.{new_label, putting_label, taken, labeled,
 use Rattle.backup_session.specs.Machine.{committed, replaced, carried}
 use Rattle.session_archives.proofs.Slots.{slot_there, slot_told}
 use Rattle.session_archives.proofs.Kept.{Reads, Finds}
-use Rattle.session_archives.proofs.Labels.{label_fits, new_fits}
+use Rattle.session_archives.proofs.Labels.{label_fits, new_fits, label_no_head}
 use Rattle.session_archives.proofs.Verdicts.{AreMild, IsMild}
-use Rattle.session_archives.proofs.Bringing.{BringsNone, brings_itself, brings_then, log_grows, fewer_bring, IsBare, SaysOrIsBare, bare_brings}
+use Rattle.dump_archives.proofs.Growing.{greatest_more}
+use Rattle.session_archives.proofs.Bringing.{BringsNone, brings_itself, brings_then, fewer_bring, IsBare, SaysOrIsBare, bare_brings}
 
 pub record KeepsOrder (w : World) (t : Turn) : Type 0 where
   pub brings : BringsNone (archive_of w) (archive_of (before_reply w t))
@@ -63,10 +63,10 @@ module _ (w : World) (finds : Finds w) where
   listed_same log same grown = listed_fewer log (λ d there. subst (λ (l : List DumpRecordFields). Contains l d) same there) grown
 
   mild_brings : (changes : List Change) → AreMild changes → BringsNone (archive_of w) (with_log (archive_of w) (w.log ++ changes))
-  mild_brings changes (inl none) = listed_same (w.log ++ changes) (untouched_behind w.log changes none) (log_grows w.log changes)
+  mild_brings changes (inl none) = listed_same (w.log ++ changes) (untouched_behind w.log changes none) (greatest_more w.log changes)
   mild_brings changes (inr (ids, are)) =
       let behind : (after (w.log ++ changes)).listed ≡ without (is_one_of ids) (after w.log).listed = ap (λ (cs : List Change). (after (w.log ++ cs)).listed) are ∙ forgotten_behind w.log ids in
-      listed_fewer (w.log ++ changes) (λ d there. (of_filter (λ x. not (is_one_of ids x)) (after w.log).listed d (subst (λ (l : List DumpRecordFields). Contains l d) behind there)).0) (log_grows w.log changes)
+      listed_fewer (w.log ++ changes) (λ d there. (of_filter (λ x. not (is_one_of ids x)) (after w.log).listed d (subst (λ (l : List DumpRecordFields). Contains l d) behind there)).0) (greatest_more w.log changes)
 
   committed_orders : (changes : List Change) (text : List ℕ) → AreMild changes → KeepsOrder w (committed w changes text)
   committed_orders changes text mild = record { brings = mild_brings changes mild; cell = refl; later = omega arith; four = λ four. four }
@@ -95,18 +95,6 @@ relabeled b old r =
     if b then one ++ mark ∷ [] else one
 
 module _ (reads : Reads) (a : LabelFields) (fit : FitsLabel a) where
-  label_block : Record
-  label_block = block_with (spelling (Label a))
-
-  no_head_read : (h : DumpHeadFields) (o : Option Frame) → frame_in (spelling (Label a)) ≡ o → item_for o ≡ Says (DumpHead h) → ⊥
-  no_head_read h None is says = (let e : Nothing ≡ Says (DumpHead h) = says in cc)
-  no_head_read h (Some f) is says =
-      let read = reads.frame (spelling (Label a)) f is in
-      let same : Label a ≡ f = reads.one (Label a) f fit read.0 read.1 in
-      let head : f ≡ DumpHead h = cc in
-      let both : Label a ≡ DumpHead h = same ∙ head in
-      cc
-
   bare_label : IsBare (items_of (block_with (spelling (Label a)) ∷ mark ∷ []))
   bare_label = record {
     short = omega arith;
@@ -114,7 +102,7 @@ module _ (reads : Reads) (a : LabelFields) (fit : FitsLabel a) where
   }
     where
       no_head : (n : ℕ) (h : DumpHeadFields) → slice_get (items_of (block_with (spelling (Label a)) ∷ mark ∷ [])) n ≡ Some (Says (DumpHead h)) → ⊥
-      no_head zero h is = no_head_read h (frame_in (spelling (Label a))) refl cc
+      no_head zero h is = label_no_head reads a fit h cc
       no_head (suc zero) h is = (let e : Some Filemark ≡ Some (Says (DumpHead h)) = is in cc)
       no_head (suc (suc n)) h is = (let e : None ≡ Some (Says (DumpHead h)) = is in cc)
 
@@ -138,7 +126,7 @@ module _ (reads : Reads) (a : LabelFields) (fit : FitsLabel a) where
     taken_brings : (initial : ℕ) → BringsNone (archive_of w) (with_log (archive_of w) (w.log ++ Take initial ∷ []))
     taken_brings initial =
         let behind : (after (w.log ++ Take initial ∷ [])).listed ≡ without (is_initial initial) (after w.log).listed = taken_behind w.log [] initial tt in
-        listed_fewer w finds (w.log ++ Take initial ∷ []) (λ d there. (of_filter (λ x. not (is_initial initial x)) (after w.log).listed d (subst (λ (l : List DumpRecordFields). Contains l d) behind there)).0) (log_grows w.log (Take initial ∷ []))
+        listed_fewer w finds (w.log ++ Take initial ∷ []) (λ d there. (of_filter (λ x. not (is_initial initial x)) (after w.log).listed d (subst (λ (l : List DumpRecordFields). Contains l d) behind there)).0) (greatest_more w.log (Take initial ∷ []))
 
     untaken_orders : KeepsOrder w (labeled w slot a [])
     untaken_orders = record { brings = label_brings w.log w.state refl; cell = refl; later = omega arith; four = λ four. four }

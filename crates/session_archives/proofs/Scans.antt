@@ -34,6 +34,7 @@ use Rattle.backup_session.proofs.ScanLaws.{all_here}
 use Rattle.script_journals.proofs.Following.{own_bytes}
 use Rattle.session_archives.proofs.Slots.{slot_there}
 use Rattle.session_archives.proofs.Keeping.{Keeps, keeps_then}
+use Rattle.session_archives.proofs.Knowing.{adds_then}
 use Rattle.session_archives.proofs.Effects.{found_at, settled_dump}
 use Rattle.session_archives.proofs.Kept.{TurnKeeps, Finds, finds_behind, said_keeps}
 
@@ -45,13 +46,14 @@ both_keep w s t first second = record {
       (subst (λ (c : Contents). Keeps w.setting.slots w.setting.present c s.log (come s.effects w.state) t.effects t.log) first.contents second.keeps);
   settled = subst IsSettled (sym (come_append s.effects t.effects w.state)) second.settled;
   contents = second.contents ∙ first.contents;
+  adds = adds_then s.effects t.effects w.log s.log t.log first.adds second.adds;
 }
 
 front_keeps : (w : World) (text : List ℕ) (t : Turn) → TurnKeeps w t → TurnKeeps w (with_front text t)
-front_keeps w text t keeps = record { keeps = keeps.keeps; settled = keeps.settled; contents = keeps.contents }
+front_keeps w text t keeps = record { keeps = keeps.keeps; settled = keeps.settled; contents = keeps.contents; adds = keeps.adds }
 
 behind_keeps : (w : World) (t : Turn) (text : List ℕ) → TurnKeeps w t → TurnKeeps w (then_said t text)
-behind_keeps w t text keeps = record { keeps = keeps.keeps; settled = keeps.settled; contents = keeps.contents }
+behind_keeps w t text keeps = record { keeps = keeps.keeps; settled = keeps.settled; contents = keeps.contents; adds = keeps.adds }
 
 -- ---- a dump that lies whole on the plant's tapes, and has the form of a record
 
@@ -103,6 +105,7 @@ module _ (w : World) (finds : Finds w) (d : DumpRecordFields) (there : IsThere w
           keeps = (finds.holds, (changes, own_bytes changes form, (found_at w.setting.slots w.setting.present w.contents w.state w.log d finds.holds form fit un settled, refl)));
           settled = settled_commit (encoded changes) w.state finds.settled;
           contents = refl;
+          adds = (changes, own_bytes changes form, refl);
         };
         tape = refl;
       }
@@ -146,7 +149,7 @@ dumps_keep w false ds finds all = said_keeps w finds _
 
 -- a turn behind one that is but a text
 pub behind_text : (w : World) (text : List ℕ) (t : Turn) → TurnKeeps w t → TurnKeeps (before_reply w (said w text)) t
-behind_text w text t keeps = record { keeps = keeps.keeps; settled = keeps.settled; contents = keeps.contents }
+behind_text w text t keeps = record { keeps = keeps.keeps; settled = keeps.settled; contents = keeps.contents; adds = keeps.adds }
 
 tapes_keep : (w : World) (dbadd : Bool) (tapes : List Sections) (found : Found) → Finds w → All (IsThere w) found.whole → TurnKeeps w (tapes_turn w dbadd tapes found)
 tapes_keep w dbadd tapes found finds all =

@@ -1,5 +1,5 @@
 -- The turn of a command that is no dump keeps the archive.
-use Rattle.std.proofs.Common.{◌≡◌, inl, inr, ℕ, List, [], ◌++◌, length, refl, sym, ap, subst}
+use Rattle.std.proofs.Common.{◌≡◌, inl, inr, ℕ, ◌≤◌, List, [], ◌++◌, length, refl, sym, ap, subst, arith}
 use Rattle.std.specs.Prelude.{nat_lt, Result, Ok, Err}
 use Rattle.plant_core.specs.Effects.{commits, comes}
 use Rattle.budb_changes.specs.declared.change.Change.{Change}
@@ -58,13 +58,15 @@ module _ (w : World) (finds : Finds w) where
     keeps = (finds.holds, (changes, own_bytes changes form, (mild_at changes form mild, refl)));
     settled = settled_commit (encoded changes) w.state finds.settled;
     contents = refl;
+    adds = (changes, own_bytes changes form, refl);
   }
 
-  replaced_keeps : (changes : List Change) → AreChanges changes → (after changes).listed ≡ (after w.log).listed → TurnKeeps w (replaced w changes)
+  replaced_keeps : (changes : List Change) → AreChanges changes → after changes ≡ after w.log → TurnKeeps w (replaced w changes)
   replaced_keeps changes form same = record {
-    keeps = (finds.holds, (changes, own_bytes changes form, (replaced_at w.setting.slots w.setting.present w.contents w.state w.log changes finds.holds form same, refl)));
+    keeps = (finds.holds, (changes, own_bytes changes form, (replaced_at w.setting.slots w.setting.present w.contents w.state w.log changes finds.holds form (ap (λ (db : Database). db.listed) same), refl)));
     settled = settled_replace (encoded changes) w.state finds.settled;
     contents = refl;
+    adds = (changes, own_bytes changes form, subst (λ (db : Database). (after w.log).greatest ≤ db.greatest) (sym same) (omega arith), refl);
   }
 
   carried_keeps : MakesSame → (v : Verdict) → HasBytes v → IsMild v → TurnKeeps w (carried w v)
@@ -73,7 +75,7 @@ module _ (w : World) (finds : Finds w) where
   carried_keeps same (Makes changes text) form mild = picked w (nat_lt 268435456 (length_with w changes)) _ _ (said_keeps w finds _) (committed_keeps changes text form mild)
   carried_keeps same Shortens form mild =
       let short = checkpoint (after w.log) in
-      picked w (nat_lt 268435456 (length (encoded short))) _ _ (said_keeps w finds _) (replaced_keeps short (checkpoint_form (after w.log) (forms_after w.log log_form)) (ap (λ (db : Database). db.listed) (same w.log)))
+      picked w (nat_lt 268435456 (length (encoded short))) _ _ (said_keeps w finds _) (replaced_keeps short (checkpoint_form (after w.log) (forms_after w.log log_form)) (same w.log))
 
   -- ---- commands on labels and on the cell, and restores
 
@@ -82,10 +84,10 @@ module _ (w : World) (finds : Finds w) where
   read_keeps (Ok slot) = said_keeps w finds _
 
   pub cell_keeps : (answer : CellAnswer) → TurnKeeps w (on_cell w answer)
-  cell_keeps answer = record { keeps = (finds.holds, refl); settled = finds.settled; contents = refl }
+  cell_keeps answer = record { keeps = (finds.holds, refl); settled = finds.settled; contents = refl; adds = refl }
 
   pub restore_keeps : (answer : RestoreAnswer) → TurnKeeps w (restored w answer)
-  restore_keeps answer = record { keeps = (finds.holds, refl); settled = finds.settled; contents = refl }
+  restore_keeps answer = record { keeps = (finds.holds, refl); settled = finds.settled; contents = refl; adds = refl }
 
 -- the dumps that a scan finds have records of the journal's form
 pub forms_found : (w : World) → HasTapes w → (port : Result PortFields (List ℕ)) → HaveForms w port

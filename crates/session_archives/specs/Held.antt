@@ -16,6 +16,7 @@ use Rattle.backup_session.specs.Bounded.{HasTapes}
 use Rattle.backup_script.specs.Items.{item_of}
 use Rattle.backup_script.specs.Scripts.{one_line}
 use Rattle.dump_forms.specs.Journals.{IsJournalAfter}
+use Rattle.dump_archives.specs.Keeping.{KnowsIds}
 
 -- Between two commands: the plant holds the archive of the world; all is settled; the slots that are here are some of the plant's; and the
 -- tapes are as long as a plant's are.
@@ -31,12 +32,13 @@ abbrev pub archive_with : World → Contents → List Change → (ℕ → List R
 archive_with w contents log tape = record { log = log; slots = slots_of w.setting.slots w.setting.present tape; contents = contents }
 
 -- Behind effects: their changes stand in the log, and the state holds the archive of these changes and of its own tapes, with these
--- contents.
+-- contents. And where all ids on tapes were known to the journal, they are known there.
 pub record HoldsAfter (w : World) (contents : Contents) (effects : List Effect) : Type 0 where
   pub changes : List Change
   pub journal : IsJournalAfter w.log effects changes
   pub records : List DumpRecordFields
   pub holds : HoldsSettled (come effects w.state) (archive_with w contents changes (come effects w.state).tape) records
+  pub ids : KnowsIds (archive_of w) → KnowsIds (archive_with w contents changes (come effects w.state).tape)
 
 -- On the way of effects: behind the first of them, however many, with the contents behind so many.
 abbrev pub HoldsOnTheWay : World → (ℕ → Contents) → List Effect → Type 0
@@ -65,10 +67,11 @@ abbrev pub RepliesSettle : World → List Effect → Type 0
 RepliesSettle w effects = (before after : List Effect) (reply : List ℕ) → effects ≡ before ++ tells reply ∷ after → 0 < length reply → IsSettled (come before w.state)
 
 -- What a crash leaves behind effects: the archive of their changes and of the tapes that are left, with the contents behind these effects.
--- Each listed dump is held where it was.
+-- Each listed dump is held where it was. And where all ids on tapes were known to the journal, they are known to the one that is left.
 pub record HoldsImage (w : World) (contents : Contents) (effects : List Effect) (image : Stock) : Type 0 where
   pub changes : List Change
   pub journal : IsJournalAfter w.log effects changes
   pub records : List DumpRecordFields
   pub holds : Holds image (archive_with w contents changes image.tape) records
   pub still : StillHeld (listed_of (archive_with w contents changes image.tape)) (archive_with w contents changes (come effects w.state).tape).slots (archive_with w contents changes image.tape).slots
+  pub ids : KnowsIds (archive_of w) → KnowsIds (archive_with w contents changes image.tape)

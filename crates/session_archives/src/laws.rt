@@ -95,10 +95,13 @@ pub fn images_hold_the_archive()
 }
 
 /// An image that holds the archive is opened to a world that holds it: one of the same slots and contents, of the changes of the image's
-/// journal and of its tapes. So a session goes on from there as if it had never been stopped.
+/// journal and of its tapes. So a session goes on from there as if it had never been stopped. And where the ids on tapes were known to the
+/// journal, they are known to that world's.
 pub fn images_open_to_their_archive()
-    ensures { (w : World) (contents : Contents) (effects : AnyList Effect) (image : Stock) → HoldsWorld w → (held : HoldsImage w contents effects image) → (v : World) → v.setting ≡ w.setting → v.contents ≡ contents → v.log ≡ held.changes
+    ensures holds { (w : World) (contents : Contents) (effects : AnyList Effect) (image : Stock) → HoldsWorld w → (held : HoldsImage w contents effects image) → (v : World) → v.setting ≡ w.setting → v.contents ≡ contents → v.log ≡ held.changes
         → image.log ≡ Some v.state.log → ((k : ℕ) → v.state.tape k ≡ image.tape k) → IsSettled v.state → HasTapes v → HoldsWorld v }
+    ensures ids { (w : World) (contents : Contents) (effects : AnyList Effect) (image : Stock) → (held : HoldsImage w contents effects image) → (v : World) → v.setting ≡ w.setting → v.contents ≡ contents → v.log ≡ held.changes
+        → ((k : ℕ) → v.state.tape k ≡ image.tape k) → KnowsIds (archive_of w) → KnowsIds (archive_of v) }
 {}
 
 /// A plant on which all is settled and that holds the archive of a world holds it as a command finds it.
