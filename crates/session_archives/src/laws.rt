@@ -24,6 +24,7 @@ ghost use Rattle.backup_script.specs.Scripts.{script};
 ghost use Rattle.backup_script.specs.Held.{IsHeldThroughout};
 ghost use Rattle.command_forms.specs.Forms.{HasForms};
 ghost use Rattle.command_forms.specs.NewNames.{NamesApart};
+ghost use Rattle.dump_archives.specs.Keeping.{KnowsIds};
 ghost use Rattle.script_journals.specs.Worlds.{IsWorldForm};
 ghost use Rattle.script_journals.specs.Dumping.{IsFormedFor};
 ghost use Rattle.session_archives.specs.Held.{HoldsWorld, HoldsAfter, HoldsOnTheWay, contents_on, EachKeepsListed, RepliesSettle, HoldsImage};
