@@ -1,7 +1,6 @@
 -- How changes are made, and what a command leaves.
 use Rattle.std.proofs.Common.{◌≡◌, ⊎_elim, ℕ, ◌+◌, ◌<◌, ◌≤◌, Bool, true, false, List, [], ◌∷◌, length, refl, sym, ◌∙◌, ap, subst, arith}
 use Rattle.std.specs.Prelude.{nat_lt, if◌then◌else◌, min, max, Result, Ok, Err, IfOk}
-use Rattle.std.proofs.lemmas.Bool.Decides.{nat_tests}
 use Rattle.std.proofs.lemmas.Bool.{cases_lt}
 use Rattle.plant_core.specs.declared.plant.Plant.{Ghosts as Plant}
 use Rattle.plant_core.specs.Effects.{commits}
@@ -30,18 +29,13 @@ use Rattle.backup_words.specs.declared.command.Command.TheVariants.{Labeltape, R
 use Rattle.backup_session.specs.Labels.{label_of}
 use Rattle.tape_config.specs.declared.port.PortFields.{PortFields}
 use Rattle.backup_session.specs.Scanning.{port_of, scan_turn, slots_here}
+use Rattle.backup_session.proofs.Room.{full_true, room_false}
 use Rattle.backup_session.proofs.ScanLaws.{slots_cells}
 use Rattle.backup_session.specs.Tapes.{slot_of, new_label, taken, labeled, label_turn, read_turn, tape_turn}
 use Rattle.backup_session.specs.Restores.{archive_turn}
 use Rattle.backup_session.specs.Dumps.{dump_turn}
 use Rattle.backup_session.specs.Machine.{committed, replaced, carried, on_cell, on_plant, off_cell, done, turn}
 use Rattle.backup_session.specs.Fitting.{Stands, TurnDone, SomeTurnDone, OnTheWay, FitsPlant, TurnedPlant}
-
-pub full_true : (a b : ℕ) → a < b → nat_lt a b ≡ true
-full_true a b lt = grind (arith, nat_tests)
-
-pub room_false : (a b : ℕ) → b ≤ a → nat_lt a b ≡ false
-room_false a b le = grind (arith, nat_tests)
 
 choice : World → List Change → List ℕ → Bool → Turn
 choice w changes text b = if b then said w (refused_number LogFull (length_with w changes)) else committed w changes text
@@ -222,3 +216,8 @@ some_at P C w now old new site session (Err stop) some = tt
 pub in_ok : {A F : Type 0} (r : Result A F) (Q R : A → Type 0) → ((x : A) → Q x → R x) → IfOk r Q → IfOk r R
 in_ok (Ok x) Q R map is = map x is
 in_ok (Err e) Q R map is = tt
+
+-- what holds at each answer
+pub ok_anyway : {A F : Type 0} (r : Result A F) (X : Type 0) → X → IfOk r (λ x. X)
+ok_anyway (Ok x) X holds = holds
+ok_anyway (Err e) X holds = tt

@@ -1,5 +1,6 @@
 pub mod Patterns
 pub mod Lists
+pub mod Room
 pub mod Entries
 pub mod CellLaws
 pub mod ScanLaws
@@ -13,3 +14,8 @@ pub mod RestoreLaws
 pub mod DumpLaws
 pub mod Silent
 pub mod OpenLaws
+pub mod RecordForms
+pub mod FoundForms
+pub mod ListingLaws
+pub mod AgainLaws
+pub mod TurnLaws

@@ -1,10 +1,12 @@
--- An opening that is refused behind its database.
-use Rattle.std.proofs.Common.{◌≡◌, ℕ, ap}
+-- How an opening is refused.
+use Rattle.std.proofs.Common.{◌≡◌, ℕ, List, refl, ap, subst}
 use Rattle.std.specs.Prelude.{Result, Ok, Err}
 use Rattle.crash_moments.specs.Moments.{HasCauseAt}
+use Rattle.budb_changes.specs.Forms.{IsLog}
+use Rattle.budb.specs.Views.{BudbView}
 use Rattle.backup_session.specs.declared.stops.OpenStop.{OpenStop}
 use Rattle.backup_session.specs.declared.stops.OpenStop.TheVariants as stops
-use Rattle.backup_session.specs.Opening.{UnlessFailed}
+use Rattle.backup_session.specs.Opening.{OpensDatabase, UnlessFailed, OpensOrLacksMemory}
 
 -- what holds at each answer holds unless the plant failed
 pub held_anyway : {T : Type 0} (r : Result T OpenStop) (X : Type 0) → X → UnlessFailed r X
@@ -21,3 +23,15 @@ stop_is e f is = cc
 pub cause_handed_on : {T U : Type 0} (before now : ℕ) (e : OpenStop) → HasCauseAt stops.Cell before now (let r : Result T OpenStop = Err e in r) → HasCauseAt stops.Cell before now (let r : Result U OpenStop = Err e in r)
 cause_handed_on before now e cause =
     record { later = cause.later; failed = λ is. cause.failed (ap Err (stop_is e stops.Cell is)); stays = λ well. cause.stays (λ is. well (ap Err (stop_is e stops.Cell is))) }
+
+-- a list of changes is refused at no place
+pub no_bad_log : (bytes : List ℕ) (r : Result BudbView OpenStop) → OpensDatabase bytes r → IsLog bytes → (at : ℕ) → r ≡ Err (stops.BadLog at) → ⊥
+no_bad_log bytes r opens log at is = (subst (λ (x : Result BudbView OpenStop). OpensDatabase bytes x) is opens).not_whole log
+
+-- a stop that is handed on, and that none of the other causes has, is that of memory
+pub for_memory : {T U : Type 0} (e : OpenStop) (r : Result U OpenStop) → r ≡ Err e → ((let s : Result T OpenStop = Err e in s) ≡ Err stops.Plant → ⊥) → ((let s : Result T OpenStop = Err e in s) ≡ Err stops.Cell → ⊥)
+    → ((at : ℕ) → (let s : Result T OpenStop = Err e in s) ≡ Err (stops.BadLog at) → ⊥) → OpensOrLacksMemory r
+for_memory stops.Plant r is plant cell log = absurd (plant refl)
+for_memory stops.Cell r is plant cell log = absurd (cell refl)
+for_memory (stops.BadLog at) r is plant cell log = absurd (log at refl)
+for_memory stops.Memory r is plant cell log = rw is tt

@@ -1,8 +1,7 @@
 -- Tapes that are scanned one after the other, turns in steps, and dumps that are added one after the other.
 use Rattle.std.proofs.Common.{◌≡◌, ⊎_elim, zero, suc, ℕ, ◌+◌, ◌-◌, ◌<◌, ◌≤◌, Bool, true, false, List, [], ◌∷◌, ◌++◌, length, take, drop, refl, sym, ◌∙◌, ap, subst, arith, append_assoc}
-use Rattle.std.specs.Prelude.{nat_lt, if◌then◌else◌, map, Result, Ok, Err, IfOk, IsTrue, All}
+use Rattle.std.specs.Prelude.{if◌then◌else◌, map, Result, Ok, Err, IfOk, IsTrue, All}
 use Rattle.std.specs.List.{filter, flat_map, fold, range_with_len}
-use Rattle.std.proofs.lemmas.Bool.Decides.{nat_tests}
 use Rattle.std.proofs.lemmas.Bool.{cases_lt}
 use Rattle.std.proofs.lemmas.List.{append-nil, map-append, take-append-drop}
 use Rattle.std.proofs.lemmas.List.Elements.{All-nil, All-cons, filter-append}
@@ -40,6 +39,7 @@ use Rattle.backup_session.specs.Worlds.{World, Turn, before_reply}
 use Rattle.backup_session.specs.Turns.{said, length_with}
 use Rattle.backup_session.specs.Scanning.{port_of, slots_here, scans_of, stopped_line, left_line, has_wrong_parent, Step, says, recorded, added, added_if, time_with, then_turn, with_front, with_dump, adding, dumps_turn, tapes_turn, slots_turn, scan_turn}
 use Rattle.backup_session.specs.Fitting.{FitsPlant, TurnedPlant, Stepped}
+use Rattle.backup_session.proofs.Room.{full_true, room_false}
 use Rattle.backup_session.proofs.Settling.{settled_commit, done_ahead, ahead_behind}
 
 -- ---- slots that are here
@@ -130,12 +130,6 @@ loads_fit P w old new session told fits loads stays = record {
 }
 
 -- ---- one dump
-
-full_true : (a b : ℕ) → a < b → nat_lt a b ≡ true
-full_true a b lt = grind (arith, nat_tests)
-
-room_false : (a b : ℕ) → b ≤ a → nat_lt a b ≡ false
-room_false a b le = grind (arith, nat_tests)
 
 module _ {D : Type 0} (P : Plant D) (w : World) (old : D) (session : SessionView) (fits : FitsPlant P w old session) (size : (P.view old).log_size ≡ length (state_of P old).log) (d : DumpRecordFields) where
   one : List Change

@@ -18,7 +18,7 @@ use Rattle.backup_session.specs.Worlds.{World, Turn}
 use Rattle.backup_session.specs.Turns.{said}
 use Rattle.backup_session.specs.Machine.{replaced, shortened, carried}
 use Rattle.backup_session.specs.Fitting.{FitsPlant}
-use Rattle.backup_session.proofs.Carrying.{full_true, room_false}
+use Rattle.backup_session.proofs.Room.{full_true, room_false}
 
 when_full : (w : World) (changes : List Change) → 268435456 < length (encoded changes) → shortened w changes ≡ said w (refused_number LogFull (length (encoded changes)))
 when_full w changes full = ap (λ (b : Bool). if b then said w (refused_number LogFull (length (encoded changes))) else replaced w changes) (full_true 268435456 (length (encoded changes)) full)

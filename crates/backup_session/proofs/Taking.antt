@@ -1,8 +1,7 @@
 -- How a tape is labeled, behind a commit where there is one.
-use Rattle.std.proofs.Common.{◌≡◌, ⊎_elim, ℕ, ◌+◌, ◌<◌, ◌≤◌, Bool, true, false, List, [], ◌∷◌, ◌++◌, length, refl, sym, ◌∙◌, ap, subst, arith}
-use Rattle.std.specs.Prelude.{nat_lt, if◌then◌else◌, Option, Some, None, Result, Ok, Err}
+use Rattle.std.proofs.Common.{◌≡◌, ⊎_elim, ℕ, ◌+◌, ◌<◌, ◌≤◌, Bool, List, [], ◌∷◌, ◌++◌, length, refl, sym, ◌∙◌, ap, subst, arith}
+use Rattle.std.specs.Prelude.{if◌then◌else◌, Option, Some, None, Result, Ok, Err}
 use Rattle.std.specs.Option.{unwrap_or}
-use Rattle.std.proofs.lemmas.Bool.Decides.{nat_tests}
 use Rattle.std.proofs.lemmas.Bool.{cases_lt}
 use Rattle.tape_config.specs.declared.port.PortFields.{PortFields}
 use Rattle.tape_config.specs.Configs.{Settings, port_in}
@@ -30,13 +29,8 @@ use Rattle.backup_session.specs.Worlds.{World, Turn}
 use Rattle.backup_session.specs.Turns.{said, length_with}
 use Rattle.backup_session.specs.Tapes.{slot_in, slot_at, slot_of, putting_label, labeled, new_label, taken, label_turn}
 use Rattle.backup_session.specs.Fitting.{FitsPlant, TurnedPlant}
+use Rattle.backup_session.proofs.Room.{full_true, room_false}
 use Rattle.backup_session.proofs.Settling.{settled_commit, settled_label, done_ahead, ahead_behind}
-
-full_true : (a b : ℕ) → a < b → nat_lt a b ≡ true
-full_true a b lt = grind (arith, nat_tests)
-
-room_false : (a b : ℕ) → b ≤ a → nat_lt a b ≡ false
-room_false a b le = grind (arith, nat_tests)
 
 -- labeling leaves the log
 log_stays : (slot : ℕ) (a : LabelFields) (s : State) → (come (putting_label slot a) s).log ≡ s.log

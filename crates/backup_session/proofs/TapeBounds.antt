@@ -1,12 +1,15 @@
 -- Each turn keeps what is so of a world's tapes: a scan changes none of them, and a tape that is labeled has two records.
-use Rattle.std.proofs.Common.{◌≡◌, inl, inr, ℕ, ◌≤◌, Bool, true, false, List, [], ◌∷◌, ◌++◌, length, refl, sym, ◌∙◌, ap, subst, arith, Option}
-use Rattle.std.specs.Prelude.{nat_lt, if◌then◌else◌, ◌==◌, Result, Ok, Err}
+use Rattle.std.proofs.Common.{◌≡◌, inl, inr, ℕ, ◌<◌, ◌≤◌, Bool, true, false, List, [], ◌∷◌, ◌++◌, length, refl, sym, ◌∙◌, ap, subst, arith, Option}
+use Rattle.std.specs.Prelude.{nat_lt, if◌then◌else◌, ◌==◌, Result, Ok, Err, IsTrue}
 use Rattle.std.specs.List.{fold}
 use Rattle.std.proofs.lemmas.Bool.{cases_Bool}
+use Rattle.plant_core.specs.declared.plant.Plant.{Ghosts as Plant}
 use Rattle.plant_core.specs.Crashes.{State}
 use Rattle.plant_core.specs.Records.{Record}
 use Rattle.plant_core.specs.Effects.{Effect, commits, come}
+use Rattle.plant_effects.specs.Runs.{state_of}
 use Rattle.plant_effects.proofs.States.{come_append}
+use Rattle.cell_core.specs.declared.cell.Cell.{Ghosts as Cell}
 use Rattle.tape_frames.specs.declared.label.LabelFields.{LabelFields}
 use Rattle.tape_config.specs.declared.port.PortFields.{PortFields}
 use Rattle.tape_answers.specs.Assembling.{found_in}
@@ -30,6 +33,8 @@ use Rattle.backup_session.specs.Tapes.{slot_of, read_turn, new_label, taken, put
 use Rattle.backup_session.specs.Dumps.{dump_turn}
 use Rattle.backup_session.specs.Machine.{carried, on_plant, off_cell, done, turn}
 use Rattle.backup_session.specs.Bounded.{HasTapes}
+use Rattle.backup_session.specs.Views.{SessionView}
+use Rattle.backup_session.specs.Fitting.{Stands}
 
 -- ---- effects that change no tape
 
@@ -147,3 +152,13 @@ turn_has_tapes w now command has dump = record { slots = has.slots; records = tu
 
 pub told_has_tapes : (w : World) (text : List ℕ) → HasTapes w → HasTapes (with_told w text)
 told_has_tapes w text has = record { slots = has.slots; records = has.records }
+
+-- a world that stands on a plant has slots and tapes as each plant has them
+pub stands_tapes : {D E : Type 0} (P : Plant D) (C : Cell E) (w : World) (plant : D) (site : E) (session : SessionView) → Stands P C w plant site session
+    → (P.view plant).slots ≤ 65535 → ((k : ℕ) → IsTrue ((P.view plant).present k) → k < (P.view plant).slots) → ((k : ℕ) → length ((state_of P plant).tape k) ≤ 4294967295)
+    → HasTapes w × ((k : ℕ) → IsTrue (w.setting.present k) → k < w.setting.slots)
+stands_tapes P C w plant site session stands few below short =
+    let here : (k : ℕ) → IsTrue (w.setting.present k) → k < (P.view plant).slots = λ k is. below k (subst (λ (b : Bool). IsTrue b) (sym (stands.present k)) is) in (
+      record { slots = λ k is. omega (arith, here k is, few); records = λ k. subst (λ (l : List Record). length l ≤ 4294967295) (stands.state.tape k) (short k) },
+      λ k is. omega (arith, here k is, stands.slots),
+    )

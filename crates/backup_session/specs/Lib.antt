@@ -15,3 +15,5 @@ pub mod Views
 pub mod Fitting
 pub mod Held
 pub mod Opening
+pub mod Listing
+pub mod Again

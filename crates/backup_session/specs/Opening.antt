@@ -62,3 +62,11 @@ UnlessFailed (Err stop.Plant) holds = Unit {0}
 UnlessFailed (Err stop.Cell) holds = holds
 UnlessFailed (Err (stop.BadLog at)) holds = holds
 UnlessFailed (Err stop.Memory) holds = holds
+
+-- a session was opened, or memory ran out
+abbrev pub OpensOrLacksMemory : {T : Type 0} → Result T OpenStop → Type 0
+OpensOrLacksMemory (Ok session) = Unit {0}
+OpensOrLacksMemory (Err stop.Plant) = ⊥
+OpensOrLacksMemory (Err stop.Cell) = ⊥
+OpensOrLacksMemory (Err (stop.BadLog at)) = ⊥
+OpensOrLacksMemory (Err stop.Memory) = Unit {0}

@@ -1,5 +1,5 @@
--- WHAT A RESTORE MAKES OF A WORLD: each volume is one look-up in its archive, and goes into the cell. Loading tapes is no effect, since all
--- is settled already.
+-- WHAT A RESTORE MAKES OF A WORLD: each volume is one look-up in its archive, and goes into the cell. Loading tapes is no effect: by it more
+-- may be settled than the effects say.
 use Rattle.std.specs.Prelude.{ℕ, Bool, List, [], Option}
 use Rattle.cell_core.specs.declared.stored.Stored.{Stored}
 use Rattle.volume_sets.specs.declared.sets.VolumeSet.{VolumeSet}

@@ -1,5 +1,5 @@
 -- WHAT A SCAN MAKES OF A WORLD: what stands on the coordinator's tapes that are here is told, and the dumps that are whole over them may
--- be added. Loading the tapes one after the other is no effect, since all is settled already.
+-- be added. Loading the tapes one after the other is no effect: by it more may be settled than the effects say.
 use Rattle.std.specs.Prelude.{ℕ, ◌+◌, ◌-◌, max, List, [], ◌∷◌, ◌++◌, map, Bool, true, false, not, ◌&&◌, ◌||◌, ◌==◌, nat_lt, nat_le, if◌then◌else◌, Option, Some, None, Result, Ok, Err}
 use Rattle.std.specs.List.{filter, flat_map, fold, list_all, range_with_len}
 use Rattle.tape_config.specs.declared.port.PortFields.{PortFields}

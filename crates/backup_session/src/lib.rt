@@ -9,6 +9,7 @@ mod dumps;
 mod hosts;
 mod labeling;
 mod labels;
+mod laws;
 mod levels;
 mod opening;
 mod reply;
@@ -21,6 +22,10 @@ mod tapes;
 mod verdict;
 mod vos;
 
+pub use laws::{
+    a_scan_lists_what_is_whole, recorded_dumps_are_found_again, recorded_dumps_are_listed_again,
+    what_is_found_has_a_form,
+};
 pub use reply::Reply;
 pub use session::Session;
 pub use stops::{OpenStop, Stop};

@@ -1,15 +1,21 @@
 //! The session: commands are decided, carried out on the plant or the cell, and answered.
 
-ghost use Rattle.std.specs.Prelude.{◌≡◌, ◌≢◌, [], ℕ, List as AnyList, Err, OnOk, IfOk};
-ghost use Rattle.crash_moments.specs.Moments.{HasCauseAt};
+ghost use Rattle.std.specs.Prelude.{◌≡◌, ◌≢◌, ◌<◌, [], ℕ, true, List as AnyList, Ok, Err, OnOk, IfOk, Contains, IsTrue};
+ghost use Rattle.crash_moments.specs.Moments.{HasCauseAt, Rose};
 ghost use Rattle.bk_text.specs.Places.{FailsAt};
 ghost use Rattle.budb_changes.specs.declared.change.Change.{Change as AnyChange};
+ghost use Rattle.budb_changes.specs.declared.records.DumpRecordFields.{DumpRecordFields};
 ghost use Rattle.budb_changes.specs.Bytes.{encoded};
 ghost use Rattle.budb_changes.specs.Forms.{AreChanges, IsLog};
 ghost use Rattle.budb_fold.specs.Database.{after};
+ghost use Rattle.plant_core.specs.Stock.{Stock};
 ghost use Rattle.plant_effects.specs.Runs.{state_of, Done, Leaves, OnlyLooks, SameNumbers, StaysQuiet};
+ghost use Rattle.tape_config.specs.declared.port.PortFields.{PortFields};
+ghost use Rattle.archive_model.specs.Archives.{Archive, listed_of, Holds};
+ghost use Rattle.backup_words.specs.declared.command.Command.TheVariants.{Scantape};
 ghost use Rattle.backup_session.specs.declared.verdict.Verdict.TheVariants.{Makes, Shortens};
 ghost use Rattle.backup_session.specs.Worlds.{World, Contents, at_moment};
+ghost use Rattle.backup_session.specs.Scanning.{port_of, slots_here};
 ghost use Rattle.backup_session.specs.Verdicts.{verdict};
 ghost use Rattle.backup_session.specs.Machine.{carried, on_plant, done, turn};
 ghost use Rattle.backup_session.specs.Held.{HeldFor};
@@ -31,6 +37,7 @@ use plant_core::Plant;
 use std::alloc::Global;
 use std::marker::Model;
 use tape_config::Config;
+use tape_text::one_reading;
 
 /// The service between two commands. Contracts see it as the configuration, the database and the time.
 #[derive(Drop)]
@@ -53,10 +60,14 @@ impl Model for Session {
 
 impl Session {
     ghost use Rattle.backup_session.specs.Fitting.{Stands, TurnDone, SomeTurnDone, OnTheWay, FitsPlant, TurnedPlant};
-    ghost use Rattle.backup_session.specs.Opening.{opened, UnlessFailed};
+    ghost use Rattle.backup_session.specs.Opening.{opened, UnlessFailed, OpensOrLacksMemory};
+    ghost use Rattle.backup_session.specs.Bounded.{HasTapes};
+    ghost use Rattle.backup_session.specs.Listing.{ListsWhole};
+    ghost use Rattle.backup_session.specs.Again.{HasTheseTapes, IsHeldOn, IsListedBehind};
 
     /// Opens the session of a plant's journal and of a cell. Its time is the greatest of all ids and clone times of the
-    /// database and of what the cell's entries tell. Nothing is written.
+    /// database and of what the cell's entries tell. Nothing is written. Over a list of changes it answers a session or that
+    /// memory ran out, unless a call is refused.
     pub fn open<P: Plant, C: Cell>(
         alloc: Global,
         config: Config,
@@ -77,6 +88,7 @@ impl Session {
         ensures untouched { P.tells → (IsLog (state_of P.Plant plant.old).log → ⊥) → cell.new ≡ cell.old }
         ensures plant_cause { HasCauseAt OpenStop.Plant (P.view plant.old).faults (P.view plant.new).faults result }
         ensures cell_cause { HasCauseAt OpenStop.Cell (C.faults cell.old) (C.faults cell.new) result }
+        ensures answers { P.tells → IsLog (state_of P.Plant plant.old).log → (Rose (P.view plant.old).faults (P.view plant.new).faults → ⊥) → (Rose (C.faults cell.old) (C.faults cell.new) → ⊥) → OpensOrLacksMemory result }
     {
         let budb = open_database(alloc, plant)?;
         let time = first_time(cell, budb.database())?;
@@ -223,7 +235,9 @@ impl Session {
         }
     }
 
-    /// Executes a command at a moment of the clock. What it tells is handed back and not told.
+    /// Executes a command at a moment of the clock. What it tells is handed back and not told. A world that stands there has
+    /// tapes as a plant has them, and `scantape -dbadd` lists in it what is whole on them, a dump that another journal has
+    /// listed among it.
     pub fn exec<P: Plant, C: Cell>(
         &mut self,
         alloc: Global,
@@ -238,10 +252,17 @@ impl Session {
         ensures some_turn { P.tells → C.tells → (w : World) → Stands P.Plant C.Cell w plant.old cell.old self.old → IfOk result (λ reply. SomeTurnDone P.Plant C.Cell w plant.old plant.new cell.new self.new reply) }
         ensures leaves { P.tells → C.tells → (w : World) → Stands P.Plant C.Cell w plant.old cell.old self.old → Leaves P.Plant (turn w now command.now).effects plant.old plant.new }
         ensures cells { P.tells → C.tells → (w : World) → Stands P.Plant C.Cell w plant.old cell.old self.old → HeldFor (at_moment w now) command.now → OnTheWay w.cell (turn w now command.now).cells (C.list cell.new) }
+        ensures tapes { P.tells → C.tells → (w : World) → Stands P.Plant C.Cell w plant.old cell.old self.old → HasTapes w × ((k : ℕ) → IsTrue (w.setting.present k) → k < w.setting.slots) }
+        ensures scans { P.tells → C.tells → (w : World) → Stands P.Plant C.Cell w plant.old cell.old self.old → (offset : ℕ) (port : PortFields) → command.now ≡ Scantape true offset → port_of w.setting.config (after w.log).hosts offset ≡ Ok port
+            → IfOk result (λ reply. ListsWhole w (slots_here w.setting.present port) (turn w now command.now)) }
+        ensures again { P.tells → C.tells → (w : World) → Stands P.Plant C.Cell w plant.old cell.old self.old → (offset : ℕ) (port : PortFields) → command.now ≡ Scantape true offset → port_of w.setting.config (after w.log).hosts offset ≡ Ok port
+            → (after w.log).listed ≡ [] → (stock : Stock) (a : Archive) (records : AnyList DumpRecordFields) → Holds stock a records → HasTheseTapes w stock a
+            → (d : DumpRecordFields) → Contains (listed_of a) d → IsHeldOn d (slots_here w.setting.present port) a.slots → IfOk result (λ reply. IsListedBehind w (slots_here w.setting.present port) (turn w now command.now) d) }
         ensures stays { StaysQuiet P.Plant plant.old plant.new }
         ensures plant_cause { HasCauseAt Stop.Plant (P.view plant.old).faults (P.view plant.new).faults result }
         ensures cell_cause { HasCauseAt Stop.Cell (C.faults cell.old) (C.faults cell.new) result }
     {
+        one_reading();
         self.time = self.time.max(now.min(4_294_967_295) as u32);
         self.run(alloc, plant, cell, command)
     }

@@ -20,8 +20,8 @@ use Rattle.backup_session.specs.Worlds.{World, archive_of}
 use Rattle.backup_session.specs.Scanning.{port_of, slots_here, has_wrong_parent}
 use Rattle.backup_session.specs.Machine.{turn}
 use Rattle.backup_session.proofs.ScanLaws.{all_here}
-use Rattle.scan_laws.specs.Listing.{may_be_listed, ListsWhole}
-use Rattle.scan_laws.specs.Again.{HasTheseTapes, IsHeldOn, IsListedBehind}
+use Rattle.backup_session.specs.Listing.{may_be_listed, ListsWhole}
+use Rattle.backup_session.specs.Again.{HasTheseTapes, IsHeldOn, IsListedBehind}
 use Rattle.session_archives.specs.Held.{HoldsWorld}
 use Rattle.session_archives.proofs.Slots.{slot_there}
 use Rattle.lost_journals.specs.Worlds.{HasTapesAnywhere}

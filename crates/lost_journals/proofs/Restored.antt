@@ -21,8 +21,8 @@ use Rattle.backup_session.specs.Worlds.{World, Contents, archive_of, after_turn}
 use Rattle.backup_session.specs.Scanning.{port_of, slots_here}
 use Rattle.backup_session.specs.Machine.{turn}
 use Rattle.backup_session.proofs.ScanLaws.{all_here}
-use Rattle.scan_laws.specs.Listing.{ListsWhole}
-use Rattle.scan_laws.specs.Again.{IsHeldOn}
+use Rattle.backup_session.specs.Listing.{ListsWhole}
+use Rattle.backup_session.specs.Again.{IsHeldOn}
 use Rattle.session_archives.specs.Held.{HoldsWorld}
 use Rattle.session_archives.proofs.Slots.{slot_told}
 use Rattle.lost_journals.specs.Archives.{HasItsContents, ListSame, AreHereToo}

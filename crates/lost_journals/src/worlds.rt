@@ -17,13 +17,13 @@ ghost use Rattle.backup_session.specs.Scanning.{port_of, slots_here};
 ghost use Rattle.backup_session.specs.Machine.{turn};
 ghost use Rattle.backup_script.specs.Scripts.{script};
 ghost use Rattle.backup_script.specs.Held.{IsHeldThroughout};
-ghost use Rattle.scan_laws.specs.Again.{IsHeldOn, IsListedBehind};
+ghost use Rattle.backup_session.specs.Again.{IsHeldOn, IsListedBehind};
 ghost use Rattle.session_archives.specs.Held.{HoldsWorld};
 ghost use Rattle.session_archives.specs.Ready.{IsReadyFor};
 ghost use Rattle.lost_journals.specs.Archives.{ListsDumpsOf};
 ghost use Rattle.lost_journals.specs.Worlds.{HasTapesOf, HasTapesAnywhere, ListsNothing};
 
-use scan_laws::{a_scan_lists_what_is_whole, recorded_dumps_are_listed_again};
+use backup_session::{a_scan_lists_what_is_whole, recorded_dumps_are_listed_again};
 use session_archives::scripts_keep_the_archive;
 
 /// Where a plant holds the archive of a world, one that stands on these tapes, whichever of them are here, blank or out, holds its own: under an

@@ -38,7 +38,7 @@ use Rattle.backup_session.specs.Dumps.{scene_of, asked_of, dump_turn}
 use Rattle.backup_session.specs.Asks.{asks_cell, asks_archive, asks_dump, asks_tape}
 use Rattle.backup_session.specs.Machine.{carried, on_cell, on_plant, done}
 use Rattle.command_forms.specs.Forms.{HasForms}
-use Rattle.scan_laws.proofs.FoundForms.{found_forms}
+use Rattle.backup_session.proofs.FoundForms.{found_forms}
 use Rattle.script_journals.specs.Worlds.{IsWorldForm}
 use Rattle.script_journals.proofs.CellForms.{cell_answer_form}
 use Rattle.script_journals.proofs.RestoreForms.{restore_form}

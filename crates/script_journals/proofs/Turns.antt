@@ -34,7 +34,7 @@ use Rattle.dump_commands.proofs.FormLaws.{answer_journaled}
 use Rattle.dump_commands.proofs.OrderForms.{order_form}
 use Rattle.dump_commands.proofs.ShortTapes.{answer_short}
 use Rattle.script_journals.proofs.Following.{own_bytes, journal_form}
-use Rattle.scan_laws.proofs.FoundForms.{found_forms}
+use Rattle.backup_session.proofs.FoundForms.{found_forms}
 use Rattle.script_journals.specs.Worlds.{IsWorldForm}
 use Rattle.script_journals.proofs.CellForms.{last_form}
 use Rattle.script_journals.proofs.TurnForms.{LeavesForms, scene_form, done_forms}

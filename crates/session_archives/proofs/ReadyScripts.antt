@@ -7,7 +7,7 @@ use Rattle.backup_words.specs.Commands.{command_of}
 use Rattle.byte_formats.specs.Forms.{IsFour}
 use Rattle.media_core.specs.Later.{later}
 use Rattle.backup_session.specs.Worlds.{World, Contents, archive_of, with_told}
-use Rattle.backup_session.proofs.Carrying.{full_true, room_false}
+use Rattle.backup_session.proofs.Room.{full_true, room_false}
 use Rattle.backup_script.specs.declared.item.Item.{Item}
 use Rattle.backup_script.specs.declared.item.Item.TheVariants.{Silent, Quit, Runs, Refused}
 use Rattle.backup_script.specs.Lines.{is_quit}

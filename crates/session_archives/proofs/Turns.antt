@@ -33,7 +33,7 @@ use Rattle.session_archives.proofs.Keeping.{HoldsAt}
 use Rattle.session_archives.proofs.Effects.{untouched_at, forgotten_at, replaced_at}
 use Rattle.session_archives.proofs.Kept.{Reads, TurnKeeps, Finds, said_keeps, picked}
 use Rattle.session_archives.proofs.Labels.{label_keeps, slot_is_here}
-use Rattle.scan_laws.proofs.FoundForms.{found_forms}
+use Rattle.backup_session.proofs.FoundForms.{found_forms}
 use Rattle.session_archives.proofs.Scans.{Assembles, HaveForms, scan_keeps}
 use Rattle.session_archives.proofs.Verdicts.{AreMild, IsMild, verdict_mild}
 

@@ -1,7 +1,7 @@
 use Rattle.std.proofs.Common.{List, length, ◌∙◌, ap}
 use Rattle.std.specs.Prelude.{codes}
 use Rattle.cell_core.specs.declared.stored.Stored.{Stored}
-use Rattle.rehearsal.specs.Sessions.{dumped, restored}
+use Rattle.rehearsal.specs.Sessions.{dumped}
 use Rattle.rehearsal.specs.Counts.{lines_with, is_block, is_mark}
 use Rattle.rehearsal.specs.Copies.{equal_copies, copied_data}
 use Rattle.rehearsal.proofs.Standing.{stands_same, files_same}

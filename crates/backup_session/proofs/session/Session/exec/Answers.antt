@@ -1,11 +1,17 @@
 use Rattle.std.proofs.Common.{◌≡◌, sym, ap, subst, arith, IfOk}
 use Rattle.std.specs.Prelude.{min, max}
+use Rattle.backup_words.specs.declared.command.Command.{Command}
 use Rattle.plant_effects.specs.Runs.{Leaves}
 use Rattle.backup_session.specs.Views.{SessionView}
 use Rattle.backup_session.specs.Worlds.{Turn, at_moment}
-use Rattle.backup_session.specs.Machine.{done}
+use Rattle.backup_session.specs.Scanning.{slots_here}
+use Rattle.backup_session.specs.Machine.{done, turn}
+use Rattle.backup_session.specs.Listing.{ListsWhole}
+use Rattle.backup_session.specs.Again.{IsListedBehind}
 use Rattle.backup_session.specs.Fitting.{TurnDone, OnTheWay}
-use Rattle.backup_session.proofs.Carrying.{turn_done, stands_at, turned_at, some_at, in_ok}
+use Rattle.backup_session.proofs.Carrying.{turn_done, stands_at, turned_at, some_at, in_ok, ok_anyway}
+use Rattle.backup_session.proofs.TapeBounds.{stands_tapes}
+use Rattle.backup_session.proofs.TurnLaws.{scan_lists, listed_again}
 use Rattle.backup_session.proofs.session.Session.exec.Goals as goal
 
 pub returns-clause-turned : goal.returns-clause-turned
@@ -53,3 +59,18 @@ returns-clause-cells g c = λ told seen w fits held.
     let time : c.max-self-inside.result ≡ max c.args.self.now.time (min c.args.now 4294967295) = omega (arith, c.max-self-inside.ensures, c.min.ensures, was) in
     let here = stands_at P C w old c.args.cell.now c.args.self.now fits c.args.now later (ap (λ (s : SessionView). s.budb) c.self.view_is) (ap (λ (s : SessionView). s.config) c.self.view_is) time in
     subst (λ (t : Turn). OnTheWay w.cell t.cells (C.list c.run.new.cell)) (sym (turn_done w c.args.now c.args.command.now)) (c.run.ensures.cells told seen (at_moment w c.args.now) here held)
+
+pub returns-clause-tapes : goal.returns-clause-tapes
+returns-clause-tapes g c = λ told seen w fits.
+    let old = c.args.plant.now in
+    stands_tapes g.P.Plant g.C.Cell w old c.args.cell.now c.args.self.now fits (g.met.P.Plant.few_slots old c.requires) (λ k here. g.met.P.Plant.here_below old k c.requires here) (λ k. g.met.P.Plant.short_tapes old k told c.requires)
+
+pub returns-clause-scans : goal.returns-clause-scans
+returns-clause-scans g c = λ told seen w fits offset port is here.
+    ok_anyway c.run.result _ (subst (λ (command : Command). ListsWhole w (slots_here w.setting.present port) (turn w c.args.now command)) (sym is) (scan_lists w c.args.now offset port here))
+
+pub returns-clause-again : goal.returns-clause-again
+returns-clause-again g c = λ told seen w fits offset port is here none stock a records held these d there on.
+    ok_anyway c.run.result _
+    (subst (λ (command : Command). IsListedBehind w (slots_here w.setting.present port) (turn w c.args.now command) d) (sym is)
+    (listed_again c.one_reading.ensures w c.args.now offset port here none stock a records held these d there on))

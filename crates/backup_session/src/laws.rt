@@ -1,4 +1,4 @@
-//! Laws, each the contract of a function without a body of its own.
+//! Laws on what a scan finds and lists, each the contract of a function without a body of its own.
 
 ghost use Rattle.std.specs.Prelude.{◌≡◌, ◌≤◌, [], ℕ, true, Some, Ok, List as AnyList, length, map, slice_get, Contains};
 ghost use Rattle.plant_core.specs.Stock.{Stock};
@@ -14,8 +14,8 @@ ghost use Rattle.backup_words.specs.declared.command.Command.TheVariants.{Scanta
 ghost use Rattle.backup_session.specs.Worlds.{World};
 ghost use Rattle.backup_session.specs.Scanning.{port_of, slots_here};
 ghost use Rattle.backup_session.specs.Machine.{turn};
-ghost use Rattle.scan_laws.specs.Listing.{ListsWhole};
-ghost use Rattle.scan_laws.specs.Again.{HasTheseTapes, IsHeldOn, IsListedBehind};
+ghost use Rattle.backup_session.specs.Listing.{ListsWhole};
+ghost use Rattle.backup_session.specs.Again.{HasTheseTapes, IsHeldOn, IsListedBehind};
 
 use tape_text::one_reading;
 

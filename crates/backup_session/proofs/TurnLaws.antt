@@ -24,12 +24,12 @@ use Rattle.archive_model.specs.Archives.{Archive, listed_of, Holds}
 use Rattle.backup_session.specs.Worlds.{World, Turn, at_moment}
 use Rattle.backup_session.specs.Scanning.{port_of, slots_here, scans_of, has_wrong_parent, adding, slots_turn, scan_turn}
 use Rattle.backup_session.specs.Machine.{turn}
-use Rattle.scan_laws.specs.Listing.{may_be_listed, found_changes, IsFullAt, ListsWhole}
-use Rattle.scan_laws.specs.Again.{HasTheseTapes, IsHeldOn, IsListedBehind}
-use Rattle.scan_laws.proofs.RecordForms.{found_id}
-use Rattle.scan_laws.proofs.FoundForms.{scanned_in}
-use Rattle.scan_laws.proofs.ListingLaws.{Added, adding_lists, with_one}
-use Rattle.scan_laws.proofs.AgainLaws.{OneReading, found_again}
+use Rattle.backup_session.specs.Listing.{may_be_listed, found_changes, IsFullAt, ListsWhole}
+use Rattle.backup_session.specs.Again.{HasTheseTapes, IsHeldOn, IsListedBehind}
+use Rattle.backup_session.proofs.RecordForms.{found_id}
+use Rattle.backup_session.proofs.FoundForms.{scanned_in}
+use Rattle.backup_session.proofs.ListingLaws.{Added, adding_lists, with_one}
+use Rattle.backup_session.proofs.AgainLaws.{OneReading, found_again}
 
 -- the journal behind the command
 log_is : (w : World) (now offset : ℕ) (port : PortFields) → port_of w.setting.config (after w.log).hosts offset ≡ Ok port

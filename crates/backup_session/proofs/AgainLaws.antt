@@ -25,8 +25,8 @@ use Rattle.archive_model.proofs.AgainLaws.{scanned_again, scanned_equal}
 use Rattle.backup_session.specs.Worlds.{World}
 use Rattle.backup_session.specs.Scanning.{slots_here, scans_of}
 use Rattle.backup_session.proofs.ScanLaws.{all_here}
-use Rattle.scan_laws.specs.Again.{HasTheseTapes, IsHeldOn}
-use Rattle.scan_laws.proofs.FoundForms.{forms, scanned_in}
+use Rattle.backup_session.specs.Again.{HasTheseTapes, IsHeldOn}
+use Rattle.backup_session.proofs.FoundForms.{forms, scanned_in}
 
 abbrev pub OneReading : Type 0
 OneReading = (rs : List Record) (is js : List Item) → Read rs is → Read rs js → is ≡ js

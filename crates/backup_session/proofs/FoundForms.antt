@@ -21,7 +21,7 @@ use Rattle.backup_session.specs.Worlds.{World}
 use Rattle.backup_session.specs.Bounded.{HasTapes}
 use Rattle.backup_session.specs.Scanning.{slots_here, scans_of}
 use Rattle.backup_session.proofs.ScanLaws.{few_here}
-use Rattle.scan_laws.proofs.RecordForms.{AreShort, found_form}
+use Rattle.backup_session.proofs.RecordForms.{AreShort, found_form}
 
 pub forms : Forms
 forms = record { name = word_tells Plain 31; host = word_tells Plain 63; set_name = word_tells NoPeriod 31; tape_name = word_tells AnyFirst 80; level_path = path_tells }

@@ -22,7 +22,7 @@ use Rattle.backup_replies.specs.Texts.{refused_number}
 use Rattle.backup_session.specs.Scanning.{Step, says, has_wrong_parent, recorded, added, added_if, with_dump, adding}
 use Rattle.backup_session.proofs.ScanLaws.{known_is, wrong_is, over_is, free_is}
 use Rattle.tape_answers.proofs.ListLaws.{Ascends}
-use Rattle.scan_laws.specs.Listing.{may_be_listed, found_changes, HasRoom, IsFullAt, IsRoomFor}
+use Rattle.backup_session.specs.Listing.{may_be_listed, found_changes, HasRoom, IsFullAt, IsRoomFor}
 
 -- ---- what may be listed
 

@@ -1,5 +1,0 @@
-pub mod RecordForms
-pub mod FoundForms
-pub mod ListingLaws
-pub mod AgainLaws
-pub mod TurnLaws
