@@ -1,5 +1,5 @@
 -- How a restore is a turn: the archive of a world stands on the plant, and by loads of tapes no more is done than that more may be settled.
-use Rattle.std.proofs.Common.{◌≡◌, ℕ, Bool, true, List, [], ◌∷◌, length, refl, sym, ◌∙◌, ap, subst}
+use Rattle.std.proofs.Common.{◌≡◌, ℕ, Bool, true, false, List, [], ◌∷◌, length, refl, sym, ◌∙◌, ap, subst}
 use Rattle.std.specs.Prelude.{slice_get, Option, Some}
 use Rattle.plant_core.specs.declared.plant.Plant.{Ghosts as Plant}
 use Rattle.plant_core.specs.Crashes.{seen_in}
@@ -19,14 +19,16 @@ use Rattle.backup_words.specs.declared.command.Command.TheVariants.{Volrestore, 
 use Rattle.volume_sets.specs.declared.sets.VolumeSet.{VolumeSet}
 use Rattle.archive_model.specs.Archives.{Archive}
 use Rattle.dump_commands.proofs.Ahead.{ahead_both, loads_ahead, loads_leave}
-use Rattle.restore_commands.specs.Answers.{Manner, one_answer, disk_answer, set_answer, last_cell as last_of}
-use Rattle.restore_commands.specs.Leaving.{IsArchiveOf, IsAnswer}
+use Rattle.volume_sets.specs.Sets.{entries_of}
+use Rattle.restore_commands.specs.Choices.{disk_choices}
+use Rattle.restore_commands.specs.Answers.{Manner, RestoreAnswer, one_answer, disk_answer, set_answer, last_cell as last_of}
+use Rattle.restore_commands.specs.Leaving.{IsArchiveOf, IsAnswer, MayPut, MayPutEach, MayPutNamed}
 use Rattle.backup_session.specs.Views.{SessionView, ReplyView}
 use Rattle.backup_session.specs.Worlds.{World, archive_of, last_cell}
 use Rattle.backup_session.specs.Held.{HoldsArchive, HeldWhere, HeldFor}
-use Rattle.backup_session.specs.Asks.{asks_archive}
-use Rattle.backup_session.specs.Restores.{manner_at, restore_answer, archive_turn}
-use Rattle.backup_session.specs.Fitting.{Stands, TurnDone, SomeTurnDone, OnTheWay}
+use Rattle.backup_session.specs.Asks.{asks_archive, asks_cell}
+use Rattle.backup_session.specs.Restores.{manner_at, restore_answer, restored, archive_turn, MayRestore}
+use Rattle.backup_session.specs.Fitting.{Stands, TurnDone, SomeTurnDone, SomeRestore, OnTheWay}
 
 -- what is asked of a world at a command that asks its archive
 pub held_archive : (w : World) (command : Command) → asks_archive command ≡ true → HeldFor w command → HoldsArchive w
@@ -43,27 +45,32 @@ module _ {D E : Type 0} (P : Plant D) (C : Cell E) (w : World) (old : D) (site :
   restore_leaves new leaves = loads_leave P old new w.state (λ _. stands.state) leaves
 
   -- it was answered, whatever the archive holds: the cell was left with some list
-  pub restored_somehow : (new : D) (there : E) (reply : ReplyView) → P.tells → Loads P old new → Stays P old new → SomeTurnDone P C w old new there session reply
-  restored_somehow new there reply told loads stays =
+  abbrev left_with : E → ReplyView → RestoreAnswer
+  left_with there reply = record { reply = reply.text; cells = C.list there ∷ [] }
+
+  restored_any : (new : D) (there : E) (reply : ReplyView) → P.tells → Loads P old new → Stays P old new → TurnDone P C w (restored w (left_with there reply)) old new there session reply
+  restored_any new there reply told loads stays =
       let done = loads_ahead P old new w.state (λ _. stands.state) loads in
       record {
-        turn = record { effects = []; reply = reply.text; log = w.log; time = w.time; cells = C.list there ∷ []; contents = w.contents };
-        turned = record {
-          done = done;
-          text = refl;
-          stands = record {
-            keeps = stands.keeps;
-            time = stands.time;
-            config = stands.config;
-            state = ahead_both w.state (state_of P old) (state_of P new) stands.state (done.state told);
-            slots = stays.slots ∙ stands.slots;
-            present = λ k. ap (λ (p : ℕ → Bool). p k) stays.present ∙ stands.present k;
-            cell = refl;
-          };
-          settles = λ whole. whole;
+        done = done;
+        text = refl;
+        stands = record {
+          keeps = stands.keeps;
+          time = stands.time;
+          config = stands.config;
+          state = ahead_both w.state (state_of P old) (state_of P new) stands.state (done.state told);
+          slots = stays.slots ∙ stands.slots;
+          present = λ k. ap (λ (p : ℕ → Bool). p k) stays.present ∙ stands.present k;
+          cell = refl;
         };
-        silent = refl;
+        settles = λ whole. whole;
       }
+
+  pub some_restore : (new : D) (there : E) (reply : ReplyView) → P.tells → Loads P old new → Stays P old new → SomeRestore P C w old new there session reply
+  some_restore new there reply told loads stays = record { answer = left_with there reply; turned = restored_any new there reply told loads stays }
+
+  pub restored_somehow : (new : D) (there : E) (reply : ReplyView) → P.tells → Loads P old new → Stays P old new → SomeTurnDone P C w old new there session reply
+  restored_somehow new there reply told loads stays = record { turn = restored w (left_with there reply); turned = restored_any new there reply told loads stays; silent = refl }
 
   -- the archive of the world stands on the plant
   pub archive_stands : (budb : BudbView) → budb ≡ session.budb → HoldsArchive w → length (slots_of w.setting.slots w.setting.present w.state.tape) ≡ w.setting.slots
@@ -115,6 +122,12 @@ module _ {D E : Type 0} (P : Plant D) (C : Cell E) (w : World) (old : D) (site :
           settles = λ whole. whole;
         }
 
+    -- how the cell may be left
+    pub may_here : (new : List Stored) → MayRestore budb.database time command (C.list site) new → MayRestore (after w.log) w.time command w.cell new
+    may_here new may =
+        subst (λ (l : List Stored). MayRestore (after w.log) w.time command l new) stands.cell
+        (subst (λ (n : ℕ). MayRestore (after w.log) n command (C.list site) new) now_is (subst (λ (db : Database). MayRestore db time command (C.list site) new) sets_are may))
+
     -- the cell on the way
     pub restore_way : (new : List Stored) → OnTheWay (C.list site) (restore_answer (archive_of w) budb.database.sets (C.list site) time command).cells new → OnTheWay w.cell (archive_turn w command).cells new
     restore_way new way =
@@ -136,3 +149,28 @@ module _ (a : Archive) (sets : List VolumeSet) (cell : List Stored) (time : ℕ)
 
   pub set_is : (name : List ℕ) (extension : Option (List ℕ)) (n : Bool) (manner : Manner) → command ≡ Volsetrestore name extension n → manner ≡ manner_at time extension n → set_answer a sets cell manner name ≡ restore_answer a sets cell time command
   set_is name extension n manner is so = ap (λ (m : Manner). set_answer a sets cell m name) so ∙ ap (restore_answer a sets cell time) (sym is)
+
+-- ---- how each command may leave the cell
+
+module _ (db : Database) (time : ℕ) (command : Command) (old new : List Stored) where
+  pub may_one : (server partition volume : List ℕ) (extension : Option (List ℕ)) (date : Option ℕ) (n : Bool) (manner : Manner) → command ≡ Volrestore server partition volume extension date n → manner ≡ manner_at time extension n
+      → MayPut manner (record { name = volume; before = date; server = server; partition = partition }) old new → MayRestore db time command old new
+  may_one server partition volume extension date n manner is so may =
+      subst (λ (x : Command). MayRestore db time x old new) (sym is) (subst (λ (m : Manner). MayPut m (record { name = volume; before = date; server = server; partition = partition }) old new) so may)
+
+  pub may_disk : (server partition : List ℕ) (newserver newpartition extension : Option (List ℕ)) (n : Bool) (manner : Manner) → command ≡ Diskrestore server partition newserver newpartition extension n → manner ≡ manner_at time extension n
+      → MayPutEach manner (disk_choices db.listed (record { server = server; partition = partition; new_server = newserver; new_partition = newpartition })) old new → MayRestore db time command old new
+  may_disk server partition newserver newpartition extension n manner is so may =
+      subst (λ (x : Command). MayRestore db time x old new) (sym is)
+      (subst (λ (m : Manner). MayPutEach m (disk_choices db.listed (record { server = server; partition = partition; new_server = newserver; new_partition = newpartition })) old new) so may)
+
+  pub may_set : (name : List ℕ) (extension : Option (List ℕ)) (n : Bool) (manner : Manner) → command ≡ Volsetrestore name extension n → manner ≡ manner_at time extension n → MayPutNamed manner db.listed (entries_of name db.sets) old new
+      → MayRestore db time command old new
+  may_set name extension n manner is so may = subst (λ (x : Command). MayRestore db time x old new) (sym is) (subst (λ (m : Manner). MayPutNamed m db.listed (entries_of name db.sets) old new) so may)
+
+-- a command that asks the archive isn't one on the cell
+pub not_on_cell : (command : Command) → asks_archive command ≡ true → asks_cell command ≡ false
+not_on_cell (Volrestore server partition volume extension date n) is = refl
+not_on_cell (Diskrestore server partition newserver newpartition extension n) is = refl
+not_on_cell (Volsetrestore name extension n) is = refl
+not_on_cell command is = absurd (cc)

@@ -9,7 +9,9 @@ use Rattle.cell_core.specs.declared.stored.Stored.{Stored}
 use Rattle.budb.specs.Kept.{Keeps}
 use Rattle.dump_commands.specs.Ahead.{IsAhead, DoneAhead}
 use Rattle.backup_session.specs.Views.{SessionView, ReplyView}
+use Rattle.restore_commands.specs.Answers.{RestoreAnswer}
 use Rattle.backup_session.specs.Worlds.{World, Turn, before_reply}
+use Rattle.backup_session.specs.Restores.{restored}
 
 -- What stands there is this world: the log's bytes are those of the changes, the database is what they make, and time, configuration,
 -- slots and the cell's list are the world's; so is the state, but that more may be settled of tapes.
@@ -35,6 +37,11 @@ pub record SomeTurnDone {D E : Type 0} (P : Plant D) (C : Cell E) (w : World) (o
   pub turn : Turn
   pub turned : TurnDone P C w turn old new site session reply
   pub silent : told_by turn.effects ≡ []
+
+-- A restore was answered, whatever stands on the tapes: with this reply, and the cell has some list; nothing else was done.
+pub record SomeRestore {D E : Type 0} (P : Plant D) (C : Cell E) (w : World) (old new : D) (site : E) (session : SessionView) (reply : ReplyView) : Type 0 where
+  pub answer : RestoreAnswer
+  pub turned : TurnDone P C w (restored w answer) old new site session reply
 
 -- ---- where all that was put is settled, as it is between two commands of a script
 

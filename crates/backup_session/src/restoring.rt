@@ -8,7 +8,8 @@ ghost use Rattle.archive_model.specs.Archives.{Archive};
 ghost use Rattle.restore_commands.specs.Leaving.{IsArchiveOf, IsAnswer, OnTheWay};
 ghost use Rattle.backup_session.specs.Worlds.{World};
 ghost use Rattle.backup_session.specs.Held.{HoldsArchive};
-ghost use Rattle.backup_session.specs.Restores.{manner_at, restore_answer, archive_turn};
+ghost use Rattle.budb_fold.specs.Database.{after};
+ghost use Rattle.backup_session.specs.Restores.{manner_at, restore_answer, archive_turn, MayRestore};
 
 use crate::reply::Reply;
 use crate::session::Session;
@@ -61,6 +62,7 @@ fn restored<P: Plant, C: Cell>(
     requires { P.sound plant.old }
     ensures answer { P.tells → C.tells → (a : Archive) → IsArchiveOf P.Plant budb.now.database.listed a plant.old → IfOk result (λ reply. IsAnswer (restore_answer a budb.now.database.sets (C.list cell.old) time command.now) reply (C.list cell.old) (C.list cell.new)) }
     ensures left { P.tells → C.tells → (a : Archive) → IsArchiveOf P.Plant budb.now.database.listed a plant.old → OnTheWay (C.list cell.old) (restore_answer a budb.now.database.sets (C.list cell.old) time command.now).cells (C.list cell.new) }
+    ensures may { C.tells → MayRestore budb.now.database time command.now (C.list cell.old) (C.list cell.new) }
     ensures done { result ≢ Err RestoreStop.Plant → Loads P.Plant plant.old plant.new }
     ensures leaves { LeavesLoads P.Plant plant.old plant.new }
     ensures stays { StaysQuiet P.Plant plant.old plant.new }
@@ -147,7 +149,7 @@ fn restored<P: Plant, C: Cell>(
 }
 
 impl Session {
-    ghost use Rattle.backup_session.specs.Fitting.{Stands, TurnDone, SomeTurnDone};
+    ghost use Rattle.backup_session.specs.Fitting.{Stands, TurnDone, SomeTurnDone, SomeRestore};
 
     /// A command that asks the archive, at the session's time.
     pub(crate) fn on_archive<P: Plant, C: Cell>(
@@ -161,6 +163,8 @@ impl Session {
         ensures sound { OnOk result (P.sound plant.new) }
         ensures turned { P.tells → C.tells → (w : World) → Stands P.Plant C.Cell w plant.old cell.old self.now → HoldsArchive w → IfOk result (λ reply. TurnDone P.Plant C.Cell w (archive_turn w command.now) plant.old plant.new cell.new self.now reply) }
         ensures some_turn { P.tells → C.tells → (w : World) → Stands P.Plant C.Cell w plant.old cell.old self.now → IfOk result (λ reply. SomeTurnDone P.Plant C.Cell w plant.old plant.new cell.new self.now reply) }
+        ensures some_restore { P.tells → C.tells → (w : World) → Stands P.Plant C.Cell w plant.old cell.old self.now → IfOk result (λ reply. SomeRestore P.Plant C.Cell w plant.old plant.new cell.new self.now reply) }
+        ensures may { P.tells → C.tells → (w : World) → Stands P.Plant C.Cell w plant.old cell.old self.now → MayRestore (after w.log) w.time command.now w.cell (C.list cell.new) }
         ensures leaves { P.tells → C.tells → (w : World) → Stands P.Plant C.Cell w plant.old cell.old self.now → Leaves P.Plant [] plant.old plant.new }
         ensures cells { P.tells → C.tells → (w : World) → Stands P.Plant C.Cell w plant.old cell.old self.now → HoldsArchive w → OnTheWay w.cell (archive_turn w command.now).cells (C.list cell.new) }
         ensures stays { StaysQuiet P.Plant plant.old plant.new }

@@ -59,7 +59,9 @@ impl Model for Session {
 }
 
 impl Session {
-    ghost use Rattle.backup_session.specs.Fitting.{Stands, TurnDone, SomeTurnDone, OnTheWay, FitsPlant, TurnedPlant};
+    ghost use Rattle.backup_session.specs.Fitting.{Stands, TurnDone, SomeTurnDone, SomeRestore, OnTheWay, FitsPlant, TurnedPlant};
+    ghost use Rattle.backup_session.specs.Asks.{asks_archive};
+    ghost use Rattle.backup_session.specs.Restores.{MayRestore};
     ghost use Rattle.backup_session.specs.Opening.{opened, UnlessFailed, OpensOrLacksMemory};
     ghost use Rattle.backup_session.specs.Bounded.{HasTapes};
     ghost use Rattle.backup_session.specs.Listing.{ListsWhole};
@@ -218,6 +220,8 @@ impl Session {
         ensures sound { OnOk result (P.sound plant.new) }
         ensures turned { P.tells → C.tells → (w : World) → Stands P.Plant C.Cell w plant.old cell.old self.old → HeldFor w command.now → IfOk result (λ reply. TurnDone P.Plant C.Cell w (done w command.now) plant.old plant.new cell.new self.new reply) }
         ensures some_turn { P.tells → C.tells → (w : World) → Stands P.Plant C.Cell w plant.old cell.old self.old → IfOk result (λ reply. SomeTurnDone P.Plant C.Cell w plant.old plant.new cell.new self.new reply) }
+        ensures some_restore { P.tells → C.tells → (w : World) → Stands P.Plant C.Cell w plant.old cell.old self.old → asks_archive command.now ≡ true → IfOk result (λ reply. SomeRestore P.Plant C.Cell w plant.old plant.new cell.new self.new reply) }
+        ensures may { P.tells → C.tells → (w : World) → Stands P.Plant C.Cell w plant.old cell.old self.old → asks_archive command.now ≡ true → MayRestore (after w.log) w.time command.now w.cell (C.list cell.new) }
         ensures leaves { P.tells → C.tells → (w : World) → Stands P.Plant C.Cell w plant.old cell.old self.old → Leaves P.Plant (done w command.now).effects plant.old plant.new }
         ensures cells { P.tells → C.tells → (w : World) → Stands P.Plant C.Cell w plant.old cell.old self.old → HeldFor w command.now → OnTheWay w.cell (done w command.now).cells (C.list cell.new) }
         ensures stays { StaysQuiet P.Plant plant.old plant.new }
@@ -237,7 +241,8 @@ impl Session {
 
     /// Executes a command at a moment of the clock. What it tells is handed back and not told. A world that stands there has
     /// tapes as a plant has them, and `scantape -dbadd` lists in it what is whole on them, a dump that another journal has
-    /// listed among it.
+    /// listed among it. A restore over tapes that hold no archive changes nothing but the cell, into which it puts wanted
+    /// volumes whole, or none.
     pub fn exec<P: Plant, C: Cell>(
         &mut self,
         alloc: Global,
@@ -252,6 +257,8 @@ impl Session {
         ensures some_turn { P.tells → C.tells → (w : World) → Stands P.Plant C.Cell w plant.old cell.old self.old → IfOk result (λ reply. SomeTurnDone P.Plant C.Cell w plant.old plant.new cell.new self.new reply) }
         ensures leaves { P.tells → C.tells → (w : World) → Stands P.Plant C.Cell w plant.old cell.old self.old → Leaves P.Plant (turn w now command.now).effects plant.old plant.new }
         ensures cells { P.tells → C.tells → (w : World) → Stands P.Plant C.Cell w plant.old cell.old self.old → HeldFor (at_moment w now) command.now → OnTheWay w.cell (turn w now command.now).cells (C.list cell.new) }
+        ensures some_restore { P.tells → C.tells → (w : World) → Stands P.Plant C.Cell w plant.old cell.old self.old → asks_archive command.now ≡ true → IfOk result (λ reply. SomeRestore P.Plant C.Cell (at_moment w now) plant.old plant.new cell.new self.new reply) }
+        ensures may { P.tells → C.tells → (w : World) → Stands P.Plant C.Cell w plant.old cell.old self.old → asks_archive command.now ≡ true → MayRestore (after w.log) (at_moment w now).time command.now w.cell (C.list cell.new) }
         ensures tapes { P.tells → C.tells → (w : World) → Stands P.Plant C.Cell w plant.old cell.old self.old → HasTapes w × ((k : ℕ) → IsTrue (w.setting.present k) → k < w.setting.slots) }
         ensures scans { P.tells → C.tells → (w : World) → Stands P.Plant C.Cell w plant.old cell.old self.old → (offset : ℕ) (port : PortFields) → command.now ≡ Scantape true offset → port_of w.setting.config (after w.log).hosts offset ≡ Ok port
             → IfOk result (λ reply. ListsWhole w (slots_here w.setting.present port) (turn w now command.now)) }

@@ -74,3 +74,25 @@ returns-clause-again g c = λ told seen w fits offset port is here none stock a 
     ok_anyway c.run.result _
     (subst (λ (command : Command). IsListedBehind w (slots_here w.setting.present port) (turn w c.args.now command) d) (sym is)
     (listed_again c.one_reading.ensures w c.args.now offset port here none stock a records held these d there on))
+
+pub returns-clause-some_restore : goal.returns-clause-some_restore
+returns-clause-some_restore g c = λ told seen w fits is.
+    let P = g.P.Plant in
+    let C = g.C.Cell in
+    let old = c.args.plant.now in
+    let later : SessionView = record { config = c.self.inside.config; budb = c.self.inside.budb; time = c.max-self-inside.result } in
+    let was = ap (λ (s : SessionView). s.time) c.self.view_is in
+    let time : c.max-self-inside.result ≡ max c.args.self.now.time (min c.args.now 4294967295) = omega (arith, c.max-self-inside.ensures, c.min.ensures, was) in
+    let here = stands_at P C w old c.args.cell.now c.args.self.now fits c.args.now later (ap (λ (s : SessionView). s.budb) c.self.view_is) (ap (λ (s : SessionView). s.config) c.self.view_is) time in
+    c.run.ensures.some_restore told seen (at_moment w c.args.now) here is
+
+pub returns-clause-may : goal.returns-clause-may
+returns-clause-may g c = λ told seen w fits is.
+    let P = g.P.Plant in
+    let C = g.C.Cell in
+    let old = c.args.plant.now in
+    let later : SessionView = record { config = c.self.inside.config; budb = c.self.inside.budb; time = c.max-self-inside.result } in
+    let was = ap (λ (s : SessionView). s.time) c.self.view_is in
+    let time : c.max-self-inside.result ≡ max c.args.self.now.time (min c.args.now 4294967295) = omega (arith, c.max-self-inside.ensures, c.min.ensures, was) in
+    let here = stands_at P C w old c.args.cell.now c.args.self.now fits c.args.now later (ap (λ (s : SessionView). s.budb) c.self.view_is) (ap (λ (s : SessionView). s.config) c.self.view_is) time in
+    c.run.ensures.may told seen (at_moment w c.args.now) here is

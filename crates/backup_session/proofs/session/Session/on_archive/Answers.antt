@@ -1,7 +1,7 @@
 use Rattle.std.proofs.Common.{ap}
 use Rattle.backup_session.specs.Views.{SessionView}
 use Rattle.backup_session.specs.Worlds.{archive_of}
-use Rattle.backup_session.proofs.RestoreLaws.{restore_leaves, restored_somehow, archive_stands, restore_turned, restore_way}
+use Rattle.backup_session.proofs.RestoreLaws.{restore_leaves, some_restore, restored_somehow, archive_stands, restore_turned, may_here, restore_way}
 use Rattle.backup_session.proofs.session.Session.on_archive.Goals as goal
 
 pub returns-in-Ok-clause-turned : goal.returns-in-Ok-clause-turned
@@ -53,3 +53,17 @@ returns-in-Err-clause-cells g c = λ told ctold w fits held.
     let read = c.the_slots_are_read.ensures in
     let stands = archive_stands P C w old site s fits c.self.inside.budb budb held (read.count w.setting.slots w.setting.present w.state.tape) (read.here w.setting.slots w.setting.present w.state.tape) (read.items w.setting.slots w.setting.present w.state.tape) in
     restore_way P C w old site s fits c.self.inside.budb c.self.inside.time c.args.command.now budb time (C.list c.restored.new.cell) (c.restored.ensures.left told ctold (archive_of w) stands)
+
+pub returns-in-Ok-clause-some_restore : goal.returns-in-Ok-clause-some_restore
+returns-in-Ok-clause-some_restore g c = λ told ctold w fits.
+    some_restore g.P.Plant g.C.Cell w c.args.plant.now c.args.cell.now c.args.self.now fits c.restored.new.plant c.restored.new.cell c.new.result told (c.restored.ensures.done (λ is. absurd (cc))) c.restored.ensures.stays.stays
+
+pub returns-in-Ok-clause-may : goal.returns-in-Ok-clause-may
+returns-in-Ok-clause-may g c = λ told ctold w fits.
+    may_here g.P.Plant g.C.Cell w c.args.plant.now c.args.cell.now c.args.self.now fits c.self.inside.budb c.self.inside.time c.args.command.now (ap (λ (x : SessionView). x.budb) c.self.view_is) (ap (λ (x : SessionView). x.time) c.self.view_is)
+    (g.C.Cell.list c.restored.new.cell) (c.restored.ensures.may ctold)
+
+pub returns-in-Err-clause-may : goal.returns-in-Err-clause-may
+returns-in-Err-clause-may g c = λ told ctold w fits.
+    may_here g.P.Plant g.C.Cell w c.args.plant.now c.args.cell.now c.args.self.now fits c.self.inside.budb c.self.inside.time c.args.command.now (ap (λ (x : SessionView). x.budb) c.self.view_is) (ap (λ (x : SessionView). x.time) c.self.view_is)
+    (g.C.Cell.list c.restored.new.cell) (c.restored.ensures.may ctold)

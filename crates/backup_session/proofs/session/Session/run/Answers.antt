@@ -1,4 +1,4 @@
-use Rattle.std.proofs.Common.{refl, sym, ◌∙◌, subst, IfOk}
+use Rattle.std.proofs.Common.{◌≡◌, true, false, refl, sym, ◌∙◌, subst, IfOk}
 use Rattle.plant_effects.specs.Runs.{Leaves}
 use Rattle.plant_effects.proofs.Joining.{nothing_left}
 use Rattle.backup_session.specs.Views.{SessionView}
@@ -8,7 +8,7 @@ use Rattle.backup_session.specs.Dumps.{dump_turn}
 use Rattle.backup_session.specs.Machine.{on_cell, on_plant, done}
 use Rattle.backup_session.specs.Fitting.{Stands, TurnDone, OnTheWay}
 use Rattle.backup_session.proofs.Carrying.{done_cell, done_archive, done_dump, done_plant, plant_cells, fits_plant, list_stays, turned_by, turned_cell, cell_way, in_ok}
-use Rattle.backup_session.proofs.RestoreLaws.{held_archive}
+use Rattle.backup_session.proofs.RestoreLaws.{held_archive, not_on_cell}
 use Rattle.backup_session.proofs.Silent.{plant_silent, dump_silent, somehow}
 use Rattle.backup_session.proofs.session.Session.run.Goals as goal
 
@@ -123,3 +123,27 @@ returns-else-asks_dump-clause-leaves g c = λ told seen w fits.
     let old = c.args.plant.now in
     let is = done_plant w c.args.command.now (sym c.asks_cell.ensures ∙ c.if-asks_cell.false) (sym c.asks_archive.ensures ∙ c.if-asks_archive.false) (sym c.asks_dump.ensures ∙ c.if-asks_dump.false) in
     subst (λ (t : Turn). Leaves P t.effects old c.on_plant.new.plant) (sym is) (c.on_plant.ensures.leaves told w (fits_plant P C w old c.args.cell.now c.args.self.now fits))
+
+pub returns-then-asks_cell-clause-some_restore : goal.returns-then-asks_cell-clause-some_restore
+returns-then-asks_cell-clause-some_restore g c = λ told seen w fits is. (let both : false ≡ true = sym (not_on_cell c.args.command.now is) ∙ (sym c.asks_cell.ensures ∙ c.if-asks_cell.true) in absurd (cc))
+
+pub returns-then-asks_cell-clause-may : goal.returns-then-asks_cell-clause-may
+returns-then-asks_cell-clause-may g c = λ told seen w fits is. (let both : false ≡ true = sym (not_on_cell c.args.command.now is) ∙ (sym c.asks_cell.ensures ∙ c.if-asks_cell.true) in absurd (cc))
+
+pub returns-then-asks_dump-clause-some_restore : goal.returns-then-asks_dump-clause-some_restore
+returns-then-asks_dump-clause-some_restore g c = λ told seen w fits is. (let both : false ≡ true = sym (sym c.asks_archive.ensures ∙ c.if-asks_archive.false) ∙ is in absurd (cc))
+
+pub returns-then-asks_dump-clause-may : goal.returns-then-asks_dump-clause-may
+returns-then-asks_dump-clause-may g c = λ told seen w fits is. (let both : false ≡ true = sym (sym c.asks_archive.ensures ∙ c.if-asks_archive.false) ∙ is in absurd (cc))
+
+pub returns-else-asks_dump-clause-some_restore : goal.returns-else-asks_dump-clause-some_restore
+returns-else-asks_dump-clause-some_restore g c = λ told seen w fits is. (let both : false ≡ true = sym (sym c.asks_archive.ensures ∙ c.if-asks_archive.false) ∙ is in absurd (cc))
+
+pub returns-else-asks_dump-clause-may : goal.returns-else-asks_dump-clause-may
+returns-else-asks_dump-clause-may g c = λ told seen w fits is. (let both : false ≡ true = sym (sym c.asks_archive.ensures ∙ c.if-asks_archive.false) ∙ is in absurd (cc))
+
+pub returns-then-asks_archive-clause-some_restore : goal.returns-then-asks_archive-clause-some_restore
+returns-then-asks_archive-clause-some_restore g c = λ told seen w fits is. c.on_archive.ensures.some_restore told seen w fits
+
+pub returns-then-asks_archive-clause-may : goal.returns-then-asks_archive-clause-may
+returns-then-asks_archive-clause-may g c = λ told seen w fits is. c.on_archive.ensures.may told seen w fits
