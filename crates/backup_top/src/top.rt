@@ -14,7 +14,9 @@ ghost use Rattle.backup_top.specs.Words.{asked};
 ghost use Rattle.backup_top.specs.Answers.{config_status};
 ghost use Rattle.backup_session.specs.Held.{HoldsArchive};
 ghost use Rattle.backup_session.specs.Worlds.{Contents};
+ghost use Rattle.std.specs.Str.Lines.{lines};
 ghost use Rattle.session_archives.specs.Held.{HoldsWorld};
+ghost use Rattle.session_archives.specs.OnLines.{RestoresLookUp, ScansListWhole};
 ghost use Rattle.backup_top.specs.Courses.{course_of, Entry, Journal, IsBadLog, SameStock, IsRefusedAt, RefusesJournal, IsExamineStatus, Runs, TellsLines, SameFiles, TakesBy, CellAtStage, EndsAt, LeavesImages, FindsHeld, FindsFit, FindsVolumes, outcome, HasCauseAs, IsWithin, IsComplete};
 ghost use Rattle.backup_top.specs.declared.words.Asked.TheVariants.{Run, Examine, Rehearse, Nothing};
 ghost use Rattle.backup_top.specs.declared.status.Status.TheVariants.{Done, Usage, ReadFault, MediaFault, CellFault, Memory, BadConfig, BadLog, OutputFault};
@@ -30,8 +32,8 @@ use media_core::{Clock, Media, Source};
 use rehearsal::rehearse;
 use script_journals::journals_of_scripts;
 use session_archives::{
-    images_hold_the_archive, opened_worlds_have_their_forms, scripts_keep_the_archive,
-    scripts_leave_a_ready_world_ready,
+    images_hold_the_archive, opened_worlds_have_their_forms, restores_look_up,
+    scans_list_what_is_whole, scripts_keep_the_archive, scripts_leave_a_ready_world_ready,
 };
 use std::alloc::Global;
 
@@ -198,6 +200,14 @@ pub fn run<M: Media, C: Cell, K: Clock, S: Source>(
     // Whatever stands on the media, a script that was run to its end is `SomeRefused` where a line that was told begins with `refused`, and
     // else `Done`.
     ensures told_lines { asked words.now.items ≡ Run → M.tells → C.tells → TellsLines (stock_of (M.seen media)).told (stock_of (M.seen result.1)).told result.0 }
+    // Each restore on a line that is run answers each volume by one look-up in the archive that it finds there, and each scan that adds dumps
+    // lists just what is whole on the tapes that it finds, recorded dumps among it: so are the turns of which `runs` speaks.
+    ensures restores { asked words.now.items ≡ Run → (entry : Entry config.now (stock_of (M.seen media))) → (contents : Contents)
+        → let c = course_of M.seen M.count M.present contents media entry result.1 (C.list cell.old) (C.list cell.new) (K.moments clock.old) (K.moments clock.new) (S.left source.old) (S.left source.new) in
+        RestoresLookUp c.world c.moments (lines c.input) }
+    ensures scans { asked words.now.items ≡ Run → (entry : Entry config.now (stock_of (M.seen media))) → (contents : Contents)
+        → let c = course_of M.seen M.count M.present contents media entry result.1 (C.list cell.old) (C.list cell.new) (K.moments clock.old) (K.moments clock.new) (S.left source.old) (S.left source.new) in
+        ScansListWhole c.world c.moments (lines c.input) }
     // Each image since the entry, where no write of before waits for a sync. Its journal opens again: it is the list of changes that the
     // first of the script's effects make, and each reply that was told whole is among them. It holds the archive with what the dumps have then.
     ensures images { asked words.now.items ≡ Run → M.tells → C.tells → K.tells → S.tells → AreStill M.time M.seen media → (entry : Entry config.now (stock_of (M.seen media))) → (contents : Contents)
@@ -254,6 +264,8 @@ pub fn run<M: Media, C: Cell, K: Clock, S: Source>(
     scripts_leave_a_ready_world_ready();
     images_hold_the_archive();
     opened_worlds_have_their_forms();
+    restores_look_up();
+    scans_list_what_is_whole();
     cell.listed_is_allowed();
     match asked_by(alloc, words) {
         Err(_) => (Status::Memory, media),

@@ -24,5 +24,6 @@ pub mod ReadyRestores
 pub mod ReadyCells
 pub mod ReadyTurns
 pub mod ReadyScripts
+pub mod OnLines
 pub mod ReadyBlank
 pub mod Opened

@@ -28,6 +28,7 @@ ghost use Rattle.dump_archives.specs.Keeping.{KnowsIds};
 ghost use Rattle.script_journals.specs.Worlds.{IsWorldForm};
 ghost use Rattle.script_journals.specs.Dumping.{IsFormedFor};
 ghost use Rattle.session_archives.specs.Held.{HoldsWorld, HoldsAfter, HoldsOnTheWay, contents_on, EachKeepsListed, RepliesSettle, HoldsImage};
+ghost use Rattle.session_archives.specs.OnLines.{RestoresLookUp, ScansListWhole};
 ghost use Rattle.session_archives.specs.Ready.{IsFitWorld, IsReady, at_first, RestoresApart, RestoresApartThroughout, IsReadyForCommand, IsReadyFor, AreVolumesFor};
 
 use bk_text::form_tests;
@@ -39,6 +40,7 @@ use tape_answers::{
 };
 use tape_config::a_configuration_has_its_forms;
 use tape_frames::one_frame;
+use tape_text::one_reading;
 
 /// A command whose fields have their forms keeps the archive that the plant holds: behind it, with its reply told, and behind each of its
 /// effects on the way, already with what the dumps have behind it. None of them takes a tape from a dump that is listed behind it. A dump finds
@@ -185,3 +187,15 @@ pub fn blank_worlds_are_ready()
         → ((id : ℕ) (name : AnyList ℕ) (volume : VolumeFields) → w.contents id name ≡ Ok volume → IsVolumeForm volume) → IsMaybe IsHost (name_or_nothing w.setting.config.cell)
         → ((offset : ℕ) (port : PortFields) → port_in offset w.setting.config.entries ≡ Some port → port.capacity ≤ 4000000000) → IsReady w }
 {}
+
+/// On each line of a script that is run a restore answers each volume by one look-up in the archive that it finds there.
+pub fn restores_look_up()
+    ensures { (w : World) (moments : AnyList ℕ) (lines : AnyList (AnyList ℕ)) → RestoresLookUp w moments lines }
+{}
+
+/// And a scan that adds dumps lists there just what is whole on the tapes that it finds, recorded dumps among it.
+pub fn scans_list_what_is_whole()
+    ensures { (w : World) (moments : AnyList ℕ) (lines : AnyList (AnyList ℕ)) → ScansListWhole w moments lines }
+{
+    one_reading();
+}

@@ -98,3 +98,15 @@ returns-in-Ok-Nothing-clause-media_later g c = omega (arith, c.run_usage.ensures
 
 pub returns-in-Err-clause-refused_log_images : goal.returns-in-Err-clause-refused_log_images
 returns-in-Err-clause-refused_log_images g c = λ runs told none. nothing_same g.M.Media.time g.M.Media.seen c.args.media [] c.args.media (stays g.M.Media.time c.args.media)
+
+pub returns-in-Err-clause-restores : goal.returns-in-Err-clause-restores
+returns-in-Err-clause-restores g c = λ runs entry contents. c.restores_look_up.ensures _ _ _
+
+pub returns-in-Err-clause-scans : goal.returns-in-Err-clause-scans
+returns-in-Err-clause-scans g c = λ runs entry contents. c.scans_list_what_is_whole.ensures _ _ _
+
+pub returns-in-Ok-Run-clause-restores : goal.returns-in-Ok-Run-clause-restores
+returns-in-Ok-Run-clause-restores g c = λ runs entry contents. c.restores_look_up.ensures _ _ _
+
+pub returns-in-Ok-Run-clause-scans : goal.returns-in-Ok-Run-clause-scans
+returns-in-Ok-Run-clause-scans g c = λ runs entry contents. c.scans_list_what_is_whole.ensures _ _ _
