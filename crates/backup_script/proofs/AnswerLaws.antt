@@ -54,18 +54,18 @@ module _ {D E : Type 0} (P : Plant D) (C : Cell E) (w : World) (ms input rest li
   ended_line (Ok passed) ran = λ off. line_ended P C w ms input rest line old new site took session left passed.goes off (ran_stripped passed ran)
   ended_line (Err stop) ran = tt
 
-  pub left_line : (r : Result Passed ServeStop) → OnErr r (LineLeft P C w ms (item_of read) old new site) → OnErr r (Left P C w ms (lines input) old new site)
+  pub left_line : (r : Result Passed ServeStop) → OnErr r (LineLeft P C w ms (item_of read) old new site left) → OnErr r (Left P C w ms (lines input) old new site left)
   left_line (Ok passed) begun = tt
-  left_line (Err stop) begun = line_left P C w ms input rest line old new site took (subst (λ (l : List ℕ). LineLeft P C w ms (item_of l) old new site) is begun)
+  left_line (Err stop) begun = line_left P C w ms input rest line old new site took left (subst (λ (l : List ℕ). LineLeft P C w ms (item_of l) old new site left) is begun)
 
 module _ {D E : Type 0} (P : Plant D) (C : Cell E) (w : World) (ms input line read : List ℕ) (old new : D) (site : E) (session : SessionView) (left : List ℕ) (took : TookPiece input [] line) (some : 0 < length line) (is : read ≡ line) where
   pub ended_last : (r : Result Passed ServeStop) → IfOk r (λ passed. ScriptRan P C (script w ms (read ∷ [])) old new site session left) → IfOk r (λ passed. passed.goes ≡ false → ScriptRan P C (script w ms (lines input)) old new site session left)
   ended_last (Ok passed) ran = λ off. last_ran P C w ms input line old new site session left took some (subst (λ (l : List ℕ). ScriptRan P C (script w ms (l ∷ [])) old new site session left) is ran)
   ended_last (Err stop) ran = tt
 
-  pub left_last : (r : Result Passed ServeStop) → OnErr r (LineLeft P C w ms (item_of read) old new site) → OnErr r (Left P C w ms (lines input) old new site)
+  pub left_last : (r : Result Passed ServeStop) → OnErr r (LineLeft P C w ms (item_of read) old new site left) → OnErr r (Left P C w ms (lines input) old new site left)
   left_last (Ok passed) begun = tt
-  left_last (Err stop) begun = last_left P C w ms input line old new site took some (subst (λ (l : List ℕ). LineLeft P C w ms (item_of l) old new site) is begun)
+  left_last (Err stop) begun = last_left P C w ms input line old new site left took some (subst (λ (l : List ℕ). LineLeft P C w ms (item_of l) old new site left) is begun)
 
 pub not_false : (b : Bool) → not b ≡ false → b ≡ true
 not_false true is = refl

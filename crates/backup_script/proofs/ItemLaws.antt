@@ -1,6 +1,7 @@
 -- What items do to a script.
 use Rattle.std.proofs.Common.{◌≡◌, inr, ℕ, Bool, true, false, not, List, [], ◌∷◌, Some, slice_get, refl, OnOk, OnErr}
 use Rattle.std.specs.Prelude.{if◌then◌else◌, Result, Ok, Err}
+use Rattle.media_core.specs.Later.{later}
 use Rattle.plant_core.specs.declared.plant.Plant.{Ghosts as Plant}
 use Rattle.plant_core.specs.Effects.{tells}
 use Rattle.plant_effects.specs.Runs.{Leaves}
@@ -37,20 +38,24 @@ unfolding item_of
 item_goes line = goes_by (is_quit line) (is_silent line) (command_of line)
 
 -- a refusal was told in part
-pub refusal_left : {D E : Type 0} (P : Plant D) (C : Cell E) (w : World) (ms text : List ℕ) (plant old new : D) (site : E) (session : SessionView) → Fits P C w plant site session → Leaves P (tells text ∷ []) old new → LineLeft P C w ms (Refused text) old new site
-refusal_left P C w ms text plant old new site session fits leaves = record {
-  stage = between (tells text ∷ []) (with_told w text);
+pub refusal_left : {D E : Type 0} (P : Plant D) (C : Cell E) (w : World) (ms text : List ℕ) (plant old new : D) (site : E) (session : SessionView) (left : List ℕ) → Fits P C w plant site session → Leaves P (tells text ∷ []) old new → left ≡ later ms
+    → LineLeft P C w ms (Refused text) old new site left
+refusal_left P C w ms text plant old new site session left fits leaves clock = record {
+  stage = between (tells text ∷ []) (with_told w text) (later ms);
   on_line = inr (inr refl);
   cell = fits.cell;
+  clock = clock;
   leaves = leaves;
 }
 
 -- a command was begun
-pub runs_left : {D E : Type 0} (P : Plant D) (C : Cell E) (w : World) (ms : List ℕ) (command : Command) (old new : D) (site : E) → TurnLeft P C w (turn w (first_of ms) command) old new site → LineLeft P C w ms (Runs command) old new site
-runs_left P C w ms command old new site begun = record {
+pub runs_left : {D E : Type 0} (P : Plant D) (C : Cell E) (w : World) (ms : List ℕ) (command : Command) (old new : D) (site : E) (left : List ℕ) → TurnLeft P C w (later ms) (turn w (first_of ms) command) old new site left
+    → LineLeft P C w ms (Runs command) old new site left
+runs_left P C w ms command old new site left begun = record {
   stage = begun.stage;
   on_line = inr begun.on_turn;
   cell = begun.cell;
+  clock = begun.clock;
   leaves = begun.leaves;
 }
 

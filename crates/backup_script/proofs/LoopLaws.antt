@@ -112,12 +112,13 @@ module _ {D E : Type 0} (P : Plant D) (C : Cell E) where
         }
 
     -- lines begun behind these
-    pub left_behind : (site2 : E) → Left P C s.world left more mid new site2 → Left P C w ms (ran ++ more) old new site2
-    left_behind site2 begun = let now = subst (λ (m : List ℕ). Left P C s.world m more mid new site2) so.went.moments begun in record {
+    pub left_behind : (site2 : E) (left2 : List ℕ) → Left P C s.world left more mid new site2 left2 → Left P C w ms (ran ++ more) old new site2 left2
+    left_behind site2 left2 begun = let now = subst (λ (m : List ℕ). Left P C s.world m more mid new site2 left2) so.went.moments begun in record {
       stage = behind s.effects now.stage;
       on_the_way = stage_later [] w ms ran more (behind s.effects now.stage) goes
           (subst (λ (es : List Effect). IsStage es s.world s.moments more (behind s.effects now.stage)) (append-nil s.effects) (stage_behind s.effects [] s.world s.moments more now.stage now.on_the_way));
       cell = now.cell;
+      clock = now.clock;
       leaves = leaves_both P s.effects now.stage.effects old mid new so.went.done so.leaves now.leaves;
     }
 
@@ -178,9 +179,9 @@ module _ {D E : Type 0} (P : Plant D) (C : Cell E) where
         subst (λ (ls : List (List ℕ)). ScriptRan P C (script w ms ls) old new site2 session2 left2) (sym (lines_all input rest so.ran so.reading))
         (ran_behind w ms so.ran (lines rest) old now new site session left so.so_far so.goes site2 session2 left2 next)
 
-    pub serving_left : (new : D) (site2 : E) → Left P C here.world left (lines rest) now new site2 → Left P C w ms (lines input) old new site2
-    serving_left new site2 begun = subst (λ (ls : List (List ℕ)). Left P C w ms ls old new site2) (sym (lines_all input rest so.ran so.reading))
-        (left_behind w ms so.ran (lines rest) old now new site session left so.so_far so.goes site2 begun)
+    pub serving_left : (new : D) (site2 : E) (left2 : List ℕ) → Left P C here.world left (lines rest) now new site2 left2 → Left P C w ms (lines input) old new site2 left2
+    serving_left new site2 left2 begun = subst (λ (ls : List (List ℕ)). Left P C w ms ls old new site2 left2) (sym (lines_all input rest so.ran so.reading))
+        (left_behind w ms so.ran (lines rest) old now new site session left so.so_far so.goes site2 left2 begun)
 
     pub serving_short : (new : D) (site2 : E) (session2 : SessionView) (left2 rest2 piece : List ℕ) (n : ℕ) → rest ≡ piece ++ rest2 → All (λ b. is_feed b ≡ false) piece → length input ≡ length rest2 + n → n ≤ 16777217
         → Went P C (nothing here.world left true) now new site2 session2 left2 → WentShort P C w ms input rest2 old new site2 session2 left2
@@ -192,11 +193,12 @@ module _ {D E : Type 0} (P : Plant D) (C : Cell E) where
     }
 
   -- where all of it was run, the stage is the last one
-  pub all_left : (w : World) (ms : List ℕ) (these : List (List ℕ)) (old new : D) (site : E) (session : SessionView) (left : List ℕ) → ScriptRan P C (script w ms these) old new site session left → Left P C w ms these old new site
+  pub all_left : (w : World) (ms : List ℕ) (these : List (List ℕ)) (old new : D) (site : E) (session : SessionView) (left : List ℕ) → ScriptRan P C (script w ms these) old new site session left → Left P C w ms these old new site left
   all_left w ms these old new site session left ran = record {
-    stage = between (script w ms these).effects (script w ms these).world;
+    stage = between (script w ms these).effects (script w ms these).world (script w ms these).moments;
     on_the_way = stage_last [] w ms these;
     cell = ran.went.fits.cell;
+    clock = ran.went.moments;
     leaves = ran.leaves;
   }
 

@@ -1,5 +1,5 @@
 -- How a session is opened and runs a script.
-use Rattle.std.proofs.Common.{◌≡◌, ℕ, Bool, List, [], ◌++◌, Err, sym, ◌∙◌, ap, subst}
+use Rattle.std.proofs.Common.{◌≡◌, ℕ, Bool, List, [], ◌++◌, Err, refl, sym, ◌∙◌, ap, subst}
 use Rattle.std.specs.Str.Lines.{lines}
 use Rattle.std.proofs.lemmas.List.{append_cancel_left}
 use Rattle.plant_core.specs.declared.plant.Plant.{Ghosts as Plant}
@@ -56,19 +56,21 @@ module _ {D E : Type 0} (P : Plant D) (C : Cell E) where
     pub short_ends : (input rest : List ℕ) (session : SessionView) (left : List ℕ) → WentShort P C w ms input rest mid new site session left → EndsShort P C w ms input rest old new site left
     short_ends input rest session left short = record { took = short.took; ends = went_ends (script w ms (lines (ended short.took.taken))) session left short.went }
 
-    pub left_after : (these : List (List ℕ)) → Left P C w ms these mid new site → Left P C w ms these old new site
-    left_after these left = record {
-      stage = left.stage;
-      on_the_way = left.on_the_way;
-      cell = left.cell;
-      leaves = leaves_both P [] left.stage.effects old mid new first first_leaves left.leaves;
+    pub left_after : (these : List (List ℕ)) (left : List ℕ) → Left P C w ms these mid new site left → Left P C w ms these old new site left
+    left_after these left begun = record {
+      stage = begun.stage;
+      on_the_way = begun.on_the_way;
+      cell = begun.cell;
+      clock = begun.clock;
+      leaves = leaves_both P [] begun.stage.effects old mid new first first_leaves begun.leaves;
     }
 
   -- it wasn't opened
-  pub not_opened : (w : World) (ms : List ℕ) (these : List (List ℕ)) (old new : D) (site : E) → C.list site ≡ w.cell → Leaves P [] old new → Left P C w ms these old new site
+  pub not_opened : (w : World) (ms : List ℕ) (these : List (List ℕ)) (old new : D) (site : E) → C.list site ≡ w.cell → Leaves P [] old new → Left P C w ms these old new site ms
   not_opened w ms these old new site same leaves = record {
-    stage = between [] w;
+    stage = between [] w ms;
     on_the_way = stage_front [] w ms these;
     cell = same;
+    clock = refl;
     leaves = leaves;
   }

@@ -64,20 +64,21 @@ module _ {D E : Type 0} (P : Plant D) (C : Cell E) where
         (sym (ap (script w ms) (lines_first input rest line took) ∙ script_ended (strip_carriage_return line ∷ []) (lines rest) w ms (goes_alone w ms (strip_carriage_return line) old new site session left goes ran ∙ off)))
         (ran_alone w ms (strip_carriage_return line) old new site session left goes ran)
 
-    pub line_left : LineLeft P C w ms (item_of (strip_carriage_return line)) old new site → Left P C w ms (lines input) old new site
+    pub line_left : (left : List ℕ) → LineLeft P C w ms (item_of (strip_carriage_return line)) old new site left → Left P C w ms (lines input) old new site left
     unfolding IsStage
-    line_left left = subst (λ (ls : List (List ℕ)). Left P C w ms ls old new site) (sym (lines_first input rest line took))
-        (record { stage = left.stage; on_the_way = inl left.on_line; cell = left.cell; leaves = left.leaves })
+    line_left left begun = subst (λ (ls : List (List ℕ)). Left P C w ms ls old new site left) (sym (lines_first input rest line took))
+        (record { stage = begun.stage; on_the_way = inl begun.on_line; cell = begun.cell; clock = begun.clock; leaves = begun.leaves })
 
   -- the last line
   pub last_ran : (w : World) (ms input line : List ℕ) (old new : D) (site : E) (session : SessionView) (left : List ℕ) → TookPiece input [] line → 0 < length line → ScriptRan P C (script w ms (line ∷ [])) old new site session left
       → ScriptRan P C (script w ms (lines input)) old new site session left
   last_ran w ms input line old new site session left took some ran = subst (λ (ls : List (List ℕ)). ScriptRan P C (script w ms ls) old new site session left) (sym (lines_last input line took some)) ran
 
-  pub last_left : (w : World) (ms input line : List ℕ) (old new : D) (site : E) → TookPiece input [] line → 0 < length line → LineLeft P C w ms (item_of line) old new site → Left P C w ms (lines input) old new site
+  pub last_left : (w : World) (ms input line : List ℕ) (old new : D) (site : E) (left : List ℕ) → TookPiece input [] line → 0 < length line → LineLeft P C w ms (item_of line) old new site left
+      → Left P C w ms (lines input) old new site left
   unfolding IsStage
-  last_left w ms input line old new site took some left = subst (λ (ls : List (List ℕ)). Left P C w ms ls old new site) (sym (lines_last input line took some))
-      (record { stage = left.stage; on_the_way = inl left.on_line; cell = left.cell; leaves = left.leaves })
+  last_left w ms input line old new site left took some begun = subst (λ (ls : List (List ℕ)). Left P C w ms ls old new site left) (sym (lines_last input line took some))
+      (record { stage = begun.stage; on_the_way = inl begun.on_line; cell = begun.cell; clock = begun.clock; leaves = begun.leaves })
 
   -- nothing was run
   pub went_nothing : (w : World) (ms : List ℕ) (s : D) (site : E) (session : SessionView) (goes : Bool) → P.sound s → Fits P C w s site session → Went P C (nothing w ms goes) s s site session ms
@@ -90,10 +91,11 @@ module _ {D E : Type 0} (P : Plant D) (C : Cell E) where
   pub nothing_ran : (w : World) (ms input : List ℕ) (s : D) (site : E) (session : SessionView) → input ≡ [] → P.sound s → FitsPlant P s → Fits P C w s site session → ScriptRan P C (script w ms (lines input)) s s site session ms
   nothing_ran w ms input s site session none sound fits_plant fits = subst (λ (l : List ℕ). ScriptRan P C (script w ms (lines l)) s s site session ms) (sym none) (no_lines_ran w ms s site session sound fits_plant fits)
 
-  pub nothing_begun : (w : World) (ms : List ℕ) (lines : List (List ℕ)) (s : D) (site : E) (session : SessionView) → FitsPlant P s → Fits P C w s site session → Left P C w ms lines s s site
+  pub nothing_begun : (w : World) (ms : List ℕ) (lines : List (List ℕ)) (s : D) (site : E) (session : SessionView) → FitsPlant P s → Fits P C w s site session → Left P C w ms lines s s site ms
   nothing_begun w ms lines s site session fits_plant fits = record {
-    stage = between [] w;
+    stage = between [] w ms;
     on_the_way = stage_front [] w ms lines;
     cell = fits.cell;
+    clock = refl;
     leaves = nothing_left P [] s fits_plant;
   }

@@ -12,29 +12,29 @@ use Rattle.backup_script.specs.Scripts.{first_of, Outcome, then_outcome, one_lin
 
 -- a stage behind these effects
 abbrev pub behind : List Effect → Stage → Stage
-behind before stage = record { cell = stage.cell; effects = before ++ stage.effects }
+behind before stage = record { cell = stage.cell; effects = before ++ stage.effects; moments = stage.moments }
 
-behind_more : (before first more : List Effect) (w : World) (stage : Stage) → stage ≡ between (first ++ more) w → behind before stage ≡ between ((before ++ first) ++ more) w
-behind_more before first more w stage is = ap (behind before) is ∙ ap (λ (es : List Effect). between es w) (sym (append_assoc before first more))
+behind_more : (before first more : List Effect) (w : World) (ms : List ℕ) (stage : Stage) → stage ≡ between (first ++ more) w ms → behind before stage ≡ between ((before ++ first) ++ more) w ms
+behind_more before first more w ms stage is = ap (behind before) is ∙ ap (λ (es : List Effect). between es w ms) (sym (append_assoc before first more))
 
 inside_behind : (before first : List Effect) (w : World) (ms : List ℕ) (item : Item) (stage : Stage) → InsideLine first w ms item stage → InsideLine (before ++ first) w ms item (behind before stage)
 inside_behind before first w ms Silent stage inside = absurd inside
 inside_behind before first w ms Quit stage inside = absurd inside
-inside_behind before first w ms (Refused text) stage inside = absurd inside
+inside_behind before first w ms (Refused text) stage inside = ap (behind before) inside
 inside_behind before first w ms (Runs command) stage inside =
-    (inside.0, ap (λ (es : List Effect). before ++ es) inside.1 ∙ sym (append_assoc before first (turn w (first_of ms) command).effects))
+    (inside.0, ap (λ (es : List Effect). before ++ es) inside.1 ∙ sym (append_assoc before first (turn w (first_of ms) command).effects), inside.2)
 
 line_behind : (before first : List Effect) (w : World) (ms : List ℕ) (item : Item) (stage : Stage) → OnLine first w ms item stage → OnLine (before ++ first) w ms item (behind before stage)
 line_behind before first w ms item stage on = elim on [
   | inl front ↦ inl (ap (behind before) front)
   | inr rest ↦ elim rest [
     | inl inside ↦ inr (inl (inside_behind before first w ms item stage inside))
-    | inr end ↦ inr (inr (behind_more before first (one_line w ms item).effects (one_line w ms item).world stage end))
+    | inr end ↦ let s = one_line w ms item in inr (inr (behind_more before first s.effects s.world s.moments stage end))
   ]
 ]
 
 -- in front of all lines
-pub stage_front : (first : List Effect) (w : World) (ms : List ℕ) (lines : List (List ℕ)) → IsStage first w ms lines (between first w)
+pub stage_front : (first : List Effect) (w : World) (ms : List ℕ) (lines : List (List ℕ)) → IsStage first w ms lines (between first w ms)
 unfolding IsStage
 stage_front first w ms [] = refl
 stage_front first w ms (line ∷ lines) = inl (inl refl)
@@ -73,15 +73,15 @@ stage_later first w ms (line ∷ ran) more stage goes is =
 
 -- behind all lines
 last_on : (first : List Effect) (w : World) (ms : List ℕ) (item : Item) (rest : Outcome) (At : List Effect → World → List ℕ → Stage → Type 0) (b : Bool)
-    → let s = one_line w ms item in At (first ++ s.effects) s.world s.moments (between ((first ++ s.effects) ++ rest.effects) rest.world)
-    → OnLine first w ms item (between (first ++ (if b then then_outcome s rest else s).effects) (if b then then_outcome s rest else s).world)
-    ⊎ WhereItGoes b (At (first ++ s.effects) s.world s.moments (between (first ++ (if b then then_outcome s rest else s).effects) (if b then then_outcome s rest else s).world))
-last_on first w ms item rest At true at = let s = one_line w ms item in inr (subst (λ (es : List Effect). At (first ++ s.effects) s.world s.moments (between es rest.world)) (append_assoc first s.effects rest.effects) at)
+    → let s = one_line w ms item in At (first ++ s.effects) s.world s.moments (between ((first ++ s.effects) ++ rest.effects) rest.world rest.moments)
+    → let whole = if b then then_outcome s rest else s in OnLine first w ms item (between (first ++ whole.effects) whole.world whole.moments)
+    ⊎ WhereItGoes b (At (first ++ s.effects) s.world s.moments (between (first ++ whole.effects) whole.world whole.moments))
+last_on first w ms item rest At true at = let s = one_line w ms item in inr (subst (λ (es : List Effect). At (first ++ s.effects) s.world s.moments (between es rest.world rest.moments)) (append_assoc first s.effects rest.effects) at)
 last_on first w ms item rest At false at = inl (inr (inr refl))
 
-pub stage_last : (first : List Effect) (w : World) (ms : List ℕ) (lines : List (List ℕ)) → IsStage first w ms lines (between (first ++ (script w ms lines).effects) (script w ms lines).world)
+pub stage_last : (first : List Effect) (w : World) (ms : List ℕ) (lines : List (List ℕ)) → IsStage first w ms lines (between (first ++ (script w ms lines).effects) (script w ms lines).world (script w ms lines).moments)
 unfolding script IsStage
-stage_last first w ms [] = ap (λ (es : List Effect). between es w) (append-nil first)
+stage_last first w ms [] = ap (λ (es : List Effect). between es w ms) (append-nil first)
 stage_last first w ms (line ∷ lines) =
     let s = one_line w ms (item_of line) in
     last_on first w ms (item_of line) (script s.world s.moments lines) (λ es v ns stage. IsStage es v ns lines stage) s.goes (stage_last (first ++ s.effects) s.world s.moments lines)
@@ -102,7 +102,7 @@ line_front first s rest false = ([], sym (append-nil (first ++ s.effects)))
 inside_front : (first : List Effect) (w : World) (ms : List ℕ) (item : Item) (stage : Stage) → InsideLine first w ms item stage → IsFront stage.effects (first ++ (one_line w ms item).effects)
 inside_front first w ms Silent stage inside = absurd inside
 inside_front first w ms Quit stage inside = absurd inside
-inside_front first w ms (Refused text) stage inside = absurd inside
+inside_front first w ms (Refused text) stage inside = (tells text ∷ [], ap (λ (x : Stage). x.effects ++ tells text ∷ []) (sym inside))
 inside_front first w ms (Runs command) stage inside =
     let t = turn w (first_of ms) command in
     (tells t.reply ∷ [], sym (append_assoc first t.effects (tells t.reply ∷ [])) ∙ ap (λ (es : List Effect). es ++ tells t.reply ∷ []) (sym inside.1))

@@ -82,19 +82,21 @@ module _ {D E : Type 0} (P : Plant D) (C : Cell E) where
         reply_leaves first second = subst (λ (r : List ℕ). Leaves P (t.effects ++ tells r ∷ []) old new) turned.text (leaves_both P t.effects (tells reply.text ∷ []) old mid new turned.done first second)
 
     -- it was told in part, or whole
-    pub reply_left : Leaves P t.effects old mid → Leaves P (tells reply.text ∷ []) mid new → TurnLeft P C w t old new site
-    reply_left first second = record {
-      stage = between (t.effects ++ tells t.reply ∷ []) (after_turn w t);
+    pub reply_left : (ms : List ℕ) → Leaves P t.effects old mid → Leaves P (tells reply.text ∷ []) mid new → TurnLeft P C w ms t old new site ms
+    reply_left ms first second = record {
+      stage = between (t.effects ++ tells t.reply ∷ []) (after_turn w t) ms;
       on_turn = inr refl;
       cell = turned.fits.cell;
+      clock = refl;
       leaves = subst (λ (r : List ℕ). Leaves P (t.effects ++ tells r ∷ []) old new) turned.text (leaves_both P t.effects (tells reply.text ∷ []) old mid new turned.done first second);
     }
 
   -- a command was begun
-  pub command_left : (w : World) (t : Turn) (old new : D) (site : E) → OnTheWay w.cell t.cells (C.list site) → Leaves P t.effects old new → TurnLeft P C w t old new site
-  command_left w t old new site cells leaves = record {
-    stage = record { cell = C.list site; effects = t.effects };
-    on_turn = inl (cells, refl);
+  pub command_left : (w : World) (ms : List ℕ) (t : Turn) (old new : D) (site : E) → OnTheWay w.cell t.cells (C.list site) → Leaves P t.effects old new → TurnLeft P C w ms t old new site ms
+  command_left w ms t old new site cells leaves = record {
+    stage = record { cell = C.list site; effects = t.effects; moments = ms };
+    on_turn = inl (cells, refl, refl);
     cell = refl;
+    clock = refl;
     leaves = leaves;
   }

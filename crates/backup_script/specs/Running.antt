@@ -25,12 +25,13 @@ pub record Went {D E : Type 0} (P : Plant D) (C : Cell E) (s : Outcome) (old new
   pub fits : Fits P C s.world new site session
   pub moments : left ≡ s.moments
 
--- However it ended: the cell has a list of some stage of the script, and each image since the start is one of the crash model after the first
--- of the effects that may be done by then.
-pub record Left {D E : Type 0} (P : Plant D) (C : Cell E) (w : World) (ms : List ℕ) (lines : List (List ℕ)) (old new : D) (site : E) : Type 0 where
+-- However it ended: the cell has a list of some stage of the script, the clock has the moments of that stage left, and each image since the
+-- start is one of the crash model after the first of the effects that may be done by then.
+pub record Left {D E : Type 0} (P : Plant D) (C : Cell E) (w : World) (ms : List ℕ) (lines : List (List ℕ)) (old new : D) (site : E) (left : List ℕ) : Type 0 where
   pub stage : Stage
   pub on_the_way : IsStage [] w ms lines stage
   pub cell : C.list site ≡ stage.cell
+  pub clock : left ≡ stage.moments
   pub leaves : Leaves P stage.effects old new
 
 -- The last of these lines is `quit`, and no other one.
@@ -100,20 +101,22 @@ pub record LineRan {D E : Type 0} (P : Plant D) (C : Cell E) (s : Outcome) (old 
   pub goes_is : goes ≡ s.goes
 
 -- a line was begun
-pub record LineLeft {D E : Type 0} (P : Plant D) (C : Cell E) (w : World) (ms : List ℕ) (item : Item) (old new : D) (site : E) : Type 0 where
+pub record LineLeft {D E : Type 0} (P : Plant D) (C : Cell E) (w : World) (ms : List ℕ) (item : Item) (old new : D) (site : E) (left : List ℕ) : Type 0 where
   pub stage : Stage
   pub on_line : OnLine [] w ms item stage
   pub cell : C.list site ≡ stage.cell
+  pub clock : left ≡ stage.moments
   pub leaves : Leaves P stage.effects old new
 
--- in a command, or behind it
-abbrev pub OnTurn : List Effect → World → Turn → Stage → Type 0
-OnTurn before w t stage = InsideTurn before w t stage ⊎ (stage ≡ between (before ++ (t.effects ++ tells t.reply ∷ [])) (after_turn w t))
+-- in a command, behind whose moment these are left, or behind it
+abbrev pub OnTurn : List Effect → World → List ℕ → Turn → Stage → Type 0
+OnTurn before w ms t stage = InsideTurn before w ms t stage ⊎ (stage ≡ between (before ++ (t.effects ++ tells t.reply ∷ [])) (after_turn w t) ms)
 
-pub record TurnLeft {D E : Type 0} (P : Plant D) (C : Cell E) (w : World) (t : Turn) (old new : D) (site : E) : Type 0 where
+pub record TurnLeft {D E : Type 0} (P : Plant D) (C : Cell E) (w : World) (ms : List ℕ) (t : Turn) (old new : D) (site : E) (left : List ℕ) : Type 0 where
   pub stage : Stage
-  pub on_turn : OnTurn [] w t stage
+  pub on_turn : OnTurn [] w ms t stage
   pub cell : C.list site ≡ stage.cell
+  pub clock : left ≡ stage.moments
   pub leaves : Leaves P stage.effects old new
 
 -- whether the script goes on behind a line

@@ -55,31 +55,34 @@ script w ms (line ∷ lines) =
 
 -- ---- the cell on the way
 
--- A list of the cell on the way of a script, and the effects that may be done by then. Each command whose reply is among these effects
--- has made all its changes of this list.
+-- A list of the cell on the way of a script, the effects that may be done by then, and the moments that the clock has left there. Each command
+-- whose reply is among these effects has made all its changes of this list.
 pub record Stage : Type 0 where
   pub cell : List Stored
   pub effects : List Effect
+  pub moments : List ℕ
 
--- the list between two lines, where the effects of those before are done
-abbrev pub between : List Effect → World → Stage
-between before w = record { cell = w.cell; effects = before }
+-- the list and the moments between two lines, where the effects of those before are done
+abbrev pub between : List Effect → World → List ℕ → Stage
+between before w ms = record { cell = w.cell; effects = before; moments = ms }
 
--- Inside a line: a command changes the list step by step, and its effects but for the reply may be done. The other lines change no list.
-abbrev pub InsideTurn : List Effect → World → Turn → Stage → Type 0
-InsideTurn before w t stage = OnTheWay w.cell t.cells stage.cell × (stage.effects ≡ before ++ t.effects)
+-- Inside a command, behind whose moment these are left: it changes the list step by step, and its effects but for the reply may be done.
+abbrev pub InsideTurn : List Effect → World → List ℕ → Turn → Stage → Type 0
+InsideTurn before w ms t stage = OnTheWay w.cell t.cells stage.cell × (stage.effects ≡ before ++ t.effects) × (stage.moments ≡ ms)
 
+-- Inside a line: its moment is used. Of a line that is refused for its words nothing is told yet, and it changes no list. The other lines use
+-- no moment.
 abbrev pub InsideLine : List Effect → World → List ℕ → Item → Stage → Type 0
 InsideLine before w ms Silent stage = ⊥
 InsideLine before w ms Quit stage = ⊥
-InsideLine before w ms (Refused text) stage = ⊥
-InsideLine before w ms (Runs command) stage = InsideTurn before w (turn w (first_of ms) command) stage
+InsideLine before w ms (Refused text) stage = stage ≡ between before w (later ms)
+InsideLine before w ms (Runs command) stage = InsideTurn before w (later ms) (turn w (first_of ms) command) stage
 
 -- in front of a line, inside it, and behind it
 abbrev pub OnLine : List Effect → World → List ℕ → Item → Stage → Type 0
 OnLine before w ms item stage =
     let s = one_line w ms item in
-    (stage ≡ between before w) ⊎ (InsideLine before w ms item stage ⊎ (stage ≡ between (before ++ s.effects) s.world))
+    (stage ≡ between before w ms) ⊎ (InsideLine before w ms item stage ⊎ (stage ≡ between (before ++ s.effects) s.world s.moments))
 
 -- a further stage, where the script goes on
 abbrev pub WhereItGoes : Bool → Type 0 → Type 0
@@ -88,7 +91,7 @@ WhereItGoes false further = ⊥
 
 -- THE STAGES OF A SCRIPT behind these effects: those of each line that is run.
 unfoldable pub IsStage : List Effect → World → List ℕ → List (List ℕ) → Stage → Type 0
-IsStage before w ms [] stage = stage ≡ between before w
+IsStage before w ms [] stage = stage ≡ between before w ms
 IsStage before w ms (line ∷ lines) stage =
     let s = one_line w ms (item_of line) in
     OnLine before w ms (item_of line) stage ⊎ WhereItGoes s.goes (IsStage (before ++ s.effects) s.world s.moments lines stage)

@@ -119,7 +119,7 @@ pub fn run_on<P: Plant, C: Cell, K: Clock, S: Source>(
     // However it ended.
     ensures left { P.tells → C.tells → K.tells → S.tells → IsSettled (state_of P.Plant plant.old) → (log : AnyList AnyChange) → AreChanges log → (state_of P.Plant plant.old).log ≡ encoded log
         → (contents : Contents) → let w = world_on P.Plant C.Cell config log contents plant.old cell.old in
-        IsHeldThroughout w (K.moments clock.old) (lines (S.left source.old)) → Left P.Plant C.Cell w (K.moments clock.old) (lines (S.left source.old)) plant.old plant.new cell.new }
+        IsHeldThroughout w (K.moments clock.old) (lines (S.left source.old)) → Left P.Plant C.Cell w (K.moments clock.old) (lines (S.left source.old)) plant.old plant.new cell.new (K.moments clock.new) }
     // Whatever stood on the plant, it is said of what was told whether some line begins with `refused`.
     ensures flag { P.tells → C.tells → IsSettled (state_of P.Plant plant.old) → IfOk result (λ refused. HasTold P.Plant plant.old plant.new refused) }
     ensures takes { S.tells → TakesBytes (S.left source.old) (S.left source.new) result }

@@ -49,7 +49,7 @@ pub fn run_script<P: Plant, C: Cell, K: Clock, S: Source>(
         → IsHeldThroughout w (K.moments clock.old) (lines (S.left source.old)) → result ≡ Err ServeStop.TooLong → WentShort P.Plant C.Cell w (K.moments clock.old) (S.left source.old) (S.left source.new) plant.old plant.new cell.new session.new (K.moments clock.new) }
     // However it ended.
     ensures left { P.tells → C.tells → K.tells → S.tells → (w : World) → Fits P.Plant C.Cell w plant.old cell.old session.old
-        → IsHeldThroughout w (K.moments clock.old) (lines (S.left source.old)) → Left P.Plant C.Cell w (K.moments clock.old) (lines (S.left source.old)) plant.old plant.new cell.new }
+        → IsHeldThroughout w (K.moments clock.old) (lines (S.left source.old)) → Left P.Plant C.Cell w (K.moments clock.old) (lines (S.left source.old)) plant.old plant.new cell.new (K.moments clock.new) }
     ensures takes { S.tells → Takes (S.left source.old) (S.left source.new) result }
     ensures stays { Stays P.Plant plant.old plant.new }
 

@@ -88,7 +88,7 @@ fn run_command<P: Plant, C: Cell>(
     ensures went { P.tells → C.tells → (w : World) → Fits P.Plant C.Cell w plant.old cell.old session.old
         → HeldFor (at_moment w now) command.now → (ms : AnyList ℕ) → OnOk result (LineRan P.Plant C.Cell (command_told w ms (turn w now command.now)) plant.old plant.new cell.new session.new (later ms) true) }
     ensures watched { P.tells → C.tells → (before : AnyList ℕ) → IsWatched P.Plant C.Cell before plant.old cell.old session.old watch.old → OnOk result (IsWatched P.Plant C.Cell before plant.new cell.new session.new watch.new) }
-    ensures left { P.tells → C.tells → (w : World) → Fits P.Plant C.Cell w plant.old cell.old session.old → HeldFor (at_moment w now) command.now → OnErr result (TurnLeft P.Plant C.Cell w (turn w now command.now) plant.old plant.new cell.new) }
+    ensures left { P.tells → C.tells → (w : World) → Fits P.Plant C.Cell w plant.old cell.old session.old → HeldFor (at_moment w now) command.now → (ms : AnyList ℕ) → OnErr result (TurnLeft P.Plant C.Cell w ms (turn w now command.now) plant.old plant.new cell.new ms) }
     ensures stays { Stays P.Plant plant.old plant.new }
     ensures plant_cause { HasCauseAt ServeStop.Plant (P.view plant.old).faults (P.view plant.new).faults result }
     ensures cell_cause { HasCauseAt ServeStop.Cell (C.faults cell.old) (C.faults cell.new) result }
@@ -155,7 +155,7 @@ fn run_next<P: Plant, C: Cell, K: Clock>(
         → HeldFor (at_moment w (first_of (K.moments clock.old))) command.now → IfOk result (λ passed. LineRan P.Plant C.Cell (command_told w (K.moments clock.old) (turn w (first_of (K.moments clock.old)) command.now)) plant.old plant.new cell.new session.new (K.moments clock.new) passed.goes) }
     ensures watched { P.tells → C.tells → (before : AnyList ℕ) → IsWatched P.Plant C.Cell before plant.old cell.old session.old watch.old → OnOk result (IsWatched P.Plant C.Cell before plant.new cell.new session.new watch.new) }
     ensures left { P.tells → C.tells → K.tells → (w : World) → Fits P.Plant C.Cell w plant.old cell.old session.old
-        → HeldFor (at_moment w (first_of (K.moments clock.old))) command.now → OnErr result (TurnLeft P.Plant C.Cell w (turn w (first_of (K.moments clock.old)) command.now) plant.old plant.new cell.new) }
+        → HeldFor (at_moment w (first_of (K.moments clock.old))) command.now → OnErr result (TurnLeft P.Plant C.Cell w (later (K.moments clock.old)) (turn w (first_of (K.moments clock.old)) command.now) plant.old plant.new cell.new (K.moments clock.new)) }
     ensures goes { IfOk result (λ passed. passed.goes ≡ true) }
     ensures stays { Stays P.Plant plant.old plant.new }
     ensures plant_cause { HasCauseAt ServeStop.Plant (P.view plant.old).faults (P.view plant.new).faults result }
@@ -186,7 +186,7 @@ fn run_item<P: Plant, C: Cell, K: Clock>(
     ensures went { P.tells → C.tells → K.tells → (w : World) → Fits P.Plant C.Cell w plant.old cell.old session.old
         → HeldForLine w (K.moments clock.old) item → IfOk result (λ passed. LineRan P.Plant C.Cell (one_line w (K.moments clock.old) item) plant.old plant.new cell.new session.new (K.moments clock.new) passed.goes) }
     ensures watched { P.tells → C.tells → (before : AnyList ℕ) → IsWatched P.Plant C.Cell before plant.old cell.old session.old watch.old → OnOk result (IsWatched P.Plant C.Cell before plant.new cell.new session.new watch.new) }
-    ensures left { P.tells → C.tells → K.tells → (w : World) → Fits P.Plant C.Cell w plant.old cell.old session.old → HeldForLine w (K.moments clock.old) item → OnErr result (LineLeft P.Plant C.Cell w (K.moments clock.old) item plant.old plant.new cell.new) }
+    ensures left { P.tells → C.tells → K.tells → (w : World) → Fits P.Plant C.Cell w plant.old cell.old session.old → HeldForLine w (K.moments clock.old) item → OnErr result (LineLeft P.Plant C.Cell w (K.moments clock.old) item plant.old plant.new cell.new (K.moments clock.new)) }
     ensures goes { IfOk result (λ passed. passed.goes ≡ goes_behind item) }
     ensures stays { Stays P.Plant plant.old plant.new }
     ensures plant_cause { HasCauseAt ServeStop.Plant (P.view plant.old).faults (P.view plant.new).faults result }
@@ -218,7 +218,7 @@ pub fn run_line<P: Plant, C: Cell, K: Clock>(
     ensures went { P.tells → C.tells → K.tells → (w : World) → Fits P.Plant C.Cell w plant.old cell.old session.old
         → HeldForLine w (K.moments clock.old) (item_of line.now) → IfOk result (λ passed. LineRan P.Plant C.Cell (one_line w (K.moments clock.old) (item_of line.now)) plant.old plant.new cell.new session.new (K.moments clock.new) passed.goes) }
     ensures watched { P.tells → C.tells → (before : AnyList ℕ) → IsWatched P.Plant C.Cell before plant.old cell.old session.old watch.old → OnOk result (IsWatched P.Plant C.Cell before plant.new cell.new session.new watch.new) }
-    ensures left { P.tells → C.tells → K.tells → (w : World) → Fits P.Plant C.Cell w plant.old cell.old session.old → HeldForLine w (K.moments clock.old) (item_of line.now) → OnErr result (LineLeft P.Plant C.Cell w (K.moments clock.old) (item_of line.now) plant.old plant.new cell.new) }
+    ensures left { P.tells → C.tells → K.tells → (w : World) → Fits P.Plant C.Cell w plant.old cell.old session.old → HeldForLine w (K.moments clock.old) (item_of line.now) → OnErr result (LineLeft P.Plant C.Cell w (K.moments clock.old) (item_of line.now) plant.old plant.new cell.new (K.moments clock.new)) }
     ensures goes { IfOk result (λ passed. passed.goes ≡ not (is_quit line.now)) }
     ensures stays { Stays P.Plant plant.old plant.new }
     ensures plant_cause { HasCauseAt ServeStop.Plant (P.view plant.old).faults (P.view plant.new).faults result }

@@ -326,20 +326,21 @@ stage_journaled c stage on j =
     }
 
 -- however it ended
-pub ends_at : {D : Type 0} (time : Moments D Image) (seen : D → Image) (old new : D) (c : Course) (stage : Stage) → IsStage [] c.world c.moments (lines c.input) stage → c.cell ≡ stage.cell → Journaled c (outcome c).effects
+pub ends_at : {D : Type 0} (time : Moments D Image) (seen : D → Image) (old new : D) (c : Course) (stage : Stage) → IsStage [] c.world c.moments (lines c.input) stage → c.cell ≡ stage.cell → c.left ≡ stage.moments → Journaled c (outcome c).effects
     → time.moment old ≤ time.moment new → time.may_leave new (seen new) → LeavesSince time old new (λ a b. Joint c.world.state stage.effects (stock_of a) (stock_of b)) → EndsAt time seen old new c
-ends_at time seen old new c stage on cell j later reads images = record {
+ends_at time seen old new c stage on cell clock j later reads images = record {
   stage = stage;
   on_the_way = on;
   cell = cell;
+  clock = clock;
   image = images_of time old new c stage.effects (stage_journaled c stage on j) images (seen new) (time.counts_now new (time.moment old) (seen new) later reads);
 }
 
 -- what was left of a stage was left of the script
-pub left_whole : {D E : Type 0} (P : Plant D) (C : Cell E) (w v : World) (ms : List ℕ) (these : List (List ℕ)) (old new : D) (site : E) → w ≡ v → Left P C w ms these old new site → LeavesPlant P (script v ms these).effects old new
-left_whole P C w v ms these old new site same left =
-    let more = stage_whole [] w ms these left.stage left.on_the_way in
-    subst (λ (es : List Effect). LeavesPlant P es old new) (sym more.1 ∙ ap (λ (x : World). (script x ms these).effects) same) (leaves_more P left.stage.effects more.0 old new left.leaves)
+pub left_whole : {D E : Type 0} (P : Plant D) (C : Cell E) (w v : World) (ms : List ℕ) (these : List (List ℕ)) (old new : D) (site : E) (left : List ℕ) → w ≡ v → Left P C w ms these old new site left → LeavesPlant P (script v ms these).effects old new
+left_whole P C w v ms these old new site left same begun =
+    let more = stage_whole [] w ms these begun.stage begun.on_the_way in
+    subst (λ (es : List Effect). LeavesPlant P es old new) (sym more.1 ∙ ap (λ (x : World). (script x ms these).effects) same) (leaves_more P begun.stage.effects more.0 old new begun.leaves)
 
 -- ---- the configuration
 

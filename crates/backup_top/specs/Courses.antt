@@ -251,20 +251,22 @@ SameStock old new = stock_of new ≡ stock_of old
 abbrev pub LeavesImages : {D : Type 0} → Moments D Image → D → D → Course → List Effect → Type 0
 LeavesImages time old new c effects = LeavesSince time old new (λ a b. LeftImage c effects (stock_of a) (stock_of b))
 
--- The cell has the list of a stage of the script, and no more was told than its effects tell: so the cell has the changes of each command
--- whose reply was told.
+-- The cell has the list of a stage of the script, the clock has its moments left, and no more was told than its effects tell: so the cell has
+-- the changes of each command whose reply was told.
 pub record CellAtStage (c : Course) : Type 0 where
   pub stage : Stage
   pub on_the_way : IsStage [] c.world c.moments (lines c.input) stage
   pub is : c.cell ≡ stage.cell
+  pub clock : c.left ≡ stage.moments
   pub told : IsFront c.after.told (c.before.told ++ told_by stage.effects)
 
--- However a run ends, what reads give is such an image of a stage of the script, and the cell has the list of this stage. So the cell has
--- the changes of each command whose reply was told.
+-- However a run ends, what reads give is such an image of a stage of the script, the cell has the list of this stage, and the clock has its
+-- moments left. So the cell has the changes of each command whose reply was told.
 pub record EndsAt {D : Type 0} (time : Moments D Image) (seen : D → Image) (old new : D) (c : Course) : Type 0 where
   pub stage : Stage
   pub on_the_way : IsStage [] c.world c.moments (lines c.input) stage
   pub cell : c.cell ≡ stage.cell
+  pub clock : c.left ≡ stage.moments
   pub image : Stepped time old (λ a b. LeftImage c stage.effects (stock_of a) (stock_of b)) (seen new)
 
 -- ---- causes

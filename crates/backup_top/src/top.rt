@@ -213,12 +213,12 @@ pub fn run<M: Media, C: Cell, K: Clock, S: Source>(
     ensures images { asked words.now.items ≡ Run → M.tells → C.tells → K.tells → S.tells → AreStill M.time M.seen media → (entry : Entry config.now (stock_of (M.seen media))) → (contents : Contents)
         → let c = course_of M.seen M.count M.present contents media entry result.1 (C.list cell.old) (C.list cell.new) (K.moments clock.old) (K.moments clock.new) (S.left source.old) (S.left source.new) in
         FindsHeld c → LeavesImages M.time media result.1 c (outcome c).effects }
-    // However it ended, what reads give is such an image.
+    // However it ended, what reads give is such an image, and cell and clock are those of its stage.
     ensures ends { asked words.now.items ≡ Run → M.tells → C.tells → K.tells → S.tells → AreStill M.time M.seen media → (entry : Entry config.now (stock_of (M.seen media))) → (contents : Contents)
         → let c = course_of M.seen M.count M.present contents media entry result.1 (C.list cell.old) (C.list cell.new) (K.moments clock.old) (K.moments clock.new) (S.left source.old) (S.left source.new) in
         FindsHeld c → EndsAt M.time M.seen media result.1 c }
-    // Also where a write waited for a sync at the entry, the cell has the list of a stage of the script, and no more was told than the effects
-    // of this stage tell: so it has the changes of each command whose reply was told.
+    // Also where a write waited for a sync at the entry, the cell has the list of a stage of the script, the clock has its moments left, and no
+    // more was told than the effects of this stage tell: so the cell has the changes of each command whose reply was told.
     ensures cell_at_end { asked words.now.items ≡ Run → M.tells → C.tells → K.tells → S.tells → (entry : Entry config.now (stock_of (M.seen media))) → (contents : Contents)
         → let c = course_of M.seen M.count M.present contents media entry result.1 (C.list cell.old) (C.list cell.new) (K.moments clock.old) (K.moments clock.new) (S.left source.old) (S.left source.new) in
         FindsHeld c → CellAtStage c }

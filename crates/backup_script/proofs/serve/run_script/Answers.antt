@@ -41,7 +41,7 @@ returns-in-Err-clause-left g c = λ told tells_cell tells_clock source w fits he
     let l = c.loop-taken in
     let n = c.serve_line.new in
     let so = l.invariant.serving told tells_cell tells_clock source w fits held in
-    serving_left P g.C.Cell w (g.K.Clock.moments c.args.clock.now) (g.S.Source.left c.args.source.now) c.args.plant.now l.plant l.cell l.session (g.K.Clock.moments l.clock) (g.S.Source.left l.source) so n.plant n.cell
+    serving_left P g.C.Cell w (g.K.Clock.moments c.args.clock.now) (g.S.Source.left c.args.source.now) c.args.plant.now l.plant l.cell l.session (g.K.Clock.moments l.clock) (g.S.Source.left l.source) so n.plant n.cell (g.K.Clock.moments n.clock)
     (c.in-Err.ensures.left told tells_cell tells_clock source (script w (g.K.Clock.moments c.args.clock.now) so.ran).world so.so_far.went.fits (serving_held P g.C.Cell w (g.K.Clock.moments c.args.clock.now) (g.S.Source.left c.args.source.now) c.args.plant.now l.plant l.cell l.session (g.K.Clock.moments l.clock) (g.S.Source.left l.source) so held))
 
 pub returns-in-Err-clause-read_short : goal.returns-in-Err-clause-read_short
@@ -162,7 +162,7 @@ returns-clause-left g c = λ told tells_cell tells_clock source w fits held.
     let l = c.loop-taken in
     let ms = g.K.Clock.moments c.args.clock.now in
     let so = l.invariant.serving told tells_cell tells_clock source w fits held in
-    serving_left P g.C.Cell w ms (g.S.Source.left c.args.source.now) c.args.plant.now l.plant l.cell l.session (g.K.Clock.moments l.clock) (g.S.Source.left l.source) so l.plant l.cell
+    serving_left P g.C.Cell w ms (g.S.Source.left c.args.source.now) c.args.plant.now l.plant l.cell l.session (g.K.Clock.moments l.clock) (g.S.Source.left l.source) so l.plant l.cell (g.K.Clock.moments l.clock)
     (nothing_begun P g.C.Cell (script w ms so.ran).world (g.K.Clock.moments l.clock) (lines (g.S.Source.left l.source)) l.plant l.cell l.session (λ told survives image was. g.met.P.Plant.left l.plant image told l.invariant.sound survives was) so.so_far.went.fits)
 
 pub returns-clause-takes : goal.returns-clause-takes

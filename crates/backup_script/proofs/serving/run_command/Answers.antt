@@ -37,7 +37,7 @@ returns-in-Ok-tell_whole-clause-watched g c = λ told tells_cell before so.
     (c.watch.ensures ∙ ap (λ (l : List ℕ). with_text c.args.watch.now l) c.text-text.ensures)
 
 pub returns-in-Ok-clause-left : goal.returns-in-Ok-clause-left
-returns-in-Ok-clause-left g c = λ told tells_cell w fits held.
+returns-in-Ok-clause-left g c = λ told tells_cell w fits held ms.
     let P = g.P.Plant in
     let C = g.C.Cell in
     let old = c.args.plant.now in
@@ -46,10 +46,10 @@ returns-in-Ok-clause-left g c = λ told tells_cell w fits held.
     let t = turn w c.args.now c.args.command.now in
     let stands = fits_stands P C w old c.args.cell.now c.args.session.now fits in
     let turned = turn_fits P C w old mid c.args.cell.now c.exec.new.cell c.args.session.now c.exec.new.self c.in-Ok.reply fits t (c.in-Ok.ensures.turned told tells_cell w stands held) in
-    reply_left P C w t old mid new c.exec.new.cell c.exec.new.self c.in-Ok.reply turned
+    reply_left P C w t old mid new c.exec.new.cell c.exec.new.self c.in-Ok.reply turned ms
     (c.exec.ensures.leaves told tells_cell w stands) (subst (λ (l : List ℕ). Leaves P (tells l ∷ []) mid new) c.text-text.ensures c.tell_whole.ensures.leaves)
 
 pub returns-clause-left : goal.returns-clause-left
-returns-clause-left g c = λ told tells_cell w fits held.
+returns-clause-left g c = λ told tells_cell w fits held ms.
     let stands = fits_stands g.P.Plant g.C.Cell w c.args.plant.now c.args.cell.now c.args.session.now fits in
-    command_left g.P.Plant g.C.Cell w (turn w c.args.now c.args.command.now) c.args.plant.now c.exec.new.plant c.exec.new.cell (c.exec.ensures.cells told tells_cell w stands held) (c.exec.ensures.leaves told tells_cell w stands)
+    command_left g.P.Plant g.C.Cell w ms (turn w c.args.now c.args.command.now) c.args.plant.now c.exec.new.plant c.exec.new.cell (c.exec.ensures.cells told tells_cell w stands held) (c.exec.ensures.leaves told tells_cell w stands)

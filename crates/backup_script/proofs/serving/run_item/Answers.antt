@@ -1,4 +1,5 @@
 use Rattle.std.proofs.Common.{ℕ, List, [], ◌∷◌, true, false, refl, sym, ◌∙◌, ap, subst, Ok, Err, IfOk, OnErr}
+use Rattle.media_core.specs.Later.{later}
 use Rattle.plant_core.specs.Effects.{tells}
 use Rattle.plant_effects.specs.Runs.{Done, Leaves}
 use Rattle.backup_script.specs.declared.item.Item.{Item}
@@ -33,9 +34,11 @@ returns-in-Refused-clause-left g c = λ told tells_cell tells_clock w fits held.
     let old = c.args.plant.now in
     let new = c.tell_refusal.new.plant in
     let ms = g.K.Clock.moments c.args.clock.now in
-    let left = subst (λ (i : Item). LineLeft P g.C.Cell w ms i old new c.args.cell.now) (sym c.in-Refused.is)
-    (refusal_left P g.C.Cell w ms c.in-Refused.text old old new c.args.cell.now c.args.session.now fits (subst (λ (l : List ℕ). Leaves P (tells l ∷ []) old new) c.as_slice.ensures c.tell_refusal.ensures.leaves)) in
-    elim c.tell_refusal.result as (λ r. OnErr r (LineLeft P g.C.Cell w ms c.args.item old new c.args.cell.now)) [ Ok passed ↦ tt | Err stop ↦ left ]
+    let rest = g.K.Clock.moments c.tell_refusal.new.clock in
+    let left = subst (λ (i : Item). LineLeft P g.C.Cell w ms i old new c.args.cell.now rest) (sym c.in-Refused.is)
+    (refusal_left P g.C.Cell w ms c.in-Refused.text old old new c.args.cell.now c.args.session.now rest fits (subst (λ (l : List ℕ). Leaves P (tells l ∷ []) old new) c.as_slice.ensures c.tell_refusal.ensures.leaves)
+    (c.tell_refusal.ensures.clock tells_clock)) in
+    elim c.tell_refusal.result as (λ r. OnErr r (LineLeft P g.C.Cell w ms c.args.item old new c.args.cell.now rest)) [ Ok passed ↦ tt | Err stop ↦ left ]
 
 pub returns-in-Runs-clause-left : goal.returns-in-Runs-clause-left
 returns-in-Runs-clause-left g c = λ told tells_cell tells_clock w fits held.
@@ -44,9 +47,10 @@ returns-in-Runs-clause-left g c = λ told tells_cell tells_clock w fits held.
     let old = c.args.plant.now in
     let n = c.run_next.new in
     let ms = g.K.Clock.moments c.args.clock.now in
+    let rest = g.K.Clock.moments n.clock in
     let command = c.in-Runs.command in
-    subst (λ (i : Item). OnErr c.run_next.result (LineLeft P C w ms i old n.plant n.cell)) (sym c.in-Runs.is)
-    (in_err c.run_next.result (TurnLeft P C w (turn w (first_of ms) command) old n.plant n.cell) (LineLeft P C w ms (Runs command) old n.plant n.cell) (runs_left P C w ms command old n.plant n.cell)
+    subst (λ (i : Item). OnErr c.run_next.result (LineLeft P C w ms i old n.plant n.cell rest)) (sym c.in-Runs.is)
+    (in_err c.run_next.result (TurnLeft P C w (later ms) (turn w (first_of ms) command) old n.plant n.cell rest) (LineLeft P C w ms (Runs command) old n.plant n.cell rest) (runs_left P C w ms command old n.plant n.cell rest)
     (c.run_next.ensures.left told tells_cell tells_clock w fits (subst (λ (i : Item). HeldForLine w ms i) c.in-Runs.is held)))
 
 pub returns-in-Silent-clause-went : goal.returns-in-Silent-clause-went

@@ -13,8 +13,9 @@ returns-in-Err-clause-left g c = λ told tells_cell tells_clock w fits held.
     let P = g.P.Plant in
     let old = c.args.plant.now in
     record {
-      stage = between [] w;
+      stage = between [] w (g.K.Clock.moments c.args.clock.now);
       on_line = inl refl;
       cell = fits.cell;
+      clock = refl;
       leaves = nothing_left P [] old (λ told survives image left. g.met.P.Plant.left old image told c.requires survives left);
     }

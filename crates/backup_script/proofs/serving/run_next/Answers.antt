@@ -1,9 +1,10 @@
 use Rattle.std.proofs.Common.{ℕ, List, true, sym, subst}
+use Rattle.media_core.specs.Later.{later}
 use Rattle.backup_session.specs.Worlds.{at_moment}
 use Rattle.backup_session.specs.Held.{HeldFor}
 use Rattle.backup_session.specs.Machine.{turn}
 use Rattle.backup_script.specs.Scripts.{command_told}
-use Rattle.backup_script.specs.Running.{LineRan}
+use Rattle.backup_script.specs.Running.{LineRan, TurnLeft}
 use Rattle.backup_script.proofs.ItemLaws.{first_is}
 use Rattle.backup_script.proofs.serving.run_next.Goals as goal
 
@@ -16,3 +17,14 @@ returns-in-Ok-clause-went g c = λ told tells_cell tells_clock w fits held.
     (sym is)
     (subst (λ (left : List ℕ). LineRan P g.C.Cell (command_told w ms (turn w c.now-now.result c.args.command.now)) c.args.plant.now c.run_command.new.plant c.run_command.new.cell c.run_command.new.session left true)
     (sym (c.now-now.ensures.rest tells_clock)) (c.in-Ok.ensures.went told tells_cell w fits (subst (λ (n : ℕ). HeldFor (at_moment w n) c.args.command.now) is held) ms))
+
+pub returns-in-Err-clause-left : goal.returns-in-Err-clause-left
+returns-in-Err-clause-left g c = λ told tells_cell tells_clock w fits held.
+    let P = g.P.Plant in
+    let n = c.run_command.new in
+    let ms = g.K.Clock.moments c.args.clock.now in
+    let is = first_is ms c.now-now.result (c.now-now.ensures.first tells_clock) in
+    subst (λ (m : ℕ). TurnLeft P g.C.Cell w (later ms) (turn w m c.args.command.now) c.args.plant.now n.plant n.cell (g.K.Clock.moments c.now-now.new.self))
+    (sym is)
+    (subst (λ (left : List ℕ). TurnLeft P g.C.Cell w (later ms) (turn w c.now-now.result c.args.command.now) c.args.plant.now n.plant n.cell left)
+    (sym (c.now-now.ensures.rest tells_clock)) (c.in-Err.ensures.left told tells_cell w fits (subst (λ (m : ℕ). HeldFor (at_moment w m) c.args.command.now) is held) (later ms)))
