@@ -1,8 +1,16 @@
--- How an opening is refused.
-use Rattle.std.proofs.Common.{◌≡◌, ℕ, List, refl, ap, subst}
-use Rattle.std.specs.Prelude.{Result, Ok, Err}
+-- How an opening is refused, and which database it opens.
+use Rattle.std.proofs.Common.{◌≡◌, ℕ, List, refl, sym, ◌∙◌, ap, subst}
+use Rattle.std.specs.Prelude.{Result, Ok, Err, Some}
 use Rattle.crash_moments.specs.Moments.{HasCauseAt}
+use Rattle.plant_core.specs.Stock.{Stock}
+use Rattle.budb_changes.specs.declared.records.DumpRecordFields.{DumpRecordFields}
+use Rattle.budb_changes.specs.declared.change.Change.{Change}
+use Rattle.budb_changes.specs.Bytes.{encoded}
 use Rattle.budb_changes.specs.Forms.{IsLog}
+use Rattle.budb_changes.proofs.Logs.{same_changes}
+use Rattle.budb_fold.specs.Database.{after}
+use Rattle.budb.specs.Kept.{Keeps}
+use Rattle.archive_model.specs.Archives.{Archive, Holds}
 use Rattle.budb.specs.Views.{BudbView}
 use Rattle.backup_session.specs.declared.stops.OpenStop.{OpenStop}
 use Rattle.backup_session.specs.declared.stops.OpenStop.TheVariants as stops
@@ -35,3 +43,14 @@ for_memory stops.Plant r is plant cell log = absurd (plant refl)
 for_memory stops.Cell r is plant cell log = absurd (cell refl)
 for_memory (stops.BadLog at) r is plant cell log = absurd (log at refl)
 for_memory stops.Memory r is plant cell log = rw is tt
+
+-- ---- the archive that the plant holds
+
+bytes_are : (x y : List ℕ) → Some x ≡ Some y → x ≡ y
+bytes_are x y same = cc
+
+-- its database is that of the archive's log
+pub archive_opened : (log : List Change) (bytes : List ℕ) (budb : BudbView) (stock : Stock) (a : Archive) (records : List DumpRecordFields) → Keeps log bytes budb → stock.log ≡ Some bytes → Holds stock a records → budb.database ≡ after a.log
+archive_opened log bytes budb stock a records keeps is held =
+    let same : log ≡ a.log = same_changes log a.log keeps.form held.changes (sym keeps.is ∙ bytes_are bytes (encoded a.log) (sym is ∙ held.log)) in
+    keeps.fold ∙ ap after same

@@ -8,6 +8,7 @@ ghost use Rattle.budb_changes.specs.declared.records.DumpRecordFields.{DumpRecor
 ghost use Rattle.budb_changes.specs.Bytes.{encoded};
 ghost use Rattle.budb_changes.specs.Forms.{AreChanges, IsLog};
 ghost use Rattle.budb_fold.specs.Database.{after};
+ghost use Rattle.plant_core.specs.Crashes.{seen_in};
 ghost use Rattle.plant_core.specs.Stock.{Stock};
 ghost use Rattle.plant_effects.specs.Runs.{state_of, Done, Leaves, OnlyLooks, SameNumbers, StaysQuiet};
 ghost use Rattle.tape_config.specs.declared.port.PortFields.{PortFields};
@@ -69,7 +70,7 @@ impl Session {
 
     /// Opens the session of a plant's journal and of a cell. Its time is the greatest of all ids and clone times of the
     /// database and of what the cell's entries tell. Nothing is written. Over a list of changes it answers a session or that
-    /// memory ran out, unless a call is refused.
+    /// memory ran out, unless a call is refused. Where the plant holds an archive the session has the database of its journal.
     pub fn open<P: Plant, C: Cell>(
         alloc: Global,
         config: Config,
@@ -80,6 +81,7 @@ impl Session {
         ensures stands { P.tells → IfOk result (λ session. (log : AnyList AnyChange) × AreChanges log × ((state_of P.Plant plant.old).log ≡ encoded log) × (C.tells → (contents : Contents) → Stands P.Plant C.Cell (opened (record { config = config; slots = (P.view plant.old).slots; present = (P.view plant.old).present }) log (C.list cell.old) contents (state_of P.Plant plant.old)) plant.new cell.new session)) }
         ensures bad { P.tells → (at : ℕ) → result ≡ Err (OpenStop.BadLog at) → FailsAt IsLog (state_of P.Plant plant.old).log at }
         ensures listed { P.tells → result ≡ Err OpenStop.Cell → IsLog (state_of P.Plant plant.old).log }
+        ensures holds { P.tells → (a : Archive) (records : AnyList DumpRecordFields) → Holds (seen_in (state_of P.Plant plant.old)) a records → IfOk result (λ session. session.budb.database ≡ after a.log) }
         ensures done { UnlessFailed result (Done P.Plant [] plant.old plant.new) }
         ensures leaves { Leaves P.Plant [] plant.old plant.new }
         ensures looks { OnlyLooks P.Plant plant.old plant.new }

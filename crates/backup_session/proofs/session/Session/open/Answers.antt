@@ -1,7 +1,7 @@
-use Rattle.std.proofs.Common.{◌∙◌, ap}
+use Rattle.std.proofs.Common.{refl, ◌∙◌, ap}
 use Rattle.std.specs.Prelude.{Err}
 use Rattle.std.proofs.lemmas.Result.{err_from_is_err_and}
-use Rattle.backup_session.proofs.OpenLaws.{held_anyway, cause_handed_on, no_bad_log, for_memory}
+use Rattle.backup_session.proofs.OpenLaws.{archive_opened, held_anyway, cause_handed_on, no_bad_log, for_memory}
 use Rattle.backup_session.proofs.session.Session.open.Goals as goal
 
 pub returns-in_err-time-clause-done : goal.returns-in_err-time-clause-done
@@ -32,3 +32,6 @@ returns-in_err-time-clause-answers g c = λ told log plant cell.
     let p = err_from_is_err_and c.from_residual-in_err-time.result c.from_residual-in_err-time.ensures.1 in
     let e = c.in_err-time.ensures in
     for_memory _ c.from_residual-in_err-time.result (p.1 ∙ ap Err p.2) e.never (λ is. cell (e.cause.failed is)) e.never_bad
+
+pub returns-clause-holds : goal.returns-clause-holds
+returns-clause-holds g c = λ told a records held. let o = c.in_ok-budb.ensures.opened told in archive_opened o.0 _ _ _ a records o.1 refl held
