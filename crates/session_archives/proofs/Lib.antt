@@ -27,3 +27,4 @@ pub mod ReadyScripts
 pub mod OnLines
 pub mod ReadyBlank
 pub mod Opened
+pub mod Present

@@ -199,3 +199,9 @@ pub fn scans_list_what_is_whole()
 {
     one_reading();
 }
+
+/// Whatever stands on the tapes, those in slots that aren't here are behind a script as they were at its start, and as much of them is settled:
+/// the effects of its commands on tapes are on those in slots that are here.
+pub fn absent_tapes_stay()
+    ensures { (w : World) (moments : AnyList ℕ) (lines : AnyList (AnyList ℕ)) (k : ℕ) → (IsTrue (w.setting.present k) → ⊥) → let s = come (script w moments lines).effects w.state in (s.tape k ≡ w.state.tape k) × (s.settled k ≡ w.state.settled k) }
+{}

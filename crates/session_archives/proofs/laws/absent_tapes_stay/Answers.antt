@@ -1,0 +1,5 @@
+use Rattle.session_archives.proofs.Present.{absent_tapes_stay}
+use Rattle.session_archives.proofs.laws.absent_tapes_stay.Goals as goal
+
+pub returns : goal.returns
+returns c = absent_tapes_stay
