@@ -1,5 +1,5 @@
 -- What a run over a plant and a cell says of its course.
-use Rattle.std.proofs.Common.{◌≡◌, inl, inr, zero, suc, ℕ, ◌+◌, ◌<◌, ◌≤◌, Bool, true, false, List, [], ◌∷◌, ◌++◌, length, take, drop, Option, Some, None, refl, sym, ◌∙◌, ap, subst, arith, length-append, Result, Ok, Err, IfOk}
+use Rattle.std.proofs.Common.{◌≡◌, inl, inr, zero, suc, ℕ, ◌+◌, ◌<◌, ◌≤◌, Bool, true, false, IsTrue, List, [], ◌∷◌, ◌++◌, length, take, drop, Option, Some, None, refl, sym, ◌∙◌, ap, subst, arith, length-append, Result, Ok, Err, IfOk}
 use Rattle.std.specs.Prelude.{All, slice_get, min, ◌-◌, ◌^◌}
 use Rattle.std.specs.Str.Lines.{lines}
 use Rattle.std.proofs.lemmas.Bool.{cases_lt}
@@ -80,18 +80,36 @@ ready_for c forms these fit = λ asks. (let f = fit asks in (forms.ready these f
 
 -- ---- what was done
 
+-- in a world the tapes in slots that aren't here are behind these effects as they were, settled and not
+abbrev pub AbsentStay : World → List Effect → Type 0
+AbsentStay w effects = (k : ℕ) → (IsTrue (w.setting.present k) → ⊥) → let s = come effects w.state in (s.tape k ≡ w.state.tape k) × (s.settled k ≡ w.state.settled k)
+
+-- the tapes of a course at its entry, of which all is settled
+abbrev pub AreAtRest : Course → Type 0
+AreAtRest c = (k : ℕ) → (c.world.state.tape k ≡ c.before.tape k) × (c.world.state.settled k ≡ length (c.world.state.tape k))
+
+settled_tape : (s t : State) (k : ℕ) → t.tape k ≡ s.tape k → t.settled k ≡ s.settled k → s.settled k ≡ length (s.tape k) → (settled_part t).tape k ≡ s.tape k
+settled_tape s t k tape settled whole = (λ i. take (settled i) (tape i)) ∙ ap (λ (n : ℕ). take n (s.tape k)) whole ∙ take_all (length (s.tape k)) (s.tape k) (omega arith)
+
+absent_tape : (c : Course) (effects : List Effect) → AreAtRest c → c.after ≡ settled_part (come effects c.world.state) → AbsentStay c.world effects → (k : ℕ) → (IsTrue (c.world.setting.present k) → ⊥) → c.after.tape k ≡ c.before.tape k
+absent_tape c effects rests archive stay k absent =
+    let stays = stay k absent in
+    let rest = rests k in
+    ap (λ (x : Stock). x.tape k) archive ∙ settled_tape c.world.state (come effects c.world.state) k stays.0 stays.1 rest.1 ∙ rest.0
+
 -- the effects were done, and the media were handed back
-pub leaves_media : (c : Course) (these : List (List ℕ)) (s : Outcome) (first last : State) → c.world.state ≡ first → c.world.state.log_settled ≡ length c.world.state.log → c.world.state.told ≡ c.before.told → c.after ≡ settled_part last
+pub leaves_media : (c : Course) (these : List (List ℕ)) (s : Outcome) (first last : State) → c.world.state ≡ first → c.world.state.log_settled ≡ length c.world.state.log → c.world.state.told ≡ c.before.told → AreAtRest c → c.after ≡ settled_part last
     → Alike (come s.effects first) last → Alike s.world.state last → AreChanges s.world.log → s.world.state.log ≡ encoded s.world.log → c.cell ≡ s.world.cell → c.left ≡ s.moments
-    → ImagesHold → (HoldsWorld c.world → IsFitFor c.world c.moments these → HoldsAfter c.world s.world.contents s.effects) → (HoldsWorld c.world → IsFitFor c.world c.moments these → HoldsWorld s.world)
+    → AbsentStay c.world s.effects → ImagesHold → (HoldsWorld c.world → IsFitFor c.world c.moments these → HoldsAfter c.world s.world.contents s.effects) → (HoldsWorld c.world → IsFitFor c.world c.moments these → HoldsWorld s.world)
     → (HoldsWorld c.world → IsFitWorld (at_first c.world c.moments these) → RestoresApartThroughout c.world c.moments these → IsFitWorld s.world) → Leaves c these s
-leaves_media c these s first last rests settled told_at back done state form log cell clock hold whole kept fit =
+leaves_media c these s first last rests settled told_at tapes_at back done state form log cell clock stay hold whole kept fit =
     let end : come s.effects c.world.state ≡ last = ap (come s.effects) rests ∙ alike_same (come s.effects first) last done in
     let archive : c.after ≡ settled_part (come s.effects c.world.state) = back ∙ ap settled_part (sym end) in
     let same : (come s.effects c.world.state).log ≡ encoded s.world.log = ap (λ (x : State). x.log) end ∙ state.log ∙ log in
     record {
       told = ap (λ (x : Stock). x.told) archive ∙ told_is s.effects c.world.state ∙ ap (λ (l : List ℕ). l ++ told_by s.effects) told_at;
       archive = archive;
+      absent = absent_tape c s.effects tapes_at archive stay;
       journal = ap (λ (x : Stock). x.log) archive ∙ ap (λ (l : List ℕ). Some l) (log_whole (come s.effects c.world.state) (log_come s.effects c.world.state settled) ∙ same);
       form = form;
       cell = cell;

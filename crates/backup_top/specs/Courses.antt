@@ -1,5 +1,5 @@
 -- What a run of a script finds, and what it leaves.
-use Rattle.std.specs.Prelude.{◌≡◌, ◌≢◌, ◌⊎◌, ℕ, ◌+◌, ◌-◌, ◌<◌, ◌≤◌, List, [], ◌∷◌, ◌++◌, length, take, Bool, true, false, Option, Some, None, Ok, Err}
+use Rattle.std.specs.Prelude.{◌≡◌, ◌≢◌, ◌⊎◌, ℕ, ◌+◌, ◌-◌, ◌<◌, ◌≤◌, List, [], ◌∷◌, ◌++◌, length, take, Bool, true, false, IsTrue, Option, Some, None, Ok, Err}
 use Rattle.std.specs.Str.Lines.{lines}
 use Rattle.bk_text.specs.Places.{FailsAt}
 use Rattle.crash_moments.specs.Moments.{Moments, Stepped, LeavesSince, Rose}
@@ -122,11 +122,13 @@ pub record KeepsArchive (c : Course) (s : Outcome) : Type 0 where
   pub media : HoldsImage c.world s.world.contents s.effects c.after
 
 -- What is left where these lines were run, and this came of them. The journal and the tapes are those of the entry with these effects, so far
--- as they are settled. Where the media held the archive at the entry, and a script that dumps found a world that is fit for it, they hold it at
--- the exit. And a world that was fit at the first command is fit again, where no volume was restored under a name that ends in `.backup`.
+-- as they are settled. The tapes in slots that aren't here are those of the entry. Where the media held the archive at the entry, and a script
+-- that dumps found a world that is fit for it, they hold it at the exit. And a world that was fit at the first command is fit again, where no
+-- volume was restored under a name that ends in `.backup`.
 pub record Leaves (c : Course) (these : List (List ℕ)) (s : Outcome) : Type 0 where
   pub told : c.after.told ≡ c.before.told ++ told_by s.effects
   pub archive : c.after ≡ settled_part (come s.effects c.world.state)
+  pub absent : (k : ℕ) → (IsTrue (c.world.setting.present k) → ⊥) → c.after.tape k ≡ c.before.tape k
   pub journal : c.after.log ≡ Some (encoded s.world.log)
   pub form : AreChanges s.world.log
   pub cell : c.cell ≡ s.world.cell

@@ -17,8 +17,8 @@ use media_core::{Clock, Media, Source};
 use plant_media::MediaPlant;
 use script_journals::journals_of_scripts;
 use session_archives::{
-    images_hold_the_archive, opened_worlds_have_their_forms, scripts_keep_the_archive,
-    scripts_leave_a_ready_world_ready,
+    absent_tapes_stay, images_hold_the_archive, opened_worlds_have_their_forms,
+    scripts_keep_the_archive, scripts_leave_a_ready_world_ready,
 };
 use std::alloc::Global;
 use tape_config::Config;
@@ -65,6 +65,7 @@ pub fn run_media<M: Media, C: Cell, K: Clock, S: Source>(
     ensures statuses { IsRunStatus result.0 }
 {
     journals_of_scripts();
+    absent_tapes_stay();
     scripts_keep_the_archive();
     scripts_leave_a_ready_world_ready();
     images_hold_the_archive();

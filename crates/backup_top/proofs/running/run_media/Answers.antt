@@ -20,7 +20,7 @@ use Rattle.backup_top.specs.declared.status.Status.TheVariants.{MediaFault}
 use Rattle.backup_top.specs.Courses.{Course, course, outcome, at_rest, Runs, TellsLines, RefusesJournal, HasCauseAs}
 use Rattle.backup_top.proofs.Lowering.{opened_rests, shown_log, journal_damaged, still_left, nothing_since, images_left, images_later, none_some, same_files, shown_told, told_to, untold_to, nothing_same, images_same}
 use Rattle.backup_top.proofs.TapeCounts.{has_tapes}
-use Rattle.backup_top.proofs.CourseLaws.{OpenedForms, has_forms, ready_for, leaves_media, runs_of, runs_not_opened, journal_of_log, told_lines, opening_lines, opening_later, bad_log_answer, refuses_journal, opening_bad, opening_cause, bad_journal, damaged_journal, journaled, images_of, ends_at, left_whole}
+use Rattle.backup_top.proofs.CourseLaws.{OpenedForms, has_forms, ready_for, AbsentStay, leaves_media, runs_of, runs_not_opened, journal_of_log, told_lines, opening_lines, opening_later, bad_log_answer, refuses_journal, opening_bad, opening_cause, bad_journal, damaged_journal, journaled, images_of, ends_at, left_whole}
 use Rattle.backup_top.proofs.running.run_media.Goals as goal
 
 pub returns-in-Ok-clause-runs : goal.returns-in-Ok-clause-runs
@@ -45,8 +45,8 @@ returns-in-Ok-clause-runs g c = λ told tells_cell tells_clock source named says
     let first = opened (record { config = c.args.config; slots = M.count plant.media - 1; present = slots_here (M.present plant.media) }) journal.log (g.C.Cell.list c.args.cell.now) contents shown in
     subst (λ (s : Status). Runs k s) (sym c.of_run.ensures)
     (runs_of _ g.C.Cell k _ plant n.plant n.cell same
-    (λ these ends. leaves_media k these (script first k.moments these) shown (shown_of M.seen n.plant) rests refl refl (c.into_media.ensures.stock told ends.done.sound) (ends.done.state told) ends.state ends.form ends.log ends.cell ends.moments
-    c.images_hold_the_archive.ensures.behind
+    (λ these ends. leaves_media k these (script first k.moments these) shown (shown_of M.seen n.plant) rests refl refl (λ slot. (refl, refl)) (c.into_media.ensures.stock told ends.done.sound) (ends.done.state told) ends.state ends.form ends.log ends.cell ends.moments
+    (subst (λ (w : World). AbsentStay w (script first k.moments these).effects) same (c.absent_tapes_stay.ensures first k.moments these)) c.images_hold_the_archive.ensures.behind
     (λ at_entry asked. subst (λ (w : World). HoldsAfter w (script first k.moments these).world.contents (script first k.moments these).effects) same
     (c.scripts_keep_the_archive.ensures.whole first k.moments these (subst HoldsWorld (sym same) at_entry) (subst (λ (w : World). IsReadyFor w k.moments these) (sym same) (ready_for k forms these asked))))
     (λ at_entry asked. c.scripts_keep_the_archive.ensures.behind first k.moments these (subst HoldsWorld (sym same) at_entry) (subst (λ (w : World). IsReadyFor w k.moments these) (sym same) (ready_for k forms these asked)))
