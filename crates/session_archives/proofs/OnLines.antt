@@ -7,7 +7,7 @@ use Rattle.backup_session.specs.Asks.{asks_archive}
 use Rattle.backup_session.specs.Worlds.{World, archive_of, at_moment}
 use Rattle.backup_session.proofs.Carrying.{turn_done, done_archive}
 use Rattle.backup_session.proofs.RestoreLaws.{not_on_cell}
-use Rattle.backup_session.proofs.AgainLaws.{OneReading}
+use Rattle.backup_session.proofs.AgainLaws.{OneReading, found_again}
 use Rattle.backup_session.proofs.TurnLaws.{scan_lists, listed_again}
 use Rattle.session_archives.specs.OnLines.{world_behind, moment_behind, IsLookedUp, RestoresLookUp, ScansListWhole}
 
@@ -24,4 +24,9 @@ restores_look_up w moments lines before command on asks = is_looked_up (world_be
 pub scans_list_whole : OneReading → (w : World) (moments : List ℕ) (lines : List (List ℕ)) → ScansListWhole w moments lines
 scans_list_whole reading w moments lines before offset port on is =
     let v = world_behind w moments before in
-    record { lists = scan_lists v (moment_behind w moments before) offset port is; again = listed_again reading v (moment_behind w moments before) offset port is }
+    let lists = scan_lists v (moment_behind w moments before) offset port is in
+    record {
+      lists = lists;
+      among = λ stock a records held these. found_again reading v stock a records held these port lists.whole lists.left lists.scanned;
+      again = listed_again reading v (moment_behind w moments before) offset port is;
+    }

@@ -50,10 +50,13 @@ RestoresLookUp w moments lines = (before : List (List ℕ)) (command : Command) 
 
 -- ---- scans
 
--- A scan that adds dumps lists just what is whole on the coordinator's tapes that are here; over a database without listed dumps it lists each
--- dump again that any archive with these tapes has listed and whose tapes are all held there, with an equal record, unless the log has no room.
+-- A scan that adds dumps lists just what is whole on the coordinator's tapes that are here. Each dump that any archive with these tapes has
+-- listed, and whose tapes are all held there, is among what is whole, with an equal record; and over a database without listed dumps it is
+-- listed again, unless the log has no room for the record of one that is found.
 pub record IsScanned (w : World) (now offset : ℕ) (port : PortFields) : Type 0 where
   pub lists : ListsWhole w (slots_here w.setting.present port) (turn w now (Scantape true offset))
+  pub among : (stock : Stock) (a : Archive) (records : List DumpRecordFields) → Holds stock a records → HasTheseTapes w stock a
+      → (d : DumpRecordFields) → Contains (listed_of a) d → IsHeldOn d (slots_here w.setting.present port) a.slots → Contains lists.whole d
   pub again : (after w.log).listed ≡ [] → (stock : Stock) (a : Archive) (records : List DumpRecordFields) → Holds stock a records → HasTheseTapes w stock a
       → (d : DumpRecordFields) → Contains (listed_of a) d → IsHeldOn d (slots_here w.setting.present port) a.slots → IsListedBehind w (slots_here w.setting.present port) (turn w now (Scantape true offset)) d
 
