@@ -1,5 +1,5 @@
 -- What items do to a script.
-use Rattle.std.proofs.Common.{◌≡◌, inr, ℕ, Bool, true, false, not, List, [], ◌∷◌, Some, slice_get, refl, OnOk, OnErr}
+use Rattle.std.proofs.Common.{◌≡◌, inr, ℕ, ◌≤◌, Bool, true, false, not, List, [], ◌∷◌, length, Some, slice_get, refl, arith, OnOk, OnErr}
 use Rattle.std.specs.Prelude.{if◌then◌else◌, Result, Ok, Err}
 use Rattle.media_core.specs.Later.{later}
 use Rattle.plant_core.specs.declared.plant.Plant.{Ghosts as Plant}
@@ -17,11 +17,22 @@ use Rattle.backup_script.specs.declared.item.Item.TheVariants.{Silent, Quit, Run
 use Rattle.backup_script.specs.Lines.{is_quit}
 use Rattle.backup_script.specs.Items.{is_silent, said, item_of}
 use Rattle.backup_script.specs.Scripts.{first_of, between}
-use Rattle.backup_script.specs.Running.{LineLeft, TurnLeft, goes_behind}
+use Rattle.backup_script.specs.Running.{LineLeft, TurnLeft, HasUsed, goes_behind}
 
 pub first_is : (ms : List ℕ) (m : ℕ) → slice_get ms 0 ≡ Some m → first_of ms ≡ m
 first_is [] m is = cc
 first_is (x ∷ ms) m is = cc
+
+-- a look at a clock uses a moment
+pub later_fewer : (ms : List ℕ) → length (later ms) ≤ length ms
+later_fewer [] = omega arith
+later_fewer (m ∷ []) = omega arith
+later_fewer (m ∷ n ∷ ms) = omega arith
+
+pub later_used : (ms : List ℕ) → HasUsed ms (later ms)
+later_used [] = λ many. omega arith
+later_used (m ∷ []) = λ many. omega arith
+later_used (m ∷ n ∷ ms) = λ many. omega arith
 
 said_goes : (r : Result Command WordFault) → goes_behind (said r) ≡ true
 said_goes (Ok command) = refl

@@ -14,7 +14,7 @@ use Rattle.backup_session.specs.Fitting.{Fits}
 use Rattle.backup_script.specs.Lines.{is_feed, is_quit, has_quit, TookPiece}
 use Rattle.backup_script.specs.Scripts.{Outcome, nothing, then_outcome, script, between, IsStage}
 use Rattle.backup_script.specs.Held.{IsHeldThroughout}
-use Rattle.backup_script.specs.Running.{Went, Left, ScriptRan, LinePassed, Took, TookAll, TookToQuit, TookTooMany, WentShort, TookEnd, TakesNext, Takes}
+use Rattle.backup_script.specs.Running.{Went, Left, ScriptRan, LinePassed, Took, TookAll, TookToQuit, TookTooMany, WentShort, TookEnd, TakesNext, Takes, HasUsed}
 use Rattle.backup_script.specs.declared.serving.ServeStop.{ServeStop}
 use Rattle.backup_script.specs.declared.serving.ServeStop.TheVariants.{Read, Plant as PlantStop, Cell as CellStop, Output, TooLong, Memory}
 use Rattle.backup_script.proofs.LineLaws.{AreLines, no_lines, one_line_more, lines_cut, line_first, ended_first}
@@ -211,3 +211,11 @@ stop_takes input rest new ran n PlantStop so (piece, is, plain) count few long =
 stop_takes input rest new ran n CellStop so (piece, is, plain) count few long = took_more input rest ran so new piece n is count few
 stop_takes input rest new ran n Output so (piece, is, plain) count few long = took_more input rest ran so new piece n is count few
 stop_takes input rest new ran n Memory so (piece, is, plain) count few long = took_more input rest ran so new piece n is count few
+
+-- ---- the moments of the clock
+
+-- a moment that the last of the lines used was used since the start
+pub used_behind : (old mid new : List ℕ) → length mid ≤ length old → length new ≤ length mid → HasUsed mid new → HasUsed old new
+used_behind old [] new before fewer used = λ many. omega arith
+used_behind old (m ∷ []) new before fewer used = λ many. omega arith
+used_behind old (m ∷ n ∷ ms) new before fewer used = λ many. omega (arith, used (omega arith))

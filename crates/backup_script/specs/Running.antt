@@ -1,5 +1,5 @@
 -- What running a script leaves of a plant, a cell, a clock and a source.
-use Rattle.std.specs.Prelude.{◌≡◌, ◌⊎◌, ℕ, ◌≤◌, List, [], ◌∷◌, ◌++◌, length, Bool, true, false, All, Result, Ok, Err}
+use Rattle.std.specs.Prelude.{◌≡◌, ◌⊎◌, ℕ, ◌<◌, ◌≤◌, List, [], ◌∷◌, ◌++◌, length, Bool, true, false, All, Result, Ok, Err}
 use Rattle.std.specs.Str.Lines.{lines, strip_carriage_return}
 use Rattle.plant_core.specs.declared.plant.Plant.{Ghosts as Plant}
 use Rattle.plant_core.specs.Effects.{Effect, tells}
@@ -77,6 +77,10 @@ Takes old new (Err Memory) = Took old new
 pub record WentShort {D E : Type 0} (P : Plant D) (C : Cell E) (w : World) (ms input rest : List ℕ) (old new : D) (site : E) (session : SessionView) (left : List ℕ) : Type 0 where
   pub took : Took input rest
   pub went : Went P C (script w ms (lines (ended took.taken))) old new site session left
+
+-- A moment of a clock was used, where it had more than one: the last one stays.
+abbrev pub HasUsed : List ℕ → List ℕ → Type 0
+HasUsed old new = 2 ≤ length old → length new < length old
 
 -- WHAT WAS TOLD, whatever stood on the plant: this text, and it was said whether some line of it begins with `refused`.
 pub record HasTold {D : Type 0} (P : Plant D) (old new : D) (refused : Bool) : Type 0 where

@@ -9,7 +9,7 @@ ghost use Rattle.backup_session.specs.Fitting.{Fits};
 ghost use Rattle.backup_script.specs.Items.{item_of};
 ghost use Rattle.backup_script.specs.Scripts.{nothing, script};
 ghost use Rattle.backup_script.specs.Held.{HeldForLine, IsHeldThroughout};
-ghost use Rattle.backup_script.specs.Running.{Went, Left, LineLeft, ScriptRan, LinePassed, TakesNext, IsWatched};
+ghost use Rattle.backup_script.specs.Running.{Went, Left, LineLeft, ScriptRan, LinePassed, TakesNext, HasUsed, IsWatched};
 
 use crate::lines::{LineStop, Next, take_line};
 use crate::serving::{Passed, ServeStop, run_line};
@@ -63,6 +63,8 @@ fn run_last<P: Plant, C: Cell, K: Clock>(
     ensures watched { P.tells → C.tells → (before : AnyList ℕ) → IsWatched P.Plant C.Cell before plant.old cell.old session.old watch.old → OnOk result (IsWatched P.Plant C.Cell before plant.new cell.new session.new watch.new) }
     ensures left { P.tells → C.tells → K.tells → (w : World) → Fits P.Plant C.Cell w plant.old cell.old session.old → HeldForLine w (K.moments clock.old) (item_of line.now) → OnErr result (LineLeft P.Plant C.Cell w (K.moments clock.old) (item_of line.now) plant.old plant.new cell.new (K.moments clock.new)) }
     ensures ends { IfOk result (λ passed. passed.goes ≡ false) }
+    ensures fewer { K.tells → length (K.moments clock.new) ≤ length (K.moments clock.old) }
+    ensures used { K.tells → result ≡ Err ServeStop.Cell → HasUsed (K.moments clock.old) (K.moments clock.new) }
     ensures stays { Stays P.Plant plant.old plant.new }
     ensures plant_cause { HasCauseAt ServeStop.Plant (P.view plant.old).faults (P.view plant.new).faults result }
     ensures cell_cause { HasCauseAt ServeStop.Cell (C.faults cell.old) (C.faults cell.new) result }
@@ -103,6 +105,8 @@ pub fn serve_line<P: Plant, C: Cell, K: Clock, S: Source>(
     ensures within { taken.new ≤ 16777217 }
     ensures more { IfOk result (λ passed. passed.goes ≡ true → taken.old < taken.new) }
     ensures long { result ≡ Err ServeStop.TooLong → taken.new ≡ 16777217 }
+    ensures fewer { K.tells → length (K.moments clock.new) ≤ length (K.moments clock.old) }
+    ensures used { K.tells → result ≡ Err ServeStop.Cell → HasUsed (K.moments clock.old) (K.moments clock.new) }
     ensures stays { Stays P.Plant plant.old plant.new }
     ensures plant_cause { HasCauseAt ServeStop.Plant (P.view plant.old).faults (P.view plant.new).faults result }
     ensures cell_cause { HasCauseAt ServeStop.Cell (C.faults cell.old) (C.faults cell.new) result }

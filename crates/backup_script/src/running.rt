@@ -1,6 +1,6 @@
 //! A run of a script over a plant and a cell: the session is opened, and the script is run.
 
-ghost use Rattle.std.specs.Prelude.{◌≡◌, ◌≢◌, ℕ, [], List as AnyList, Err, IfOk};
+ghost use Rattle.std.specs.Prelude.{◌≡◌, ◌≢◌, ◌≤◌, ℕ, [], List as AnyList, length, Err, IfOk};
 ghost use Rattle.std.specs.Str.Lines.{lines};
 ghost use Rattle.bk_text.specs.Places.{FailsAt};
 ghost use Rattle.crash_moments.specs.Moments.{HasCauseAt};
@@ -136,6 +136,10 @@ pub fn run_on<P: Plant, C: Cell, K: Clock, S: Source>(
     ensures refused_log_looks { P.tells → (IsLog (state_of P.Plant plant.old).log → ⊥) → OnlyLooks P.Plant plant.old plant.new }
     ensures refused_log_cell { P.tells → (IsLog (state_of P.Plant plant.old).log → ⊥) → cell.new ≡ cell.old }
     ensures refused_log_clock { P.tells → (IsLog (state_of P.Plant plant.old).log → ⊥) → (clock.new ≡ clock.old) × (source.new ≡ source.old) }
+
+    // Where the cell's entries can't be listed at the opening, the clock isn't read and nothing is taken of the source: behind any other fault of
+    // the cell a moment was used, unless the clock had only one.
+    ensures order { result ≡ Err RunStop.Cell → K.tells → S.tells → 2 ≤ length (K.moments clock.old) → K.moments clock.new ≡ K.moments clock.old → S.left source.new ≡ S.left source.old }
 
     // Each fault has its cause.
     ensures plant_cause { HasCauseAt RunStop.Plant (P.view plant.old).faults (P.view plant.new).faults result }

@@ -1,6 +1,6 @@
 //! Running a script: each line is run as soon as it is complete, and its whole reply is told before the next one.
 
-ghost use Rattle.std.specs.Prelude.{◌≡◌, ◌≢◌, [], ◌∷◌, ℕ, List as AnyList, not, true, Err, IfOk, OnOk, OnErr};
+ghost use Rattle.std.specs.Prelude.{◌≡◌, ◌≢◌, ◌≤◌, [], ◌∷◌, ℕ, List as AnyList, length, not, true, Err, IfOk, OnOk, OnErr};
 ghost use Rattle.crash_moments.specs.Moments.{HasCauseAt};
 ghost use Rattle.media_core.specs.Later.{later};
 ghost use Rattle.plant_core.specs.Effects.{tells};
@@ -14,7 +14,7 @@ ghost use Rattle.backup_script.specs.Items.{item_of};
 ghost use Rattle.backup_script.specs.Scripts.{first_of, one_line, command_told};
 ghost use Rattle.backup_script.specs.Held.{HeldForLine};
 ghost use Rattle.backup_script.specs.Watching.{with_text};
-ghost use Rattle.backup_script.specs.Running.{LineRan, LineLeft, TurnLeft, IsWatched, goes_behind};
+ghost use Rattle.backup_script.specs.Running.{LineRan, LineLeft, TurnLeft, HasUsed, IsWatched, goes_behind};
 
 use crate::item::{Item, read_item};
 use crate::watch::Watch;
@@ -157,6 +157,8 @@ fn run_next<P: Plant, C: Cell, K: Clock>(
     ensures left { P.tells → C.tells → K.tells → (w : World) → Fits P.Plant C.Cell w plant.old cell.old session.old
         → HeldFor (at_moment w (first_of (K.moments clock.old))) command.now → OnErr result (TurnLeft P.Plant C.Cell w (later (K.moments clock.old)) (turn w (first_of (K.moments clock.old)) command.now) plant.old plant.new cell.new (K.moments clock.new)) }
     ensures goes { IfOk result (λ passed. passed.goes ≡ true) }
+    ensures fewer { K.tells → length (K.moments clock.new) ≤ length (K.moments clock.old) }
+    ensures used { K.tells → result ≡ Err ServeStop.Cell → HasUsed (K.moments clock.old) (K.moments clock.new) }
     ensures stays { Stays P.Plant plant.old plant.new }
     ensures plant_cause { HasCauseAt ServeStop.Plant (P.view plant.old).faults (P.view plant.new).faults result }
     ensures cell_cause { HasCauseAt ServeStop.Cell (C.faults cell.old) (C.faults cell.new) result }
@@ -188,6 +190,8 @@ fn run_item<P: Plant, C: Cell, K: Clock>(
     ensures watched { P.tells → C.tells → (before : AnyList ℕ) → IsWatched P.Plant C.Cell before plant.old cell.old session.old watch.old → OnOk result (IsWatched P.Plant C.Cell before plant.new cell.new session.new watch.new) }
     ensures left { P.tells → C.tells → K.tells → (w : World) → Fits P.Plant C.Cell w plant.old cell.old session.old → HeldForLine w (K.moments clock.old) item → OnErr result (LineLeft P.Plant C.Cell w (K.moments clock.old) item plant.old plant.new cell.new (K.moments clock.new)) }
     ensures goes { IfOk result (λ passed. passed.goes ≡ goes_behind item) }
+    ensures fewer { K.tells → length (K.moments clock.new) ≤ length (K.moments clock.old) }
+    ensures used { K.tells → result ≡ Err ServeStop.Cell → HasUsed (K.moments clock.old) (K.moments clock.new) }
     ensures stays { Stays P.Plant plant.old plant.new }
     ensures plant_cause { HasCauseAt ServeStop.Plant (P.view plant.old).faults (P.view plant.new).faults result }
     ensures cell_cause { HasCauseAt ServeStop.Cell (C.faults cell.old) (C.faults cell.new) result }
@@ -220,6 +224,8 @@ pub fn run_line<P: Plant, C: Cell, K: Clock>(
     ensures watched { P.tells → C.tells → (before : AnyList ℕ) → IsWatched P.Plant C.Cell before plant.old cell.old session.old watch.old → OnOk result (IsWatched P.Plant C.Cell before plant.new cell.new session.new watch.new) }
     ensures left { P.tells → C.tells → K.tells → (w : World) → Fits P.Plant C.Cell w plant.old cell.old session.old → HeldForLine w (K.moments clock.old) (item_of line.now) → OnErr result (LineLeft P.Plant C.Cell w (K.moments clock.old) (item_of line.now) plant.old plant.new cell.new (K.moments clock.new)) }
     ensures goes { IfOk result (λ passed. passed.goes ≡ not (is_quit line.now)) }
+    ensures fewer { K.tells → length (K.moments clock.new) ≤ length (K.moments clock.old) }
+    ensures used { K.tells → result ≡ Err ServeStop.Cell → HasUsed (K.moments clock.old) (K.moments clock.new) }
     ensures stays { Stays P.Plant plant.old plant.new }
     ensures plant_cause { HasCauseAt ServeStop.Plant (P.view plant.old).faults (P.view plant.new).faults result }
     ensures cell_cause { HasCauseAt ServeStop.Cell (C.faults cell.old) (C.faults cell.new) result }

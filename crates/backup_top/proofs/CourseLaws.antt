@@ -183,6 +183,17 @@ bad_log_answer (Err stop.Output) at is = cc
 bad_log_answer (Err stop.Memory) at is = cc
 bad_log_answer (Err (stop.BadLog n)) at is = cc
 
+pub cell_answer : (r : Result Bool RunStop) → run_status r ≡ CellFault → r ≡ Err stop.Cell
+cell_answer (Ok true) is = cc
+cell_answer (Ok false) is = cc
+cell_answer (Err stop.Read) is = cc
+cell_answer (Err stop.TooLong) is = cc
+cell_answer (Err stop.Plant) is = cc
+cell_answer (Err stop.Cell) is = refl
+cell_answer (Err stop.Output) is = cc
+cell_answer (Err stop.Memory) is = cc
+cell_answer (Err (stop.BadLog n)) is = cc
+
 pub refuses_journal : (r : Result Bool RunStop) → IsRefusedLog r → RefusesJournal (run_status r)
 refuses_journal (Ok refused) is = absurd is
 refuses_journal (Err stop.Read) is = absurd is

@@ -1,4 +1,4 @@
-use Rattle.std.proofs.Common.{refl, ◌≡◌, ℕ, List, not, ◌∙◌, ap, subst, IfOk}
+use Rattle.std.proofs.Common.{refl, ◌≡◌, ℕ, List, not, ◌∙◌, ap, subst, arith, IfOk}
 use Rattle.std.specs.Str.Lines.{lines, strip_carriage_return}
 use Rattle.backup_script.specs.Lines.{is_quit}
 use Rattle.backup_script.proofs.ServingLaws.{held_ended, held_last, nothing_ran, nothing_begun}
@@ -60,3 +60,9 @@ pub returns-in-Err-clause-left : goal.returns-in-Err-clause-left
 returns-in-Err-clause-left g c = λ told tells_cell tells_clock source w fits held.
     nothing_begun g.P.Plant g.C.Cell w (g.K.Clock.moments c.args.clock.now) (lines (g.S.Source.left c.args.source.now)) c.args.plant.now c.args.cell.now c.args.session.now
     (λ told survives image left. g.met.P.Plant.left c.args.plant.now image told c.requires.sound survives left) fits
+
+pub returns-in-Ok-End-clause-fewer : goal.returns-in-Ok-End-clause-fewer
+returns-in-Ok-End-clause-fewer g c = λ tells_clock. omega arith
+
+pub returns-in-Err-clause-fewer : goal.returns-in-Err-clause-fewer
+returns-in-Err-clause-fewer g c = λ tells_clock. omega arith

@@ -1,4 +1,4 @@
-use Rattle.std.proofs.Common.{[], ap, refl, Err}
+use Rattle.std.proofs.Common.{[], length, ap, refl, arith, Err}
 use Rattle.plant_effects.proofs.Joining.{done_both}
 use Rattle.std.specs.Str.Lines.{lines}
 use Rattle.backup_session.proofs.Settling.{stands_fit}
@@ -93,6 +93,11 @@ pub returns-in-Ok-clause-takes : goal.returns-in-Ok-clause-takes
 returns-in-Ok-clause-takes g c = λ told.
     let s = c.serving_stop.ensures in
     takes_told _ _ _ c.serving_stop.result s.long s.long_back s.log (c.in-Err-run_script.ensures.takes told)
+
+pub returns-in-Ok-clause-order : goal.returns-in-Ok-clause-order
+returns-in-Ok-clause-order g c = λ stops tells_clock source many same.
+    let used = c.in-Err-run_script.ensures.used tells_clock (ap (λ (e : ServeStop). Err e) (c.serving_stop.ensures.cell (err_same runs.Cell c.serving_stop.result stops))) many in
+    absurd (omega (arith, ap length same, used))
 
 pub returns-in-Ok-clause-plant_cause : goal.returns-in-Ok-clause-plant_cause
 returns-in-Ok-clause-plant_cause g c =

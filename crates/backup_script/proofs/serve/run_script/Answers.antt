@@ -4,7 +4,7 @@ use Rattle.std.proofs.lemmas.List.{append-nil}
 use Rattle.std.proofs.lemmas.List.Elements.{All-nil}
 use Rattle.plant_effects.specs.Runs.{state_of}
 use Rattle.backup_script.specs.declared.serving.ServeStop.{ServeStop}
-use Rattle.backup_script.specs.declared.serving.ServeStop.TheVariants.{Read, TooLong}
+use Rattle.backup_script.specs.declared.serving.ServeStop.TheVariants.{Read, Cell as CellStop, TooLong}
 use Rattle.backup_script.specs.Lines.{is_feed}
 use Rattle.backup_script.specs.Scripts.{script}
 use Rattle.backup_script.proofs.ServingLaws.{went_nothing, nothing_begun}
@@ -12,7 +12,7 @@ use Rattle.backup_script.specs.Watching.{Watched}
 use Rattle.backup_script.proofs.WatchLaws.{watched_from_start}
 use Rattle.backup_script.proofs.AnswerLaws.{not_false, not_true, err_is}
 use Rattle.plant_effects.proofs.Joining.{nothing_stays, stays_both}
-use Rattle.backup_script.proofs.LoopLaws.{reading_starts, reading_more, took_end, took_too_many, serving_starts, serving_held, serving_more, serving_ended, serving_left, serving_short, all_left, stop_takes}
+use Rattle.backup_script.proofs.LoopLaws.{reading_starts, reading_more, took_end, took_too_many, serving_starts, serving_held, serving_more, serving_ended, serving_left, serving_short, all_left, stop_takes, used_behind}
 use Rattle.backup_script.proofs.serve.run_script.Goals as goal
 
 pub loop-taken-init : goal.loop-taken-init
@@ -28,6 +28,7 @@ loop-taken-init g c =
       cell_faults = refl;
       output_faults = refl;
       read_faults = refl;
+      fewer = λ tells_clock. omega arith;
       count = λ source. omega arith;
       reading = λ source. ([], reading_starts left);
       serving = λ told tells_cell tells_clock source w fits held. serving_starts P g.C.Cell w (g.K.Clock.moments c.args.clock.now) left plant c.args.cell.now c.args.session.now c.requires
@@ -76,6 +77,13 @@ returns-in-Err-clause-takes g c = λ source.
     let so = l.invariant.reading source in
     stop_takes (g.S.Source.left c.args.source.now) (g.S.Source.left l.source) (g.S.Source.left n.source) so.0 n.taken c.in-Err.stop so.1 (e.took source) (omega (arith, l.invariant.count source, e.count source)) e.within
     (λ long. e.long (ap (λ (s : ServeStop). Err s) long))
+
+pub returns-in-Err-clause-used : goal.returns-in-Err-clause-used
+returns-in-Err-clause-used g c = λ tells_clock is.
+    let l = c.loop-taken in
+    let e = c.in-Err.ensures in
+    used_behind (g.K.Clock.moments c.args.clock.now) (g.K.Clock.moments l.clock) (g.K.Clock.moments c.serve_line.new.clock) (l.invariant.fewer tells_clock) (e.fewer tells_clock)
+    (e.used tells_clock (ap (λ (s : ServeStop). Err s) (err_is CellStop c.in-Err.stop is)))
 
 pub returns-then-not-passed-clause-ran : goal.returns-then-not-passed-clause-ran
 returns-then-not-passed-clause-ran g c = λ told tells_cell tells_clock source w fits held.
@@ -134,6 +142,7 @@ loop-taken-preserved g c =
       cell_faults = e.cell_cause.stays (λ is. cc) ∙ i.cell_faults;
       output_faults = e.output_cause.stays (λ is. cc) ∙ i.output_faults;
       read_faults = e.read_cause.stays (λ is. cc) ∙ i.read_faults;
+      fewer = λ tells_clock. omega (arith, i.fewer tells_clock, e.fewer tells_clock);
       count = λ source. omega (arith, i.count source, e.count source);
       reading = λ source.
           let so = i.reading source in

@@ -20,6 +20,7 @@ invariant-loop-taken g l =
       cell_faults : g.C.Cell.faults l.cell ≡ g.C.Cell.faults l.fn.cell;
       output_faults : (P.view l.plant).tell_faults ≡ (P.view l.fn.plant).tell_faults;
       read_faults : g.S.Source.faults l.source ≡ g.S.Source.faults l.fn.source;
+      fewer : g.K.Clock.tells → length (g.K.Clock.moments l.clock) ≤ length (g.K.Clock.moments l.fn.clock);
       count : g.S.Source.tells → length (left l.fn.source) ≡ length (left l.source) + l.taken;
       reading : g.S.Source.tells → (ran : List (List ℕ)) × Reading (left l.fn.source) (left l.source) ran;
       serving : P.tells → g.C.Cell.tells → g.K.Clock.tells → g.S.Source.tells → (w : World) → Fits P g.C.Cell w l.fn.plant l.fn.cell l.fn.session

@@ -1,4 +1,4 @@
-use Rattle.std.proofs.Common.{ℕ, List, [], ◌∷◌, true, false, refl, sym, ◌∙◌, ap, subst, Ok, Err, IfOk, OnErr}
+use Rattle.std.proofs.Common.{ℕ, ◌≤◌, List, [], ◌∷◌, length, true, false, refl, sym, ◌∙◌, ap, subst, arith, Ok, Err, IfOk, OnErr}
 use Rattle.media_core.specs.Later.{later}
 use Rattle.plant_core.specs.Effects.{tells}
 use Rattle.plant_effects.specs.Runs.{Done, Leaves}
@@ -8,12 +8,12 @@ use Rattle.backup_session.specs.Machine.{turn}
 use Rattle.backup_script.specs.declared.serving.Passed.{Passed}
 use Rattle.backup_script.specs.Scripts.{first_of, one_line}
 use Rattle.backup_script.specs.Held.{HeldForLine}
-use Rattle.backup_script.specs.Running.{LineRan, LineLeft, TurnLeft}
+use Rattle.backup_script.specs.Running.{LineRan, LineLeft, TurnLeft, HasUsed}
 use Rattle.backup_script.specs.declared.item.Item.TheVariants.{Runs}
 use Rattle.backup_script.specs.Watching.{with_text}
 use Rattle.backup_script.proofs.TellingLaws.{refusal_watched}
 use Rattle.backup_script.proofs.ServingLaws.{went_nothing}
-use Rattle.backup_script.proofs.ItemLaws.{refusal_left, runs_left, in_err, on_ok}
+use Rattle.backup_script.proofs.ItemLaws.{refusal_left, runs_left, later_fewer, later_used, in_err, on_ok}
 use Rattle.backup_script.proofs.serving.run_item.Goals as goal
 
 pub returns-in-Refused-clause-watched : goal.returns-in-Refused-clause-watched
@@ -83,3 +83,19 @@ returns-in-Runs-clause-went g c = λ told tells_cell tells_clock w fits held.
     let ms = g.K.Clock.moments c.args.clock.now in
     subst (λ (i : Item). IfOk c.run_next.result (λ (passed : Passed). LineRan P C (one_line w ms i) c.args.plant.now n.plant n.cell n.session (g.K.Clock.moments n.clock) passed.goes)) (sym c.in-Runs.is)
     (c.run_next.ensures.went told tells_cell tells_clock w fits (subst (λ (i : Item). HeldForLine w ms i) c.in-Runs.is held))
+
+pub returns-in-Silent-clause-fewer : goal.returns-in-Silent-clause-fewer
+returns-in-Silent-clause-fewer g c = λ tells_clock. omega arith
+
+pub returns-in-Quit-clause-fewer : goal.returns-in-Quit-clause-fewer
+returns-in-Quit-clause-fewer g c = λ tells_clock. omega arith
+
+pub returns-in-Refused-clause-fewer : goal.returns-in-Refused-clause-fewer
+returns-in-Refused-clause-fewer g c = λ tells_clock.
+    let ms = g.K.Clock.moments c.args.clock.now in
+    subst (λ (left : List ℕ). length left ≤ length ms) (sym (c.tell_refusal.ensures.clock tells_clock)) (later_fewer ms)
+
+pub returns-in-Refused-clause-used : goal.returns-in-Refused-clause-used
+returns-in-Refused-clause-used g c = λ tells_clock stops.
+    let ms = g.K.Clock.moments c.args.clock.now in
+    subst (λ (left : List ℕ). HasUsed ms left) (sym (c.tell_refusal.ensures.clock tells_clock)) (later_used ms)

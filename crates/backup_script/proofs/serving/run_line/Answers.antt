@@ -1,4 +1,4 @@
-use Rattle.std.proofs.Common.{Bool, inl, [], refl, ◌≡◌, ◌∙◌, ap, subst, IfOk}
+use Rattle.std.proofs.Common.{Bool, inl, [], refl, ◌≡◌, ◌∙◌, ap, subst, arith, IfOk}
 use Rattle.plant_effects.proofs.Joining.{nothing_left}
 use Rattle.backup_script.specs.Scripts.{between}
 use Rattle.backup_script.specs.Running.{goes_behind}
@@ -19,3 +19,6 @@ returns-in-Err-clause-left g c = λ told tells_cell tells_clock w fits held.
       clock = refl;
       leaves = nothing_left P [] old (λ told survives image left. g.met.P.Plant.left old image told c.requires survives left);
     }
+
+pub returns-in-Err-clause-fewer : goal.returns-in-Err-clause-fewer
+returns-in-Err-clause-fewer g c = λ tells_clock. omega arith

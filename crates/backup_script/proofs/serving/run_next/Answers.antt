@@ -1,11 +1,11 @@
-use Rattle.std.proofs.Common.{ℕ, List, true, sym, subst}
+use Rattle.std.proofs.Common.{ℕ, ◌≤◌, List, length, true, sym, subst}
 use Rattle.media_core.specs.Later.{later}
 use Rattle.backup_session.specs.Worlds.{at_moment}
 use Rattle.backup_session.specs.Held.{HeldFor}
 use Rattle.backup_session.specs.Machine.{turn}
 use Rattle.backup_script.specs.Scripts.{command_told}
-use Rattle.backup_script.specs.Running.{LineRan, TurnLeft}
-use Rattle.backup_script.proofs.ItemLaws.{first_is}
+use Rattle.backup_script.specs.Running.{LineRan, TurnLeft, HasUsed}
+use Rattle.backup_script.proofs.ItemLaws.{first_is, later_fewer, later_used}
 use Rattle.backup_script.proofs.serving.run_next.Goals as goal
 
 pub returns-in-Ok-clause-went : goal.returns-in-Ok-clause-went
@@ -28,3 +28,18 @@ returns-in-Err-clause-left g c = λ told tells_cell tells_clock w fits held.
     (sym is)
     (subst (λ (left : List ℕ). TurnLeft P g.C.Cell w (later ms) (turn w c.now-now.result c.args.command.now) c.args.plant.now n.plant n.cell left)
     (sym (c.now-now.ensures.rest tells_clock)) (c.in-Err.ensures.left told tells_cell w fits (subst (λ (m : ℕ). HeldFor (at_moment w m) c.args.command.now) is held) (later ms)))
+
+pub returns-in-Ok-clause-fewer : goal.returns-in-Ok-clause-fewer
+returns-in-Ok-clause-fewer g c = λ tells_clock.
+    let ms = g.K.Clock.moments c.args.clock.now in
+    subst (λ (left : List ℕ). length left ≤ length ms) (sym (c.now-now.ensures.rest tells_clock)) (later_fewer ms)
+
+pub returns-in-Err-clause-fewer : goal.returns-in-Err-clause-fewer
+returns-in-Err-clause-fewer g c = λ tells_clock.
+    let ms = g.K.Clock.moments c.args.clock.now in
+    subst (λ (left : List ℕ). length left ≤ length ms) (sym (c.now-now.ensures.rest tells_clock)) (later_fewer ms)
+
+pub returns-in-Err-clause-used : goal.returns-in-Err-clause-used
+returns-in-Err-clause-used g c = λ tells_clock stops.
+    let ms = g.K.Clock.moments c.args.clock.now in
+    subst (λ (left : List ℕ). HasUsed ms left) (sym (c.now-now.ensures.rest tells_clock)) (later_used ms)

@@ -20,7 +20,7 @@ use Rattle.backup_top.specs.declared.status.Status.TheVariants.{MediaFault}
 use Rattle.backup_top.specs.Courses.{Course, course, outcome, at_rest, Runs, TellsLines, RefusesJournal, HasCauseAs}
 use Rattle.backup_top.proofs.Lowering.{opened_rests, shown_log, journal_damaged, still_left, nothing_since, images_left, images_later, none_some, same_files, shown_told, told_to, untold_to, nothing_same, images_same}
 use Rattle.backup_top.proofs.TapeCounts.{has_tapes}
-use Rattle.backup_top.proofs.CourseLaws.{OpenedForms, has_forms, ready_for, AbsentStay, leaves_media, runs_of, runs_not_opened, journal_of_log, told_lines, opening_lines, opening_later, bad_log_answer, refuses_journal, opening_bad, opening_cause, bad_journal, damaged_journal, journaled, images_of, ends_at, left_whole}
+use Rattle.backup_top.proofs.CourseLaws.{OpenedForms, has_forms, ready_for, AbsentStay, leaves_media, runs_of, runs_not_opened, journal_of_log, told_lines, opening_lines, opening_later, bad_log_answer, cell_answer, refuses_journal, opening_bad, opening_cause, bad_journal, damaged_journal, journaled, images_of, ends_at, left_whole}
 use Rattle.backup_top.proofs.running.run_media.Goals as goal
 
 pub returns-in-Ok-clause-runs : goal.returns-in-Ok-clause-runs
@@ -188,6 +188,9 @@ returns-in-Ok-clause-bad_log_media g c = λ told at is.
     let M = g.M.Media in
     let looks = c.run_on-answer.ensures.bad_log_looks at (bad_log_answer c.run_on-answer.result at (sym c.of_run.ensures ∙ is)) in
     ap M.seen c.into_media.ensures.media ∙ looks.beneath told ∙ c.in-Ok.ensures.seen told
+
+pub returns-in-Ok-clause-order : goal.returns-in-Ok-clause-order
+returns-in-Ok-clause-order g c = λ is. c.run_on-answer.ensures.order (cell_answer c.run_on-answer.result (sym c.of_run.ensures ∙ is))
 
 pub returns-in-Err-clause-runs : goal.returns-in-Err-clause-runs
 returns-in-Err-clause-runs g c = λ told tells_cell tells_clock source named says journal contents held.
