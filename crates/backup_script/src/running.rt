@@ -137,8 +137,8 @@ pub fn run_on<P: Plant, C: Cell, K: Clock, S: Source>(
     ensures refused_log_cell { P.tells → (IsLog (state_of P.Plant plant.old).log → ⊥) → cell.new ≡ cell.old }
     ensures refused_log_clock { P.tells → (IsLog (state_of P.Plant plant.old).log → ⊥) → (clock.new ≡ clock.old) × (source.new ≡ source.old) }
 
-    // Where the cell's entries can't be listed at the opening, the clock isn't read and nothing is taken of the source: behind any other fault of
-    // the cell a moment was used, unless the clock had only one.
+    // Where it ends by a fault of the cell and no moment of the clock was used, nothing was taken of the source: so it is where the cell's
+    // entries can't be listed at the opening, since in front of any other fault of the cell a moment is used, unless the clock had only one.
     ensures order { result ≡ Err RunStop.Cell → K.tells → S.tells → 2 ≤ length (K.moments clock.old) → K.moments clock.new ≡ K.moments clock.old → S.left source.new ≡ S.left source.old }
 
     // Each fault has its cause.

@@ -32,8 +32,8 @@ use Rattle.backup_script.specs.Held.{IfItGoes}
 use Rattle.script_journals.specs.Dumping.{dumps_among}
 
 -- A cell is fit for dumps at a time, beside an archive: it is fair to what the archive's dumps have, and no read/write volume has the name of
--- a backup volume; no id on a tape is above both the greatest id that was begun or recorded and the time; and what dumps have of volumes are
--- volumes of the types.
+-- a backup volume; each id on a tape is at most the greatest id that was begun or recorded, or before the time; and what dumps have of volumes
+-- are volumes of the types.
 pub record IsFit (cell : List Stored) (time : ℕ) (a : Archive) : Type 0 where
   pub fair : (records : List DumpRecordFields) → AreDumps (listed_of a) a.slots records → Fair cell (dumped_by a.contents records) time
   pub named : NoSourceHasBackupName cell
