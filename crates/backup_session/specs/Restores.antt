@@ -37,8 +37,8 @@ archive_turn w command = restored w (restore_answer (archive_of w) (after w.log)
 
 -- ---- whatever stands on the tapes
 
--- How a restore may leave the cell also where the tapes hold no archive: each wanted volume is put whole under the name that it gets, or not
--- at all, one after the other; a trial puts none. Of other commands it isn't asked.
+-- How a restore may leave the cell also where the tapes hold no archive: for each wanted volume in turn, one volume is put under the name
+-- that it gets, or none is; a trial puts none. What such a volume holds isn't said here. Of other commands it isn't asked.
 abbrev pub MayRestore : Database → ℕ → Command → List Stored → List Stored → Type 0
 MayRestore db time (Volrestore server partition volume extension date n) old new =
     MayPut (manner_at time extension n) (record { name = volume; before = date; server = server; partition = partition }) old new

@@ -243,8 +243,8 @@ impl Session {
 
     /// Executes a command at a moment of the clock. What it tells is handed back and not told. A world that stands there has
     /// tapes as a plant has them, and `scantape -dbadd` lists in it what is whole on them, a dump that another journal has
-    /// listed among it. A restore over tapes that hold no archive changes nothing but the cell, into which it puts wanted
-    /// volumes whole, or none.
+    /// listed among it. A restore over tapes that hold no archive changes nothing but the cell, into which it puts, for each
+    /// wanted volume in turn, one volume under the name that it gets, or none.
     pub fn exec<P: Plant, C: Cell>(
         &mut self,
         alloc: Global,

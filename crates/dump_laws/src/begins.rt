@@ -28,8 +28,8 @@ pub fn a_first_tape_is_taken_or_appended_to()
         → (((p : AnyPlace) × (appending (listed_of a) o.set o.port whole slots ≡ Found p) × (tape ≡ place_tape p)) ⊎ TakenBy o (listed_of a) slots tape) × ((after a.log).greatest < 4294967295) }
 {}
 
-/// Behind its begin a dump runs that takes its first tape, where the archive is held and no id on a tape is above both the
-/// greatest that was begun or recorded and the time: the commit of the begin, and with it of the take, keeps the archive.
+/// Behind its begin a dump runs that takes its first tape, where the archive is held and each id on a tape is at most the
+/// greatest that was begun or recorded, or below the time: the commit of the begin, and with it of the take, keeps the archive.
 pub fn a_begun_dump_runs()
     ensures kept { (s : State) (a : Archive) (records : AnyList DumpRecordFields) → HoldsSettled s a records → (o : AnyOrder) → o.time ≤ 4294967295 → (after a.log).greatest < 4294967295
         → HeadsAreBelow a.slots o.time (after a.log).greatest → HasParent (listed_of a) o.parent
