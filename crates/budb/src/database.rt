@@ -1,6 +1,6 @@
 //! The database: what the changes of a plant's log make, and the changes that are prepared.
 
-ghost use Rattle.std.specs.Prelude.{◌≡◌, ◌⊎◌, ◌+◌, ◌<◌, ◌++◌, [], ◌∷◌, ℕ, List as AnyList, length, map, Some, None, is_some, IsSome, Err, IfOk, OnOk, OnErr};
+ghost use Rattle.std.specs.Prelude.{◌≡◌, ◌≢◌, ◌⊎◌, ◌+◌, ◌<◌, ◌++◌, [], ◌∷◌, ℕ, List as AnyList, length, map, Some, None, is_some, IsSome, Err, IfOk, OnOk, OnErr};
 ghost use Rattle.std.specs.Option.{option_copied};
 ghost use Rattle.crash_moments.specs.Moments.{HasCauseAt};
 ghost use Rattle.plant_core.specs.Effects.{commits};
@@ -154,6 +154,7 @@ impl Budb {
         requires nothing { self.old.prepared ≡ None }
         ensures nothing { self.new.prepared ≡ None }
         ensures form { OnOk result (AreChanges changes.now) }
+        ensures error_form { OnErr result (result ≢ Err CommitFault.Memory → AreChanges changes.now) }
         ensures made { OnOk result (self.new.database ≡ after_from changes.now self.old.database) }
         ensures same { OnErr result (self.new ≡ self.old) }
         ensures keeps { P.tells → (log : AnyList AnyChange) → Keeps log (state_of P.Plant plant.old).log self.old → OnOk result (Keeps (log ++ changes.now) (state_of P.Plant plant.new).log self.new) }

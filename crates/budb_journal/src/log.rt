@@ -1,6 +1,6 @@
 //! The journal's log of a plant: changes appended by one commit, and read again.
 
-ghost use Rattle.std.specs.Prelude.{◌≡◌, ◌⊎◌, ◌+◌, ◌<◌, [], ◌∷◌, length, Err, IfOk, OnOk, OnErr};
+ghost use Rattle.std.specs.Prelude.{◌≡◌, ◌≢◌, ◌⊎◌, ◌+◌, ◌<◌, [], ◌∷◌, length, Err, IfOk, OnOk, OnErr};
 ghost use Rattle.crash_moments.specs.Moments.{HasCauseAt};
 ghost use Rattle.plant_core.specs.Effects.{commits};
 ghost use Rattle.plant_effects.specs.Runs.{state_of, Done, Leaves, OnlyLooks, SameTape, SameNumbers, StaysQuiet};
@@ -21,6 +21,7 @@ use std::alloc::Global;
 pub fn append<P: Plant>(alloc: Global, plant: &mut P, changes: &[Change]) -> Result<(), AppendFault>
     requires { P.sound plant.old }
     ensures form { OnOk result (AreChanges changes.now) }
+    ensures error_form { OnErr result (result ≢ Err AppendFault.Memory → AreChanges changes.now) }
     ensures full { result ≡ Err AppendFault.LogFull → 268435456 < (P.view plant.old).log_size + length (encoded changes.now) }
     ensures only_full { 268435456 < (P.view plant.old).log_size + length (encoded changes.now) → (result ≡ Err AppendFault.LogFull) ⊎ (result ≡ Err AppendFault.Memory) }
     ensures over_same { 268435456 < (P.view plant.old).log_size + length (encoded changes.now) → plant.new ≡ plant.old }
