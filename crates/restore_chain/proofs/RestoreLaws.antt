@@ -10,6 +10,7 @@ use Rattle.archive_model.specs.Plays.{PlayFault, BadOnTape, Lacks, Large, record
 use Rattle.archive_model.specs.Archives.{Archive, Holds, listed_of, needs, refused_by, LooksUp}
 use Rattle.archive_model.specs.Clones.{Cloned, AreWritten, last_of}
 use Rattle.archive_model.proofs.KeepLaws.{written_plays}
+use Rattle.archive_model.proofs.LookLaws.{looks_up_once}
 use Rattle.archive_model.proofs.OnceLaws.{plays_once}
 use Rattle.archive_model.proofs.PlayedLaws.{played_is_looked_up}
 use Rattle.restore_chain.specs.declared.chain_plan.ChainPlan.{ChainPlan}
@@ -18,7 +19,9 @@ use Rattle.restore_chain.specs.declared.fault.RestoreFault.TheVariants as faults
 use Rattle.restore_chain.specs.Planning.{PlansChain, PlansFor, Plans}
 use Rattle.restore_chain.specs.Restoring.{Tells, IsPlanOf, PlaysPlan, RestoresFrom}
 use Rattle.restore_chain.proofs.LocatedLaws.{all_there}
+use Rattle.restore_chain.proofs.PlanLaws.{leads}
 use Rattle.restore_chain.proofs.PlayLaws.{tells_so}
+use Rattle.restore_chain.proofs.VolumeLaws.{one_there}
 
 -- ---- a plan is one that may be played
 
@@ -87,3 +90,25 @@ pub written_restored : (slots : List Slot) (listed : List DumpRecordFields) (pla
     → AreWritten slots plan.name None (records_of listed plan.dumps) cs → last_of None cs ≡ Some v → PlaysPlan slots listed plan r → r ≢ Err faults.Failed → r ≢ Err faults.Memory → r ≡ Ok v
 written_restored slots listed plan cs v r written last plays failed memory =
     plays_plan_once slots listed plan r (Ok v) failed memory (λ is. absurd (cc)) (λ is. absurd (cc)) plays (written_plays slots plan.name (records_of listed plan.dumps) cs v written last)
+
+-- ---- a dump that has its clone as its contents
+
+contents_of : (outcome : Result VolumeFields PlayFault) (v : VolumeFields) → refused_by outcome ≡ Ok v → outcome ≡ Ok v
+contents_of (Ok w) v is = let same : w ≡ v = cc in ap Ok same
+contents_of (Err fault) v is = absurd (cc)
+
+told_ok : (v : VolumeFields) → told_of (Ok v) ≡ Ok v
+unfolding told_of
+told_ok v = refl
+
+pub clone_played : (stock : Stock) (a : Archive) (records : List DumpRecordFields) → Holds stock a records
+    → (name : List ℕ) (before : Option ℕ) (one : VolumeDump) (v : VolumeFields) → latest (listed_of a) name before ≡ Some one → a.contents one.dump.id one.volume.name ≡ Ok v
+    → (plan : ChainPlan) (r : Result VolumeFields RestoreFault) → Plans a.slots (listed_of a) name before (Ok plan) → PlaysPlan a.slots (listed_of a) plan r
+    → r ≢ Err faults.Failed → r ≢ Err faults.Memory → r ≡ Ok v
+clone_played stock a records holds name before one v found contents plan r plans plays failed memory =
+    let to = leads a name before plan plans in
+    let same : to.one ≡ one = one_there (latest (listed_of a) name before) to.one one to.latest_is found in
+    let t = is_told (λ outcome. LooksUp a name before (refused_by outcome)) r failed memory (restored stock a records holds name before plan r plans plays) in
+    let own : refused_by t.outcome ≡ a.contents to.one.dump.id to.one.volume.name =
+        looks_up_once a name before (refused_by t.outcome) (a.contents to.one.dump.id to.one.volume.name) t.is to.looked_up in
+    t.same ∙ ap told_of (contents_of t.outcome v (own ∙ ap (λ (o : VolumeDump). a.contents o.dump.id o.volume.name) same ∙ contents)) ∙ told_ok v

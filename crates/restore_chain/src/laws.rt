@@ -6,6 +6,7 @@ ghost use Rattle.plant_core.specs.Effects.{come, settles};
 ghost use Rattle.plant_core.specs.Stock.{Stock};
 ghost use Rattle.vnode_model.specs.declared.volumes.VolumeFields.{VolumeFields as AnyVolume};
 ghost use Rattle.budb_changes.specs.declared.records.DumpRecordFields.{DumpRecordFields as AnyDump};
+ghost use Rattle.budb_fold.specs.Lookups.{VolumeDump, latest};
 ghost use Rattle.budb_fold.specs.Chains.{HaveParentsBelow};
 ghost use Rattle.tape_scan.specs.Slots.{Slot};
 ghost use Rattle.archive_model.specs.Plays.{records_of};
@@ -77,4 +78,15 @@ pub fn what_was_written_is_restored()
     ensures { (slots : AnyList Slot) (listed : AnyList AnyDump) (plan : AnyPlan) (clones : AnyList Cloned) (last : AnyVolume) (result : AnyResult AnyVolume AnyFault)
         → AreWritten slots plan.name None (records_of listed plan.dumps) clones → last_of None clones ≡ Some last
         → PlaysPlan slots listed plan result → result ≢ Err faults.Failed → result ≢ Err faults.Memory → result ≡ Ok last }
+{}
+
+/// In an archive that is held a dump has its clone back, where that is its contents: a plan that `plan` gave of a name before a time,
+/// whose latest dump it is, is played to the clone. No play of it has a fault.
+pub fn a_dump_with_its_clone_is_played()
+    ensures { (stock : Stock) (a : Archive) (records : AnyList AnyDump) → Holds stock a records
+        → (name : AnyList ℕ) (before : AnyOption ℕ) (one : VolumeDump) (clone : AnyVolume)
+        → latest (listed_of a) name before ≡ Some one → a.contents one.dump.id one.volume.name ≡ Ok clone
+        → (plan : AnyPlan) (result : AnyResult AnyVolume AnyFault)
+        → Plans a.slots (listed_of a) name before (Ok plan) → PlaysPlan a.slots (listed_of a) plan result
+        → result ≢ Err faults.Failed → result ≢ Err faults.Memory → result ≡ Ok clone }
 {}

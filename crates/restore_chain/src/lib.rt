@@ -21,10 +21,10 @@ mod reading;
 pub use chain_plan::{ChainPlan, TapeNeed};
 pub use fault::RestoreFault;
 pub use laws::{
-    a_look_up_is_computed, a_plan_has_one_answer, a_plan_leads_to_the_contents,
-    a_plan_may_be_played, a_played_plan_has_one_answer, a_refused_plan_is_a_refused_look_up,
-    what_is_planned_and_played_is_looked_up, what_is_put_away_is_read_as_before,
-    what_was_written_is_restored,
+    a_dump_with_its_clone_is_played, a_look_up_is_computed, a_plan_has_one_answer,
+    a_plan_leads_to_the_contents, a_plan_may_be_played, a_played_plan_has_one_answer,
+    a_refused_plan_is_a_refused_look_up, what_is_planned_and_played_is_looked_up,
+    what_is_put_away_is_read_as_before, what_was_written_is_restored,
 };
 pub use planning::plan;
 pub use play_chain::play;
