@@ -1,6 +1,6 @@
 -- What the steps of a plan answer.
 use Rattle.std.proofs.Common.{◌≡◌, ℕ, Ok, Err, List, map, sym, ap, ◌∙◌, subst}
-use Rattle.std.specs.Prelude.{Result}
+use Rattle.std.specs.Prelude.{Result, IfOk}
 use Rattle.budb_changes.specs.declared.records.DumpRecordFields.{DumpRecordFields}
 use Rattle.budb_fold.specs.Lookups.{VolumeDump}
 use Rattle.budb_fold.specs.Chains.{IsChain}
@@ -13,6 +13,7 @@ use Rattle.restore_chain.specs.declared.fault.RestoreFault.{RestoreFault}
 use Rattle.restore_chain.specs.declared.fault.RestoreFault.TheVariants as faults
 use Rattle.tape_scan.specs.Looking.{LooksAt}
 use Rattle.restore_chain.specs.Planning.{located, IsFirstMissing, AnswersChain, PlansOne}
+use Rattle.restore_chain.specs.Restoring.{IsChained}
 use Rattle.tape_scan.proofs.Looking.{looks_none}
 
 -- an answer for the chain of a dump is one for the dump
@@ -41,6 +42,19 @@ answers_one slots listed one id name bytes dumps r same_id same_name is_name cha
     by_answer (Err faults.TooLarge) a = absurd a
     by_answer (Err faults.Failed) a = tt
     by_answer (Err faults.Memory) a = tt
+
+-- a plan of the chain of a dump has its chain
+pub chained_one : (listed : List DumpRecordFields) (one : VolumeDump) (id : ℕ) (name bytes dumps : List ℕ) (r : Result ChainPlan RestoreFault) → id ≡ one.dump.id → name ≡ one.volume.name → bytes ≡ name
+    → IsChain listed id bytes (Ok dumps) → IfOk r (λ plan. (plan.name ≡ name) × (plan.dumps ≡ dumps)) → IfOk r (IsChained listed)
+chained_one listed one id name bytes dumps (Ok plan) same_id same_name is_name chain kept =
+    let own : IsChain listed one.dump.id one.volume.name (Ok dumps) =
+        subst (λ (n : ℕ). IsChain listed n one.volume.name (Ok dumps)) same_id (subst (λ (n : List ℕ). IsChain listed id n (Ok dumps)) (is_name ∙ same_name) chain) in
+    record {
+      one = one;
+      name = kept.0 ∙ same_name;
+      chain = subst (λ (ids : List ℕ). IsChain listed one.dump.id one.volume.name (Ok ids)) (sym kept.1) own;
+    }
+chained_one listed one id name bytes dumps (Err fault) same_id same_name is_name chain kept = tt
 
 module _ {D : Type 0} (P : Plant D) (s : D) (sound : P.sound s) (fits : Fits P s) where
   pub told_missing : (id : ℕ) → LooksAt {T = ChainPlan} P faults.Failed s s (Err (faults.MissingDump id))

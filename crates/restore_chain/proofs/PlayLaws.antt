@@ -27,7 +27,7 @@ use Rattle.restore_chain.specs.declared.fault.RestoreFault.TheVariants as faults
 use Rattle.restore_chain.specs.declared.play_joined.Site.{Site}
 use Rattle.restore_chain.specs.Planning.{located_by, located, needs_in, needs_for, PlansChain}
 use Rattle.restore_chain.specs.Playing.{spot_of, AreHeld, Makes}
-use Rattle.restore_chain.specs.Restoring.{Tells, IsBadAt, PlaysFrags, IsPlanOf, PlaysPlan, AreReady, HavePlayed}
+use Rattle.restore_chain.specs.Restoring.{Tells, IsPlayAnswer, IsChained, IsBadAt, PlaysFrags, IsPlanOf, PlaysPlan, AreDumped, AreReady, HavePlayed}
 use Rattle.restore_chain.proofs.ChainNeeds.{dump_needs}
 
 -- ---- answers
@@ -74,6 +74,22 @@ bad_plays slots d cs base site fault gives (inr is) = subst (λ (f : RestoreFaul
 
 pub makes_not_failed : (defined : Result VolumeFields ApplyFault) (r : Result VolumeFields RestoreFault) → Makes defined r → r ≡ Err faults.Failed → ⊥
 makes_not_failed defined r makes is = subst (Makes defined) is makes
+
+-- both are answers of a play
+pub makes_answers : (defined : Result VolumeFields ApplyFault) (r : Result VolumeFields RestoreFault) → Makes defined r → IsPlayAnswer r
+makes_answers defined (Ok v) makes = tt
+makes_answers defined (Err faults.NoDump) makes = absurd makes
+makes_answers defined (Err (faults.MissingDump id)) makes = absurd makes
+makes_answers defined (Err (faults.MissingTape name initial)) makes = absurd makes
+makes_answers defined (Err (faults.BaseLacks number)) makes = tt
+makes_answers defined (Err (faults.BadOnTape tape place)) makes = tt
+makes_answers defined (Err faults.TooLarge) makes = tt
+makes_answers defined (Err faults.Failed) makes = tt
+makes_answers defined (Err faults.Memory) makes = tt
+
+pub bad_answers : (d : DumpRecordFields) (site : Site) (fault : RestoreFault) → IsBadAt d site fault → IsPlayAnswer (Err fault)
+bad_answers d site fault (inl is) = subst (λ (f : RestoreFault). IsPlayAnswer (Err f)) (sym is) tt
+bad_answers d site fault (inr is) = subst (λ (f : RestoreFault). IsPlayAnswer (Err f)) (sym is) tt
 
 pub bad_not_failed : (d : DumpRecordFields) (site : Site) (fault : RestoreFault) → IsBadAt d site fault → fault ≡ faults.Failed → ⊥
 bad_not_failed d site fault (inl is) failed = absurd (cc)
@@ -139,11 +155,11 @@ rest_located slots (n ∷ front) more (t ∷ ts) is = (let rest : map (located s
 
 -- ---- the first dump of those that are left
 
-record HasVolume (listed : List DumpRecordFields) (name : List ℕ) (id : ℕ) : Type 0 where
-  dump : DumpRecordFields
-  is : record_of listed id ≡ Some dump
-  volume : VolRecordFields
-  named : volume_of dump name ≡ Some volume
+pub record HasVolume (listed : List DumpRecordFields) (name : List ℕ) (id : ℕ) : Type 0 where
+  pub dump : DumpRecordFields
+  pub is : record_of listed id ≡ Some dump
+  pub volume : VolRecordFields
+  pub named : volume_of dump name ≡ Some volume
 
 has_volume : (listed : List DumpRecordFields) (name : List ℕ) (id : ℕ) (x : VolumeDump) → dump_of listed name id ≡ Some x → HasVolume listed name id
 has_volume listed name id x is = by_record (record_of listed id) refl is
@@ -155,6 +171,17 @@ has_volume listed name id x is = by_record (record_of listed id) refl is
     by_record : (o : Option DumpRecordFields) → record_of listed id ≡ o → volume_in o name ≡ Some x → HasVolume listed name id
     by_record None found has = absurd (cc)
     by_record (Some d) found has = by_volume d (volume_of d name) found refl has
+
+-- each of the dumps has the volume
+pub dumped_at : (listed : List DumpRecordFields) (name ids : List ℕ) (i : ℕ) → i < length ids → AreDumped listed name ids → HasVolume listed name (get_or ids i 0)
+dumped_at listed name [] i within are = absurd (omega (arith, within))
+dumped_at listed name (id ∷ ids) zero within are =
+    let HasIt : ℕ → Type 0 = λ i. (x : VolumeDump) × (dump_of listed name i ≡ Some x) in
+    let head = All-head HasIt id ids are in
+    has_volume listed name id head.0 head.1
+dumped_at listed name (id ∷ ids) (suc i) within are =
+    let HasIt : ℕ → Type 0 = λ i. (x : VolumeDump) × (dump_of listed name i ≡ Some x) in
+    dumped_at listed name ids i (omega (arith, within)) (All-tail HasIt id ids are)
 
 pub record IsFirst (slots : List Slot) (listed : List DumpRecordFields) (name : List ℕ) (id : ℕ) (ids : List ℕ) (tapes : List TapeNeed) : Type 0 where
   pub dump : DumpRecordFields
@@ -253,3 +280,12 @@ plan_plays slots listed ls plan ids name tapes r same_listed same_ids same_name 
     let third = subst (λ (x : List ℕ). 0 < length plan.dumps → AreReady slots listed x plan.dumps tapes → Tells (Plays slots listed plan.dumps x) r) same_name second in
     let fourth = subst (λ (x : List TapeNeed). 0 < length plan.dumps → AreReady slots listed plan.name plan.dumps x → Tells (Plays slots listed plan.dumps plan.name) r) same_tapes third in
     fourth (some_dumps listed one.dump.id one.volume.name plan.dumps plans.chain) (plan_ready slots listed plan one plans)
+
+-- the same of what a play may answer at all
+pub plan_answers : (listed : List DumpRecordFields) (plan : ChainPlan) (ids name : List ℕ) (r : Result VolumeFields RestoreFault) → ids ≡ plan.dumps → name ≡ plan.name
+    → (0 < length ids → AreDumped listed name ids → IsPlayAnswer r) → IsChained listed plan → IsPlayAnswer r
+plan_answers listed plan ids name r same_ids same_name answers chained =
+    let first = subst (λ (x : List ℕ). 0 < length x → AreDumped listed name x → IsPlayAnswer r) same_ids answers in
+    let second = subst (λ (x : List ℕ). 0 < length plan.dumps → AreDumped listed x plan.dumps → IsPlayAnswer r) (same_name ∙ chained.name) first in
+    second (some_dumps listed chained.one.dump.id chained.one.volume.name plan.dumps chained.chain)
+    (chain_dumped listed chained.one.dump.id chained.one.volume.name plan.dumps chained.chain)

@@ -164,7 +164,6 @@ abbrev pub Turns : List Slot → DumpRecordFields → Lying → Joined → Joine
 Turns slots d c old new (turns.Whole site) =
     (f : Fragment) × StandsOn slots d c f × (site.tape ≡ c.tape) × (site.place ≡ c.at + length f.pieces + 1) × Joins (pieces_from c.tape (c.at + 1) f.pieces) old new
 Turns slots d c old new (turns.Bad site) = (site.tape ≡ c.tape) × IsSomeAnd (holder_here d c.tape slots) (λ s. IsFirstBad c s.1.items site.place)
-Turns slots d c old new turns.Gone = ⊥
 
 -- fragments that stand, whose Data were joined, and the last one's end
 pub record HaveStood (slots : List Slot) (d : DumpRecordFields) (cs : List Lying) (last : Site) (old new : Joined) : Type 0 where
@@ -177,13 +176,11 @@ pub record HaveStood (slots : List Slot) (d : DumpRecordFields) (cs : List Lying
 abbrev pub TurnsAll : List Slot → DumpRecordFields → List Lying → Joined → Joined → Turn → Type 0
 TurnsAll slots d cs old new (turns.Whole last) = HaveStood slots d cs last old new
 TurnsAll slots d cs old new (turns.Bad site) = HasBadFrame slots d cs (spot_of site)
-TurnsAll slots d cs old new turns.Gone = ⊥
 
 -- what a volume's fragments in a dump give
 abbrev pub GivesSo : List Slot → DumpRecordFields → List Lying → Given → Type 0
 GivesSo slots d cs (given.Stream i) = Gives slots d cs (Ok i)
 GivesSo slots d cs (given.Bad site) = Gives slots d cs (Err (spot_of site))
-GivesSo slots d cs given.Gone = ⊥
 
 -- ---- a chain
 

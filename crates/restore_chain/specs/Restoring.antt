@@ -4,7 +4,7 @@ use Rattle.vnode_model.specs.declared.volumes.VolumeFields.{VolumeFields}
 use Rattle.vnode_model.specs.declared.increments.IncrementFields.{IncrementFields}
 use Rattle.budb_changes.specs.declared.records.DumpRecordFields.{DumpRecordFields}
 use Rattle.budb_fold.specs.Lookups.{VolumeDump}
-use Rattle.budb_fold.specs.Chains.{dump_of}
+use Rattle.budb_fold.specs.Chains.{dump_of, IsChain}
 use Rattle.tape_frames.specs.TapeNames.{numbered}
 use Rattle.tape_text.specs.Wholes.{Lying}
 use Rattle.tape_scan.specs.Slots.{Slot}
@@ -32,6 +32,24 @@ Tells IsSo (Err faults.TooLarge) = IsSo (Err Large)
 Tells IsSo (Err faults.Failed) = Unit {0}
 Tells IsSo (Err faults.Memory) = Unit {0}
 
+-- what a play may answer at all: nothing that a plan refuses
+abbrev pub IsPlayAnswer : Result VolumeFields RestoreFault → Type 0
+IsPlayAnswer (Ok volume) = Unit {0}
+IsPlayAnswer (Err faults.NoDump) = ⊥
+IsPlayAnswer (Err (faults.MissingDump id)) = ⊥
+IsPlayAnswer (Err (faults.MissingTape name initial)) = ⊥
+IsPlayAnswer (Err (faults.BaseLacks number)) = Unit {0}
+IsPlayAnswer (Err (faults.BadOnTape tape place)) = Unit {0}
+IsPlayAnswer (Err faults.TooLarge) = Unit {0}
+IsPlayAnswer (Err faults.Failed) = Unit {0}
+IsPlayAnswer (Err faults.Memory) = Unit {0}
+
+-- A plan's dumps are a chain among these listed ones, whatever the slots are.
+pub record IsChained (listed : List DumpRecordFields) (plan : ChainPlan) : Type 0 where
+  pub one : VolumeDump
+  pub name : plan.name ≡ one.volume.name
+  pub chain : IsChain listed one.dump.id one.volume.name (Ok plan.dumps)
+
 -- A plan is one of these listed dumps and these slots: for some dump and volume it is what a plan answers.
 abbrev pub IsPlanOf : List Slot → List DumpRecordFields → ChainPlan → Type 0
 IsPlanOf slots listed plan = (one : VolumeDump) × PlansChain slots listed one plan
@@ -57,9 +75,13 @@ abbrev pub PlaysFrags : List Slot → DumpRecordFields → List Lying → Option
 PlaysFrags slots d cs base outcome =
     (given : Result IncrementFields Spot) × Gives slots d cs given × after_given d base given (λ volume. IsMade (Some volume) outcome) outcome
 
+-- the dumps of these ids are listed and have the volume
+abbrev pub AreDumped : List DumpRecordFields → List ℕ → List ℕ → Type 0
+AreDumped listed name ids = All (λ i. (d : VolumeDump) × (dump_of listed name i ≡ Some d)) ids
+
 -- The dumps of these ids have the volume, and these are the tapes that they are played from, with the slots that hold them.
 pub record AreReady (slots : List Slot) (listed : List DumpRecordFields) (name ids : List ℕ) (tapes : List TapeNeed) : Type 0 where
-  pub there : All (λ i. (d : VolumeDump) × (dump_of listed name i ≡ Some d)) ids
+  pub there : AreDumped listed name ids
   pub held : map (located slots) (needs listed ids name) ≡ map Some tapes
 
 -- So many dumps of a chain were played: they made this volume, these tapes are left, and what the dumps that are left give over it

@@ -7,6 +7,7 @@ ghost use Rattle.tape_scan.specs.Slots.{Slot};
 ghost use Rattle.tape_scan.specs.Looking.{HasSlots, Loads, LeavesLoads, LooksAt};
 ghost use Rattle.tape_frames.specs.TapeNames.{numbered};
 ghost use Rattle.restore_chain.specs.Planning.{located, LocatesNext, Locates, answered, AnswersChain, PlansOne, Plans, IsPlanAnswer, restore_fault};
+ghost use Rattle.restore_chain.specs.Restoring.{IsChained};
 
 use crate::chain_plan::{ChainPlan, TapeNeed};
 use crate::fault::{LookFault, RestoreFault};
@@ -138,6 +139,7 @@ fn plan_chain<P: Plant>(
 ) -> Result<ChainPlan, RestoreFault>
     requires { P.sound plant.old }
     ensures planned { P.tells → (slots : AnyList Slot) → HasSlots P.Plant slots plant.old → AnswersChain slots budb.now.database.listed name.now dumps result }
+    ensures kept { IfOk result (λ plan. (plan.name ≡ name.now) × (plan.dumps ≡ dumps)) }
     ensures only { IsPlanAnswer result }
     ensures looks { LooksAt P.Plant RestoreFault.Failed plant.old plant.new result }
 {
@@ -162,6 +164,7 @@ fn plan_one<P: Plant>(
 ) -> Result<ChainPlan, RestoreFault>
     requires { P.sound plant.old }
     ensures planned { P.tells → (slots : AnyList Slot) → HasSlots P.Plant slots plant.old → PlansOne slots budb.now.database.listed one.now result }
+    ensures chained { IfOk result (IsChained budb.now.database.listed) }
     ensures only { IsPlanAnswer result }
     ensures looks { LooksAt P.Plant RestoreFault.Failed plant.old plant.new result }
 {
@@ -186,6 +189,7 @@ pub fn plan<P: Plant>(
 ) -> Result<ChainPlan, RestoreFault>
     requires { P.sound plant.old }
     ensures planned { P.tells → (slots : AnyList Slot) → HasSlots P.Plant slots plant.old → Plans slots budb.now.database.listed name.now before result }
+    ensures chained { IfOk result (IsChained budb.now.database.listed) }
     ensures only { IsPlanAnswer result }
     ensures done { result ≢ Err RestoreFault.Failed → Loads P.Plant plant.old plant.new }
     ensures leaves { LeavesLoads P.Plant plant.old plant.new }

@@ -6,7 +6,7 @@ ghost use Rattle.plant_effects.specs.Runs.{StaysQuiet};
 ghost use Rattle.tape_scan.specs.Slots.{Slot};
 ghost use Rattle.archive_model.specs.Plays.{Plays};
 ghost use Rattle.tape_scan.specs.Looking.{HasSlots, Loads, LeavesLoads, LooksAt};
-ghost use Rattle.restore_chain.specs.Restoring.{Tells, IsPlanOf, PlaysPlan, AreReady};
+ghost use Rattle.restore_chain.specs.Restoring.{Tells, IsPlayAnswer, IsChained, IsPlanOf, PlaysPlan, AreDumped, AreReady};
 
 use crate::chain_plan::{ChainPlan, TapeNeed};
 use crate::fault::RestoreFault;
@@ -27,6 +27,7 @@ fn play_chain<P: Plant>(
 ) -> Result<Volume, RestoreFault>
     requires { P.sound plant.old }
     ensures plays { P.tells → (slots : AnyList Slot) → HasSlots P.Plant slots plant.old → 0 < length ids.now → AreReady slots budb.now.database.listed name.now ids.now tapes.now → Tells (Plays slots budb.now.database.listed ids.now name.now) result }
+    ensures only { 0 < length ids.now → AreDumped budb.now.database.listed name.now ids.now → IsPlayAnswer result }
     ensures looks { LooksAt P.Plant RestoreFault.Failed plant.old plant.new result }
 {
     let mut base = None;
@@ -50,7 +51,8 @@ fn play_chain<P: Plant>(
 /// stands on them. The plan is one that `plan` gave for this database and these tapes. The first dump that has a fault is told:
 /// the first record that isn't what the database calls for, else the record at which a volume's data stops being a stream, else
 /// the first vnode that the dump keeps and the volume so far lacks, else that the volume would be too large (this project's
-/// rules). Tapes are loaded, and nothing is written. Under another plan a dump that isn't as planned may be told missing.
+/// rules). Tapes are loaded, and nothing is written. Of a plan that `plan` gave for this database nothing else is told, whatever
+/// the tapes are. Under another plan a dump that isn't listed may be told missing.
 pub fn play<P: Plant>(
     alloc: Global,
     plan: &ChainPlan,
@@ -59,6 +61,7 @@ pub fn play<P: Plant>(
 ) -> Result<Volume, RestoreFault>
     requires { P.sound plant.old }
     ensures played { P.tells → (slots : AnyList Slot) → HasSlots P.Plant slots plant.old → IsPlanOf slots budb.now.database.listed plan.now → PlaysPlan slots budb.now.database.listed plan.now result }
+    ensures only { IsChained budb.now.database.listed plan.now → IsPlayAnswer result }
     ensures done { result ≢ Err RestoreFault.Failed → Loads P.Plant plant.old plant.new }
     ensures leaves { LeavesLoads P.Plant plant.old plant.new }
     ensures stays { StaysQuiet P.Plant plant.old plant.new }

@@ -13,7 +13,7 @@ ghost use Rattle.archive_model.specs.Plays.{PlaysOver};
 ghost use Rattle.tape_scan.specs.Looking.{HasSlots, LooksAt};
 ghost use Rattle.restore_chain.specs.Planning.{needs_in};
 ghost use Rattle.restore_chain.specs.Playing.{AreHeld, GivesSo};
-ghost use Rattle.restore_chain.specs.Restoring.{Tells, IsBadAt, PlaysFrags};
+ghost use Rattle.restore_chain.specs.Restoring.{Tells, IsPlayAnswer, IsBadAt, PlaysFrags};
 
 use crate::chain_plan::TapeNeed;
 use crate::fault::{LookFault, RestoreFault};
@@ -50,14 +50,12 @@ fn answer_given(
     base: Option<Volume>,
 ) -> Result<Volume, RestoreFault>
     ensures plays { (slots : AnyList Slot) (cs : AnyList Lying) → GivesSo slots dump.now cs given → Tells (PlaysFrags slots dump.now cs base) result }
+    ensures only { IsPlayAnswer result }
     ensures never { result ≢ Err RestoreFault.Failed }
 {
     match given {
         Given::Stream(increment) => apply_next(alloc, base, increment),
         Given::Bad(site) => Err(bad_on_tape(alloc, dump, site)),
-        Given::Gone => Err(RestoreFault::MissingDump {
-            id: dump.fields().id,
-        }),
     }
 }
 
@@ -101,6 +99,7 @@ fn play_placed<P: Plant>(
     requires sound { P.sound plant.old }
     requires within { place < length dump.now.volumes }
     ensures plays { P.tells → (slots : AnyList Slot) (v : AnyVolume) → HasSlots P.Plant slots plant.old → slice_get dump.now.volumes place ≡ Some v → AreHeld slots dump.now (called_of dump.now.id (place, v)) needs.now → Tells (PlaysFrags slots dump.now (called_of dump.now.id (place, v)) base) result }
+    ensures only { IsPlayAnswer result }
     ensures looks { LooksAt P.Plant RestoreFault.Failed plant.old plant.new result }
 {
     let index = index_of(dump, place);
@@ -122,6 +121,7 @@ fn play_dump<P: Plant>(
 ) -> Result<Volume, RestoreFault>
     requires { P.sound plant.old }
     ensures plays { P.tells → (slots : AnyList Slot) (v : AnyVolume) → HasSlots P.Plant slots plant.old → volume_of dump.now name.now ≡ Some v → AreHeld slots dump.now (called_for dump.now name.now) needs.now → Tells (PlaysOver slots name.now base (dump.now ∷ [])) result }
+    ensures only { (v : AnyVolume) → volume_of dump.now name.now ≡ Some v → IsPlayAnswer result }
     ensures looks { LooksAt P.Plant RestoreFault.Failed plant.old plant.new result }
 {
     match volume_place(dump, name) {
@@ -133,7 +133,7 @@ fn play_dump<P: Plant>(
 }
 
 /// Plays the listed dump of an id over the volume so far, from the tapes that the needs name: one for each fragment, and maybe
-/// more behind. A dump that isn't listed, lacks the volume or has no slot planned here for a tape is told missing.
+/// more behind. A dump that isn't listed or lacks the volume is told missing.
 pub(crate) fn play_listed<P: Plant>(
     alloc: Global,
     plant: &mut P,
@@ -145,6 +145,7 @@ pub(crate) fn play_listed<P: Plant>(
 ) -> Result<Volume, RestoreFault>
     requires { P.sound plant.old }
     ensures plays { P.tells → (slots : AnyList Slot) (d : AnyDump) (v : AnyVolume) → HasSlots P.Plant slots plant.old → record_of budb.now.database.listed id ≡ Some d → volume_of d name.now ≡ Some v → AreHeld slots d (called_for d name.now) needs.now → Tells (PlaysOver slots name.now base (d ∷ [])) result }
+    ensures only { (d : AnyDump) (v : AnyVolume) → record_of budb.now.database.listed id ≡ Some d → volume_of d name.now ≡ Some v → IsPlayAnswer result }
     ensures looks { LooksAt P.Plant RestoreFault.Failed plant.old plant.new result }
 {
     match budb.record(id) {

@@ -30,8 +30,6 @@ pub enum Turn {
     Whole(Site),
     /// This is the first record that isn't what is called for.
     Bad(Site),
-    /// No slot here is planned for a tape.
-    Gone,
 }
 
 /// What a volume of a dump gives.
@@ -41,8 +39,6 @@ pub enum Given {
     Stream(Increment),
     /// A record that isn't what is called for.
     Bad(Site),
-    /// No slot here is planned for a tape.
-    Gone,
 }
 
 /// How many fragments a volume has.
@@ -133,7 +129,8 @@ fn play_on<P: Plant>(
     }
 }
 
-/// Plays the fragment of a volume that has a place in its record.
+/// Plays the fragment of a volume that has a place in its record. Where the slot that is planned for its tape isn't here, its first
+/// record isn't what is called for.
 fn play_frag<P: Plant>(
     alloc: Global,
     plant: &mut P,
@@ -155,10 +152,11 @@ fn play_frag<P: Plant>(
     match called_frag(alloc, id, index, volume, place) {
         Err(_) => Err(LookFault::Memory),
         Ok(called) => {
-            if !plant.here(need.slot) {
-                return Ok(Turn::Gone);
-            }
             let tape = called.tape;
+            if !plant.here(need.slot) {
+                let place = called.at;
+                return Ok(Turn::Bad(Site { tape, place }));
+            }
             match play_on(alloc, plant, need.slot, &called, joined) {
                 Err(fault) => Err(fault),
                 Ok(ended) => match ended {
@@ -177,7 +175,7 @@ fn need_at(needs: &[TapeNeed], place: usize) -> Option<&TapeNeed>
     needs.get(place)
 }
 
-/// Plays all fragments of a volume.
+/// Plays all fragments of a volume. Where no slot is planned for a tape, its first record isn't what is called for.
 fn play_frags<P: Plant>(
     alloc: Global,
     plant: &mut P,
@@ -197,7 +195,13 @@ fn play_frags<P: Plant>(
     let count = frag_count(volume) as u32;
     for place in 0..count {
         match need_at(needs, place as usize) {
-            None => return Ok(Turn::Gone),
+            None => {
+                let frag = frag_at(volume, place as usize);
+                return Ok(Turn::Bad(Site {
+                    tape: frag.tape,
+                    place: frag.at,
+                }));
+            }
             Some(need) => match play_frag(alloc, plant, id, index, volume, place, need, joined) {
                 Err(fault) => return Err(fault),
                 Ok(turn) => match turn {
@@ -205,7 +209,6 @@ fn play_frags<P: Plant>(
                         last = site;
                     }
                     Turn::Bad(site) => return Ok(Turn::Bad(site)),
-                    Turn::Gone => return Ok(Turn::Gone),
                 },
             },
         }
@@ -234,7 +237,6 @@ pub(crate) fn play_volume<P: Plant>(
     match play_frags(alloc, plant, id, index, volume, needs, &mut joined) {
         Err(fault) => Err(fault),
         Ok(turn) => match turn {
-            Turn::Gone => Ok(Given::Gone),
             Turn::Bad(site) => Ok(Given::Bad(site)),
             Turn::Whole(end) => match joined.finish(end) {
                 Ok(increment) => Ok(Given::Stream(increment)),

@@ -14,6 +14,9 @@ use Rattle.restore_chain.proofs.play_dump.play_dump.Goals as goal
 pub returns-in-None-clause-plays : goal.returns-in-None-clause-plays
 returns-in-None-clause-plays g c = λ told slots v has named held. absurd (none_placed c.args.name.now c.args.dump.now.volumes v (sym c.in-None.ensures) named)
 
+pub returns-in-None-clause-only : goal.returns-in-None-clause-only
+returns-in-None-clause-only g c = λ v named. absurd (none_placed c.args.name.now c.args.dump.now.volumes v (sym c.in-None.ensures) named)
+
 pub returns-in-None-clause-looks : goal.returns-in-None-clause-looks
 returns-in-None-clause-looks g c =
     looks_none g.P.Plant faults.Failed c.args.plant.now (Err (faults.MissingDump c.fields.result.now.id)) c.requires (λ told survives x left. g.met.P.Plant.left c.args.plant.now x told c.requires survives left) (λ is. absurd (cc))
@@ -31,3 +34,6 @@ returns-in-Some-clause-plays g c = λ told slots v has named held.
     tells_so (PlaysFrags slots d (called_of d.id (place, w.0)) c.args.base) (PlaysOver slots name c.args.base (d ∷ [])) c.play_placed.result
     (λ outcome plays. subst (λ (l : List Lying). PlaysFrags slots d l c.args.base outcome) (sym called) plays)
     (c.play_placed.ensures.plays told slots w.0 has w.1 (subst (λ (l : List Lying). AreHeld slots d l c.args.needs.now) called held))
+
+pub returns-in-Some-clause-only : goal.returns-in-Some-clause-only
+returns-in-Some-clause-only g c = λ v named. c.play_placed.ensures.only

@@ -13,6 +13,9 @@ use Rattle.restore_chain.proofs.play_dump.play_listed.Goals as goal
 pub returns-in-None-clause-plays : goal.returns-in-None-clause-plays
 returns-in-None-clause-plays g c = λ told slots d v has is named held. (let none : Some d ≡ None = sym is ∙ sym c.in-None.ensures in absurd (cc))
 
+pub returns-in-None-clause-only : goal.returns-in-None-clause-only
+returns-in-None-clause-only g c = λ d v is named. (let none : Some d ≡ None = sym is ∙ sym c.in-None.ensures in absurd (cc))
+
 pub returns-in-None-clause-looks : goal.returns-in-None-clause-looks
 returns-in-None-clause-looks g c =
     looks_none g.P.Plant faults.Failed c.args.plant.now (Err (faults.MissingDump c.args.id)) c.requires (λ told survives x left. g.met.P.Plant.left c.args.plant.now x told c.requires survives left) (λ is. absurd (cc))
@@ -24,3 +27,9 @@ returns-in-Some-clause-plays g c = λ told slots d v has is named held.
     subst (λ (x : DumpRecordFields). Tells (PlaysOver slots name c.args.base (x ∷ [])) c.play_dump.result) same
     (c.play_dump.ensures.plays told slots v has (subst (λ (x : DumpRecordFields). volume_of x name ≡ Some v) (sym same) named)
     (subst (λ (x : DumpRecordFields). AreHeld slots x (called_for x name) c.args.needs.now) (sym same) held))
+
+pub returns-in-Some-clause-only : goal.returns-in-Some-clause-only
+returns-in-Some-clause-only g c = λ d v is named.
+    let name = c.args.name.now in
+    let same : c.in-Some.dump.now ≡ d = one_there (record_of c.args.budb.now.database.listed c.args.id) c.in-Some.dump.now d (sym c.in-Some.ensures) is in
+    c.play_dump.ensures.only v (subst (λ (x : DumpRecordFields). volume_of x name ≡ Some v) (sym same) named)

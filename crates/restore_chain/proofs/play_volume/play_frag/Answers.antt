@@ -14,7 +14,8 @@ returns-in-Err-clause-looks g c =
 
 pub returns-then-not-here-clause-looks : goal.returns-then-not-here-clause-looks
 returns-then-not-here-clause-looks g c =
-    looks_none g.P.Plant Failed c.args.plant.now (Ok turns.Gone) c.requires.sound (λ told survives x left. g.met.P.Plant.left c.args.plant.now x told c.requires.sound survives left) (λ is. absurd (cc))
+    looks_none g.P.Plant Failed c.args.plant.now (Ok (turns.Bad (record { tape = c.in-Ok.called.tape; place = c.in-Ok.called.at }))) c.requires.sound
+    (λ told survives x left. g.met.P.Plant.left c.args.plant.now x told c.requires.sound survives left) (λ is. absurd (cc))
 
 pub returns-then-not-here-clause-turns : goal.returns-then-not-here-clause-turns
 returns-then-not-here-clause-turns g c = λ told slots d call s has there held.

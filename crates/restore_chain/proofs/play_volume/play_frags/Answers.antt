@@ -31,7 +31,8 @@ returns-in-None-clause-turns g c = λ told slots d has held.
 pub returns-in-None-clause-looks : goal.returns-in-None-clause-looks
 returns-in-None-clause-looks g c =
     let so_far = c.loop-place.invariant in
-    looks_well g.P.Plant Failed c.args.plant.now c.loop-place.plant (Ok turns.Gone) so_far.loads so_far.stays so_far.faults (λ is. absurd (cc))
+    let frag = c.frag_at-frag.result in
+    looks_well g.P.Plant Failed c.args.plant.now c.loop-place.plant (Ok (turns.Bad (record { tape = frag.tape; place = frag.at }))) so_far.loads so_far.stays so_far.faults (λ is. absurd (cc))
 
 pub returns-in-Err-clause-looks : goal.returns-in-Err-clause-looks
 returns-in-Err-clause-looks g c =
@@ -40,12 +41,6 @@ returns-in-Err-clause-looks g c =
 
 pub returns-in-Bad-clause-looks : goal.returns-in-Bad-clause-looks
 returns-in-Bad-clause-looks g c =
-    let so_far = c.loop-place.invariant in
-    looks_ok g.P.Plant Failed c.in-Ok.turn _ c.args.plant.now c.play_frag.new.plant
-    (looks_after g.P.Plant Failed c.args.plant.now c.loop-place.plant c.play_frag.new.plant (Ok c.in-Ok.turn) so_far.loads so_far.stays so_far.faults c.in-Ok.ensures.looks)
-
-pub returns-in-Gone-clause-looks : goal.returns-in-Gone-clause-looks
-returns-in-Gone-clause-looks g c =
     let so_far = c.loop-place.invariant in
     looks_ok g.P.Plant Failed c.in-Ok.turn _ c.args.plant.now c.play_frag.new.plant
     (looks_after g.P.Plant Failed c.args.plant.now c.loop-place.plant c.play_frag.new.plant (Ok c.in-Ok.turn) so_far.loads so_far.stays so_far.faults c.in-Ok.ensures.looks)
@@ -60,16 +55,6 @@ returns-in-Bad-clause-turns g c = λ told slots d has held.
     let turn = c.in-Ok.ensures.turns told slots d at.0 at.2 (slots_later P slots c.args.plant.now c.loop-place.plant so_far.loads so_far.stays told has) at.1 at.3 in
     bad_turn slots d cs c.loop-place.place at.0 c.loop-place.last c.in-Bad.site c.args.joined.now c.loop-place.joined c.play_frag.new.joined at.1 (so_far.stood told slots d has held)
     (subst (λ (t : Turn). Turns slots d at.0 c.loop-place.joined c.play_frag.new.joined t) c.in-Bad.is turn)
-
-pub returns-in-Gone-clause-turns : goal.returns-in-Gone-clause-turns
-returns-in-Gone-clause-turns g c = λ told slots d has held.
-    let P = g.P.Plant in
-    let so_far = c.loop-place.invariant in
-    let cs = called_frags c.args.id c.args.index 1 c.args.volume.now c.args.volume.now.frags in
-    let lt : c.loop-place.place < length cs = omega (arith, c.loop-place-test.true, c.frag_count-count.ensures.count, length_called c.args.id c.args.index 1 c.args.volume.now c.args.volume.now.frags) in
-    let at = held_at slots d cs c.args.needs.now c.loop-place.place c.in-Some.need.now held lt (sym c.in-Some.ensures) in
-    let turn = c.in-Ok.ensures.turns told slots d at.0 at.2 (slots_later P slots c.args.plant.now c.loop-place.plant so_far.loads so_far.stays told has) at.1 at.3 in
-    subst (λ (t : Turn). Turns slots d at.0 c.loop-place.joined c.play_frag.new.joined t) c.in-Gone.is turn
 
 pub loop-place-preserved : goal.loop-place-preserved
 loop-place-preserved g c =

@@ -11,9 +11,6 @@ use Rattle.restore_chain.proofs.play_volume.play_volume.Goals as goal
 pub returns-in-Err-clause-looks : goal.returns-in-Err-clause-looks
 returns-in-Err-clause-looks g c = looks_err g.P.Plant Failed c.in-Err.fault c.args.plant.now c.play_frags.new.plant c.in-Err.ensures.looks
 
-pub returns-in-Gone-clause-looks : goal.returns-in-Gone-clause-looks
-returns-in-Gone-clause-looks g c = looks_ok g.P.Plant Failed c.in-Ok.turn _ c.args.plant.now c.play_frags.new.plant c.in-Ok.ensures.looks
-
 pub returns-in-Bad-clause-looks : goal.returns-in-Bad-clause-looks
 returns-in-Bad-clause-looks g c = looks_ok g.P.Plant Failed c.in-Ok.turn _ c.args.plant.now c.play_frags.new.plant c.in-Ok.ensures.looks
 
@@ -22,11 +19,6 @@ returns-in-Ok-finish-clause-looks g c = looks_ok g.P.Plant Failed c.in-Ok.turn _
 
 pub returns-in-Err-finish-clause-looks : goal.returns-in-Err-finish-clause-looks
 returns-in-Err-finish-clause-looks g c = looks_ok g.P.Plant Failed c.in-Ok.turn _ c.args.plant.now c.play_frags.new.plant c.in-Ok.ensures.looks
-
-pub returns-in-Gone-clause-gives : goal.returns-in-Gone-clause-gives
-returns-in-Gone-clause-gives g c = λ told slots d has held.
-    let cs = called_frags c.args.id c.args.index 1 c.args.volume.now c.args.volume.now.frags in
-    subst (λ (t : Turn). TurnsAll slots d cs c.new-joined.result c.play_frags.new.joined t) c.in-Gone.is (c.in-Ok.ensures.turns told slots d has held)
 
 pub returns-in-Bad-clause-gives : goal.returns-in-Bad-clause-gives
 returns-in-Bad-clause-gives g c = λ told slots d has held.
