@@ -1,0 +1,229 @@
+//! What is so of every command by the types of its fields: laws that take it by reference, since there is nothing to find out.
+
+ghost use Rattle.std.specs.Prelude.{All, IfSome};
+ghost use Rattle.bk_text.specs.Alphabets.{IsName, IsHost, IsSetName, IsTapeName};
+ghost use Rattle.bk_text.specs.LevelPaths.{IsLevelPath};
+ghost use Rattle.byte_formats.specs.Forms.{IsTwo, IsFour, IsAnyOr};
+ghost use Rattle.budb_changes.specs.Printable.{IsPatternBytes};
+ghost use Rattle.budb_changes.specs.Forms.{IsExpiry};
+ghost use Rattle.dump_stream.specs.Forms.{IsBytes};
+ghost use Rattle.command_forms.specs.Forms.{HasForms};
+
+use backup_words::Command;
+use bk_text::{Bytes, Expiry, Host, LevelPath, Name, Part, SetName, TapeName};
+use volume_sets::Pattern;
+
+fn short_is_formed(number: u16)
+    ensures { IsTwo number }
+{}
+
+fn number_is_formed(number: u32)
+    ensures { IsFour number }
+{}
+
+fn bytes_are_formed(bytes: &[u8])
+    ensures { IsBytes bytes.now }
+{
+    let _bytes = bytes;
+}
+
+fn text_is_formed(text: &Option<Bytes>)
+    ensures { IfSome text.now IsBytes }
+{
+    match text {
+        None => {}
+        Some(text) => bytes_are_formed(text.as_slice()),
+    }
+}
+
+fn name_is_formed(name: &Name)
+    ensures { IsName name.now }
+{
+    let _bytes = name.bytes();
+}
+
+fn set_is_formed(name: &SetName)
+    ensures { IsSetName name.now }
+{
+    let _bytes = name.bytes();
+}
+
+fn host_is_formed(host: &Host)
+    ensures { IsHost host.now }
+{
+    let _bytes = host.bytes();
+}
+
+fn any_host_is_formed(host: &Option<Host>)
+    ensures any { IsAnyOr IsHost host.now }
+    ensures some { IfSome host.now IsHost }
+{
+    match host {
+        None => {}
+        Some(host) => host_is_formed(host),
+    }
+}
+
+fn part_is_formed(partition: &Part)
+    ensures { IsName partition.now }
+{
+    let _bytes = partition.bytes();
+}
+
+fn any_part_is_formed(partition: &Option<Part>)
+    ensures any { IsAnyOr IsName partition.now }
+    ensures some { IfSome partition.now IsName }
+{
+    match partition {
+        None => {}
+        Some(partition) => part_is_formed(partition),
+    }
+}
+
+fn pattern_is_formed(pattern: &Pattern)
+    ensures { IsPatternBytes pattern.now }
+{
+    let _bytes = pattern.bytes();
+}
+
+fn tape_is_formed(name: &Option<TapeName>)
+    ensures { IfSome name.now IsTapeName }
+{
+    match name {
+        None => {}
+        Some(name) => {
+            let _bytes = name.bytes();
+        }
+    }
+}
+
+fn level_is_formed(level: &LevelPath)
+    ensures { IsLevelPath level.now }
+{
+    let _bytes = level.bytes();
+}
+
+fn levels_are_formed(levels: &[LevelPath])
+    ensures { All IsLevelPath levels.now }
+{
+    for level in levels {
+        level_is_formed(level);
+    }
+}
+
+fn expiry_is_formed(expiry: Expiry)
+    ensures { IsExpiry expiry }
+{
+    match expiry {
+        Expiry::Unset => {}
+        Expiry::Never => {}
+        Expiry::At(moment) => number_is_formed(moment),
+        Expiry::In {
+            years,
+            months,
+            days,
+        } => {
+            short_is_formed(years);
+            short_is_formed(months);
+            short_is_formed(days);
+        }
+    }
+}
+
+/// The fields of a command have the forms in which the journal, tapes and the cell write them, whoever made the command: their types
+/// allow no others. So no line is needed to know so.
+pub fn commands_have_forms(command: &Command)
+    ensures { HasForms command.now }
+{
+    match command {
+        Command::Addvolset { name } => set_is_formed(name),
+        Command::Delvolset { name } => set_is_formed(name),
+        Command::Addvolentry {
+            name,
+            server,
+            partition,
+            volumes,
+        } => {
+            set_is_formed(name);
+            any_host_is_formed(server);
+            any_part_is_formed(partition);
+            pattern_is_formed(volumes);
+        }
+        Command::Delvolentry { name, entry } => {
+            set_is_formed(name);
+            number_is_formed(*entry);
+        }
+        Command::Listvolsets { .. } => {}
+        Command::Adddump { dump, expires } => {
+            levels_are_formed(dump.as_slice());
+            expiry_is_formed(*expires);
+        }
+        Command::Setexp { dump, expires } => {
+            levels_are_formed(dump.as_slice());
+            expiry_is_formed(*expires);
+        }
+        Command::Deldump { dump } => level_is_formed(dump),
+        Command::Listdumps => {}
+        Command::Listhosts => {}
+        Command::Checkpoint => {}
+        Command::Addhost {
+            tapehost,
+            portoffset,
+        } => {
+            host_is_formed(tapehost);
+            short_is_formed(*portoffset);
+        }
+        Command::Delhost { portoffset, .. } => short_is_formed(*portoffset),
+        Command::Labeltape { name, pname, .. } => {
+            tape_is_formed(name);
+            tape_is_formed(pname);
+        }
+        Command::Readlabel { .. } => {}
+        Command::Scantape { .. } => {}
+        Command::Dump {
+            volumeset, dump, ..
+        } => {
+            set_is_formed(volumeset);
+            level_is_formed(dump);
+        }
+        Command::Deletedump { dumpid } => number_is_formed(*dumpid),
+        Command::Dumpinfo { .. } => {}
+        Command::Volinfo { .. } => {}
+        Command::Volrestore {
+            server, partition, ..
+        } => {
+            host_is_formed(server);
+            part_is_formed(partition);
+        }
+        Command::Diskrestore {
+            server,
+            partition,
+            newserver,
+            newpartition,
+            ..
+        } => {
+            host_is_formed(server);
+            part_is_formed(partition);
+            any_host_is_formed(newserver);
+            any_part_is_formed(newpartition);
+        }
+        Command::Volsetrestore { .. } => {}
+        Command::VosCreate {
+            server,
+            partition,
+            name,
+        } => {
+            host_is_formed(server);
+            part_is_formed(partition);
+            name_is_formed(name);
+        }
+        Command::VosWrite { vnode, text, .. } => {
+            number_is_formed(*vnode);
+            text_is_formed(text);
+        }
+        Command::VosRmvnode { .. } => {}
+        Command::VosBackup { .. } => {}
+        Command::VosRemove { .. } => {}
+        Command::VosListvol => {}
+    }
+}
