@@ -173,7 +173,8 @@ has_volume listed name id x is = by_record (record_of listed id) refl is
     by_record (Some d) found has = by_volume d (volume_of d name) found refl has
 
 -- each of the dumps has the volume
-pub dumped_at : (listed : List DumpRecordFields) (name ids : List ℕ) (i : ℕ) → i < length ids → AreDumped listed name ids → HasVolume listed name (get_or ids i 0)
+pub dumped_at : (listed : List DumpRecordFields) (name ids : List ℕ) (i : ℕ) → i < length ids → AreDumped listed name ids
+    → HasVolume listed name (get_or ids i 0)
 dumped_at listed name [] i within are = absurd (omega (arith, within))
 dumped_at listed name (id ∷ ids) zero within are =
     let HasIt : ℕ → Type 0 = λ i. (x : VolumeDump) × (dump_of listed name i ≡ Some x) in
@@ -282,8 +283,8 @@ plan_plays slots listed ls plan ids name tapes r same_listed same_ids same_name 
     fourth (some_dumps listed one.dump.id one.volume.name plan.dumps plans.chain) (plan_ready slots listed plan one plans)
 
 -- the same of what a play may answer at all
-pub plan_answers : (listed : List DumpRecordFields) (plan : ChainPlan) (ids name : List ℕ) (r : Result VolumeFields RestoreFault) → ids ≡ plan.dumps → name ≡ plan.name
-    → (0 < length ids → AreDumped listed name ids → IsPlayAnswer r) → IsChained listed plan → IsPlayAnswer r
+pub plan_answers : (listed : List DumpRecordFields) (plan : ChainPlan) (ids name : List ℕ) (r : Result VolumeFields RestoreFault)
+    → ids ≡ plan.dumps → name ≡ plan.name → (0 < length ids → AreDumped listed name ids → IsPlayAnswer r) → IsChained listed plan → IsPlayAnswer r
 plan_answers listed plan ids name r same_ids same_name answers chained =
     let first = subst (λ (x : List ℕ). 0 < length x → AreDumped listed name x → IsPlayAnswer r) same_ids answers in
     let second = subst (λ (x : List ℕ). 0 < length plan.dumps → AreDumped listed x plan.dumps → IsPlayAnswer r) (same_name ∙ chained.name) first in

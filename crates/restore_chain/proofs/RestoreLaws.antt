@@ -102,7 +102,8 @@ unfolding told_of
 told_ok v = refl
 
 pub clone_played : (stock : Stock) (a : Archive) (records : List DumpRecordFields) → Holds stock a records
-    → (name : List ℕ) (before : Option ℕ) (one : VolumeDump) (v : VolumeFields) → latest (listed_of a) name before ≡ Some one → a.contents one.dump.id one.volume.name ≡ Ok v
+    → (name : List ℕ) (before : Option ℕ) (one : VolumeDump) (v : VolumeFields) → latest (listed_of a) name before ≡ Some one
+    → a.contents one.dump.id one.volume.name ≡ Ok v
     → (plan : ChainPlan) (r : Result VolumeFields RestoreFault) → Plans a.slots (listed_of a) name before (Ok plan) → PlaysPlan a.slots (listed_of a) plan r
     → r ≢ Err faults.Failed → r ≢ Err faults.Memory → r ≡ Ok v
 clone_played stock a records holds name before one v found contents plan r plans plays failed memory =

@@ -14,7 +14,8 @@ returns-in-Ok-clause-planned g c = λ told slots has.
 
 pub returns-in-Ok-clause-chained : goal.returns-in-Ok-clause-chained
 returns-in-Ok-clause-chained g c =
-    chained_one c.args.budb.now.database.listed c.args.one.now c.fields-2.result.now.id c.fields.result.now.name c.bytes.result.now c.in-Ok.dumps c.plan_chain.result
+    chained_one c.args.budb.now.database.listed c.args.one.now c.fields-2.result.now.id c.fields.result.now.name c.bytes.result.now
+    c.in-Ok.dumps c.plan_chain.result
     (ap (λ (d : DumpRecordFields). d.id) c.fields-2.ensures.value ∙ ap (λ (o : VolumeDump). o.dump.id) c.one.view_is)
     (ap (λ (v : VolRecordFields). v.name) c.fields.ensures.value ∙ ap (λ (o : VolumeDump). o.volume.name) c.one.view_is)
     c.bytes.ensures.value c.in-Ok.ensures c.plan_chain.ensures.kept

@@ -32,7 +32,8 @@ pub returns-in-None-clause-looks : goal.returns-in-None-clause-looks
 returns-in-None-clause-looks g c =
     let so_far = c.loop-place.invariant in
     let frag = c.frag_at-frag.result in
-    looks_well g.P.Plant Failed c.args.plant.now c.loop-place.plant (Ok (turns.Bad (record { tape = frag.tape; place = frag.at }))) so_far.loads so_far.stays so_far.faults (λ is. absurd (cc))
+    looks_well g.P.Plant Failed c.args.plant.now c.loop-place.plant (Ok (turns.Bad (record { tape = frag.tape; place = frag.at })))
+    so_far.loads so_far.stays so_far.faults (λ is. absurd (cc))
 
 pub returns-in-Err-clause-looks : goal.returns-in-Err-clause-looks
 returns-in-Err-clause-looks g c =
