@@ -1,6 +1,8 @@
 -- What is known of the next line, by how its run was answered.
-use Rattle.std.proofs.Common.{◌≡◌, ◌≢◌, inl, inr, ℕ, ◌<◌, Bool, true, false, not, List, [], ◌∷◌, ◌++◌, length, refl, sym, ◌∙◌, ap, subst, append_assoc, Result, Ok, Err, IfOk, OnErr}
+use Rattle.std.proofs.Common.{◌≡◌, ◌≢◌, inl, inr, ℕ, ◌<◌, ◌≤◌, Bool, true, false, not, List, [], ◌∷◌, ◌++◌, length, All, refl, sym, ◌∙◌, ap, subst, append_assoc, Result, Ok, Err, IfOk, OnErr}
 use Rattle.std.specs.Str.Lines.{lines, strip_carriage_return}
+use Rattle.std.proofs.lemmas.List.{append-nil}
+use Rattle.std.proofs.lemmas.List.Elements.{All-nil}
 use Rattle.plant_core.specs.declared.plant.Plant.{Ghosts as Plant}
 use Rattle.cell_core.specs.declared.cell.Cell.{Ghosts as Cell}
 use Rattle.backup_session.specs.Worlds.{World}
@@ -9,10 +11,11 @@ use Rattle.backup_script.specs.declared.serving.Passed.{Passed}
 use Rattle.backup_script.specs.declared.running.RunStop.{RunStop}
 use Rattle.backup_script.specs.declared.serving.ServeStop.{ServeStop}
 use Rattle.backup_script.specs.declared.serving.ServeStop.TheVariants.{Read, TooLong}
-use Rattle.backup_script.specs.Lines.{is_quit, TookPiece}
+use Rattle.backup_script.specs.Lines.{is_feed, is_quit, TookPiece}
 use Rattle.backup_script.specs.Items.{item_of}
 use Rattle.backup_script.specs.Scripts.{one_line, script}
-use Rattle.backup_script.specs.Running.{Left, LineRan, LineLeft, ScriptRan, LinePassed, TakesNext}
+use Rattle.backup_script.specs.Running.{Left, LineRan, LineLeft, ScriptRan, LinePassed, TookEnd, TakesNext}
+use Rattle.backup_script.proofs.LineLaws.{none_ended, one_ended}
 use Rattle.backup_script.proofs.ServingLaws.{line_passed, line_ended, line_left, last_ran, last_left}
 
 pub flip : (b c : Bool) → b ≡ not c → b ≡ true → c ≡ false
@@ -25,17 +28,39 @@ flop b false is off = cc
 
 -- ---- what was taken
 
-pub took_line : (old new line : List ℕ) (taken : ℕ) (r : Result Passed ServeStop) → TookPiece old (10 ∷ new) line → IfOk r (λ passed. passed.goes ≡ not (is_quit (strip_carriage_return line))) → r ≢ Err Read → r ≢ Err TooLong → TakesNext old new taken r
-took_line old new line taken (Ok passed) took goes no_read no_long =
+pub took_line : (old new line : List ℕ) (taken : ℕ) (r : Result Passed ServeStop) → TookPiece old (10 ∷ new) line → IfOk r (λ passed. passed.goes ≡ not (is_quit (strip_carriage_return line))) → OnErr r (is_quit (strip_carriage_return line) ≡ false)
+    → r ≢ Err Read → r ≢ Err TooLong → TakesNext old new taken r
+took_line old new line taken (Ok passed) took goes other no_read no_long =
     (λ on. (line, took, flip passed.goes (is_quit (strip_carriage_return line)) goes on), λ off. inr (line, took, flop passed.goes (is_quit (strip_carriage_return line)) goes off))
-took_line old new line taken (Err stop) took goes no_read no_long = (
+took_line old new line taken (Err stop) took goes other no_read no_long = (
   line ++ 10 ∷ [],
   took.is ∙ sym (append_assoc line (10 ∷ []) new),
   λ short. elim short [
     | inl long ↦ absurd (no_long (ap (λ (e : ServeStop). Err e) long))
     | inr read ↦ absurd (no_read (ap (λ (e : ServeStop). Err e) read))
   ],
+  one_ended line took.plain other,
 )
+
+not_both : (b : Bool) → b ≡ true → b ≡ false → ⊥
+not_both true on off = cc
+not_both false on off = cc
+
+-- a last line, which no line feed has ended
+pub took_last : (old new line : List ℕ) (taken : ℕ) (r : Result Passed ServeStop) → TookPiece old [] line → new ≡ [] → taken ≤ 16777216 → IfOk r (λ passed. passed.goes ≡ false) → TakesNext old new taken r
+took_last old new line taken (Ok passed) took none few ends = (
+  λ on. absurd (not_both passed.goes on ends),
+  λ off. inl (none, few, subst (λ (l : List ℕ). All (λ b. is_feed b ≡ false) l) (sym (took.is ∙ append-nil line)) took.plain),
+)
+took_last old new line taken (Err stop) took none few ends = (line, took.is ∙ ap (λ (l : List ℕ). line ++ l) (sym none), λ short. took.plain, none_ended line took.plain)
+
+-- nothing was there
+pub took_none : (old new : List ℕ) (taken : ℕ) → (old ≡ []) × (new ≡ []) → taken ≤ 16777216 → TookEnd old new taken
+took_none old new taken (empty, none) few = inl (none, few, subst (λ (l : List ℕ). All (λ b. is_feed b ≡ false) l) (sym empty) (All-nil (λ b. is_feed b ≡ false)))
+
+-- the next line was taken in part
+pub took_cut : (old new : List ℕ) (taken : ℕ) (stop : ServeStop) → ((piece : List ℕ) × TookPiece old new piece) → TakesNext old new taken (Err stop)
+took_cut old new taken stop (piece, took) = (piece, took.is, λ short. took.plain, none_ended piece took.plain)
 
 -- ---- what was run
 

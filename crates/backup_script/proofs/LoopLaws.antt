@@ -11,13 +11,13 @@ use Rattle.cell_core.specs.declared.cell.Cell.{Ghosts as Cell}
 use Rattle.backup_session.specs.Worlds.{World}
 use Rattle.backup_session.specs.Views.{SessionView}
 use Rattle.backup_session.specs.Fitting.{Fits}
-use Rattle.backup_script.specs.Lines.{is_feed, is_quit, has_quit, TookPiece}
+use Rattle.backup_script.specs.Lines.{is_feed, ended, is_quit, has_quit, TookPiece}
 use Rattle.backup_script.specs.Scripts.{Outcome, nothing, then_outcome, script, between, IsStage}
 use Rattle.backup_script.specs.Held.{IsHeldThroughout}
-use Rattle.backup_script.specs.Running.{Went, Left, ScriptRan, LinePassed, Took, TookAll, TookToQuit, TookTooMany, WentShort, TookEnd, TakesNext, Takes, HasUsed}
+use Rattle.backup_script.specs.Running.{Went, Left, ScriptRan, LinePassed, Took, TookAll, TookToQuit, TookTooMany, TookToFault, WentShort, TookEnd, TakesNext, Takes, HasUsed}
 use Rattle.backup_script.specs.declared.serving.ServeStop.{ServeStop}
 use Rattle.backup_script.specs.declared.serving.ServeStop.TheVariants.{Read, Plant as PlantStop, Cell as CellStop, Output, TooLong, Memory}
-use Rattle.backup_script.proofs.LineLaws.{AreLines, no_lines, one_line_more, lines_cut, line_first, ended_first}
+use Rattle.backup_script.proofs.LineLaws.{AreLines, no_lines, one_line_more, lines_cut, line_first, ended_first, or_false}
 use Rattle.backup_script.proofs.ScriptLaws.{script_more}
 use Rattle.backup_script.proofs.HeldLaws.{held_behind}
 use Rattle.backup_script.proofs.StageLaws.{behind, stage_behind, stage_later, stage_last}
@@ -34,10 +34,6 @@ pub record Reading (input rest : List ℕ) (ran : List (List ℕ)) : Type 0 wher
 
 pub reading_starts : (input : List ℕ) → Reading input input []
 reading_starts input = record { bytes = []; is = refl; are = no_lines; no_quit = refl }
-
-or_false : (a b : Bool) → a ≡ false → b ≡ false → (a || b) ≡ false
-or_false true b is other = cc
-or_false false b is other = other
 
 pub reading_more : (input rest rest2 : List ℕ) (ran : List (List ℕ)) (line : List ℕ) → Reading input rest ran → TookPiece rest (10 ∷ rest2) line → is_quit (strip_carriage_return line) ≡ false → Reading input rest2 (ran ++ strip_carriage_return line ∷ [])
 reading_more input rest rest2 ran line so took not_quit = record {
@@ -76,10 +72,22 @@ module _ (input rest : List ℕ) (ran : List (List ℕ)) (so : Reading input res
         no_quit = ap has_quit (lines_cut so.bytes piece ran so.are plain) ∙ so.no_quit;
       }
 
+  pub took_to_fault : (new piece : List ℕ) (n : ℕ) → rest ≡ piece ++ new → has_quit (lines (ended piece)) ≡ false → length input ≡ length new + n → n ≤ 16777217 → TookToFault input new
+  unfolding took_more
+  took_to_fault new piece n is none count few = record {
+    took = took_more new piece n is count few;
+    no_quit = ap (λ (l : List ℕ). has_quit (lines l)) (so.are.ended piece) ∙ ap has_quit (so.are.lines (ended piece)) ∙ list_any-append is_quit ran (lines (ended piece))
+        ∙ or_false (has_quit ran) (has_quit (lines (ended piece))) so.no_quit none;
+  }
+
   pub took_end : (new : List ℕ) (n : ℕ) → TookEnd rest new n → length input ≡ length new + n → n ≤ 16777217 → TookAll input new ⊎ TookToQuit input new
   unfolding took_more
   took_end new n end count few = elim end [
-    | inl (none, most) ↦ inl (record { none_left = none; few = omega (arith, count, ap length none, most) })
+    | inl (none, most, plain) ↦ inl (record {
+      none_left = none;
+      few = omega (arith, count, ap length none, most);
+      no_quit = ap (λ (l : List ℕ). has_quit (lines (ended l))) so.is ∙ ap has_quit (lines_cut so.bytes rest ran so.are plain) ∙ so.no_quit;
+    })
     | inr (line, took, quits) ↦ inr (record {
       took = took_more new (line ++ 10 ∷ []) n (took.is ∙ sym (append_assoc line (10 ∷ []) new)) count few;
       whole = so.are.ended (line ++ 10 ∷ []) ∙ ap (λ (l : List ℕ). so.bytes ++ l) (ended_first line []);
@@ -205,12 +213,12 @@ module _ {D E : Type 0} (P : Plant D) (C : Cell E) where
 -- ---- what was taken at an end
 
 pub stop_takes : (input rest new : List ℕ) (ran : List (List ℕ)) (n : ℕ) (stop : ServeStop) → Reading input rest ran → TakesNext rest new n (Err stop) → length input ≡ length new + n → n ≤ 16777217 → (stop ≡ TooLong → n ≡ 16777217) → Takes input new (Err stop)
-stop_takes input rest new ran n TooLong so (piece, is, plain) count few long = took_too_many input rest ran so new piece is (plain (inl refl)) (omega (arith, count, long refl))
-stop_takes input rest new ran n Read so (piece, is, plain) count few long = took_more input rest ran so new piece n is count few
-stop_takes input rest new ran n PlantStop so (piece, is, plain) count few long = took_more input rest ran so new piece n is count few
-stop_takes input rest new ran n CellStop so (piece, is, plain) count few long = took_more input rest ran so new piece n is count few
-stop_takes input rest new ran n Output so (piece, is, plain) count few long = took_more input rest ran so new piece n is count few
-stop_takes input rest new ran n Memory so (piece, is, plain) count few long = took_more input rest ran so new piece n is count few
+stop_takes input rest new ran n TooLong so (piece, is, plain, none) count few long = took_too_many input rest ran so new piece is (plain (inl refl)) (omega (arith, count, long refl))
+stop_takes input rest new ran n Read so (piece, is, plain, none) count few long = took_to_fault input rest ran so new piece n is none count few
+stop_takes input rest new ran n PlantStop so (piece, is, plain, none) count few long = took_to_fault input rest ran so new piece n is none count few
+stop_takes input rest new ran n CellStop so (piece, is, plain, none) count few long = took_to_fault input rest ran so new piece n is none count few
+stop_takes input rest new ran n Output so (piece, is, plain, none) count few long = took_to_fault input rest ran so new piece n is none count few
+stop_takes input rest new ran n Memory so (piece, is, plain, none) count few long = took_to_fault input rest ran so new piece n is none count few
 
 -- ---- the moments of the clock
 

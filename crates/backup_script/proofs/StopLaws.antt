@@ -5,7 +5,7 @@ use Rattle.backup_script.specs.declared.running.RunStop.{RunStop}
 use Rattle.backup_script.specs.declared.running.RunStop.TheVariants as runs
 use Rattle.backup_script.specs.declared.serving.ServeStop.{ServeStop}
 use Rattle.backup_script.specs.declared.serving.ServeStop.TheVariants as serves
-use Rattle.backup_script.specs.Running.{Took, Takes}
+use Rattle.backup_script.specs.Running.{TookToFault, Takes}
 use Rattle.backup_script.specs.Ended.{TakesBytes}
 
 serve_same : (e f : ServeStop) → ◌≡◌ {A = Result Bool ServeStop} (Err e) (Err f) → e ≡ f
@@ -25,7 +25,7 @@ cause_told fault e told f before mid now on back same cause =
       stays = λ well. so_far.stays (λ is. well (ap Err (back (serve_same e fault is))));
     }
 
-took : (old new : List ℕ) (e : ServeStop) → (e ≡ serves.TooLong → ⊥) → Takes old new (Err e) → Took old new
+took : (old new : List ℕ) (e : ServeStop) → (e ≡ serves.TooLong → ⊥) → Takes old new (Err e) → TookToFault old new
 took old new serves.Read short takes = takes
 took old new serves.Plant short takes = takes
 took old new serves.Cell short takes = takes

@@ -15,7 +15,7 @@ use Rattle.backup_script.specs.declared.running.RunStop.{RunStop}
 use Rattle.backup_script.specs.declared.running.RunStop.TheVariants.{Read, Plant as PlantStop, Cell as CellStop, Output, TooLong, BadLog, Memory}
 use Rattle.backup_script.specs.Lines.{ended}
 use Rattle.backup_script.specs.Scripts.{Outcome, script}
-use Rattle.backup_script.specs.Running.{Took, TookAll, TookToQuit, TookTooMany}
+use Rattle.backup_script.specs.Running.{Took, TookAll, TookToQuit, TookTooMany, TookToFault}
 
 -- the world of a plant and a cell, for the changes of the plant's log and the contents of its dumps
 abbrev pub world_on : {D E : Type 0} → Plant D → Cell E → Settings → List Change → Contents → D → E → World
@@ -40,11 +40,11 @@ abbrev pub TakesBytes : List ℕ → List ℕ → Result Bool RunStop → Type 0
 TakesBytes old new (Ok refused) = TookAll old new ⊎ TookToQuit old new
 TakesBytes old new (Err TooLong) = TookTooMany old new
 TakesBytes old new (Err (BadLog at)) = new ≡ old
-TakesBytes old new (Err Read) = Took old new
-TakesBytes old new (Err PlantStop) = Took old new
-TakesBytes old new (Err CellStop) = Took old new
-TakesBytes old new (Err Output) = Took old new
-TakesBytes old new (Err Memory) = Took old new
+TakesBytes old new (Err Read) = TookToFault old new
+TakesBytes old new (Err PlantStop) = TookToFault old new
+TakesBytes old new (Err CellStop) = TookToFault old new
+TakesBytes old new (Err Output) = TookToFault old new
+TakesBytes old new (Err Memory) = TookToFault old new
 
 -- the log is no list of changes, or the outside refused, or memory ran out
 abbrev pub IsRefusedLog : Result Bool RunStop → Type 0

@@ -49,10 +49,12 @@ pub record Took (old new : List ℕ) : Type 0 where
   pub few : length taken ≤ 16777217
 
 -- THE BYTES THAT ARE TAKEN: all, of which there are no more than a script may have; or those up to the line `quit` and its line feed; at
--- TooLong one more than a script may have, and no line that was ended among them is `quit`.
+-- TooLong one more than a script may have. But for the second case no line that was ended among them is `quit`, at a fault and for want of
+-- memory neither: nothing behind such a line is read. A last line `quit` that no line feed has ended stands at the end of all bytes.
 pub record TookAll (old new : List ℕ) : Type 0 where
   pub none_left : new ≡ []
   pub few : length old ≤ most_script
+  pub no_quit : has_quit (lines (ended old)) ≡ false
 
 pub record TookToQuit (old new : List ℕ) : Type 0 where
   pub took : Took old new
@@ -64,14 +66,18 @@ pub record TookTooMany (old new : List ℕ) : Type 0 where
   pub many : length took.taken ≡ 16777217
   pub no_quit : has_quit (lines (ended took.taken)) ≡ false
 
+pub record TookToFault (old new : List ℕ) : Type 0 where
+  pub took : Took old new
+  pub no_quit : has_quit (lines (ended took.taken)) ≡ false
+
 abbrev pub Takes : List ℕ → List ℕ → Result Bool ServeStop → Type 0
 Takes old new (Ok refused) = TookAll old new ⊎ TookToQuit old new
 Takes old new (Err TooLong) = TookTooMany old new
-Takes old new (Err Read) = Took old new
-Takes old new (Err PlantStop) = Took old new
-Takes old new (Err CellStop) = Took old new
-Takes old new (Err Output) = Took old new
-Takes old new (Err Memory) = Took old new
+Takes old new (Err Read) = TookToFault old new
+Takes old new (Err PlantStop) = TookToFault old new
+Takes old new (Err CellStop) = TookToFault old new
+Takes old new (Err Output) = TookToFault old new
+Takes old new (Err Memory) = TookToFault old new
 
 -- Cut short: the lines that were ended were run, and no other one.
 pub record WentShort {D E : Type 0} (P : Plant D) (C : Cell E) (w : World) (ms input rest : List ℕ) (old new : D) (site : E) (session : SessionView) (left : List ℕ) : Type 0 where
@@ -148,8 +154,8 @@ abbrev pub TookOn : List ℕ → List ℕ → Type 0
 TookOn old new = (line : List ℕ) × TookPiece old (10 ∷ new) line × (is_quit (strip_carriage_return line) ≡ false)
 
 abbrev pub TookEnd : List ℕ → List ℕ → ℕ → Type 0
-TookEnd old new taken = ((new ≡ []) × (taken ≤ 16777216)) ⊎ ((line : List ℕ) × TookPiece old (10 ∷ new) line × (is_quit (strip_carriage_return line) ≡ true))
+TookEnd old new taken = ((new ≡ []) × (taken ≤ 16777216) × All (λ b. is_feed b ≡ false) old) ⊎ ((line : List ℕ) × TookPiece old (10 ∷ new) line × (is_quit (strip_carriage_return line) ≡ true))
 
 abbrev pub TakesNext : List ℕ → List ℕ → ℕ → Result Passed ServeStop → Type 0
 TakesNext old new taken (Ok passed) = ((passed.goes ≡ true) → TookOn old new) × ((passed.goes ≡ false) → TookEnd old new taken)
-TakesNext old new taken (Err stop) = (piece : List ℕ) × (old ≡ piece ++ new) × ((stop ≡ TooLong) ⊎ (stop ≡ Read) → All (λ b. is_feed b ≡ false) piece)
+TakesNext old new taken (Err stop) = (piece : List ℕ) × (old ≡ piece ++ new) × ((stop ≡ TooLong) ⊎ (stop ≡ Read) → All (λ b. is_feed b ≡ false) piece) × (has_quit (lines (ended piece)) ≡ false)

@@ -1,6 +1,6 @@
 //! What a line of a script says.
 
-ghost use Rattle.std.specs.Prelude.{◌≡◌, ◌==◌, slice_index, IfOk};
+ghost use Rattle.std.specs.Prelude.{◌≡◌, ◌==◌, slice_index, false, IfOk, OnErr};
 ghost use Rattle.std.specs.List.{list_all};
 ghost use Rattle.bk_text.specs.Blanks.{is_blank};
 ghost use Rattle.backup_script.specs.Lines.{is_quit as line_is_quit};
@@ -65,7 +65,8 @@ fn read_words(alloc: Global, line: &[u8]) -> Result<Item, AllocError>
 /// Reads a line, without its end.
 #[tactic(auto, unfolding(crate::specs::Items::item_of))]
 pub fn read_item(alloc: Global, line: &[u8]) -> Result<Item, AllocError>
-    ensures { IfOk result (λ item. item ≡ item_of line.now) }
+    ensures item { IfOk result (λ item. item ≡ item_of line.now) }
+    ensures not_quit { OnErr result (line_is_quit line.now ≡ false) }
 {
     if is_quit(line) {
         return Ok(Item::Quit);

@@ -1,6 +1,6 @@
 //! Running a script: each line is run as soon as it is complete, and its whole reply is told before the next one.
 
-ghost use Rattle.std.specs.Prelude.{◌≡◌, ◌≢◌, ◌≤◌, [], ◌∷◌, ℕ, List as AnyList, length, not, true, Err, IfOk, OnOk, OnErr};
+ghost use Rattle.std.specs.Prelude.{◌≡◌, ◌≢◌, ◌≤◌, [], ◌∷◌, ℕ, List as AnyList, length, not, true, false, Err, IfOk, OnOk, OnErr};
 ghost use Rattle.crash_moments.specs.Moments.{HasCauseAt};
 ghost use Rattle.media_core.specs.Later.{later};
 ghost use Rattle.plant_core.specs.Effects.{tells};
@@ -190,6 +190,7 @@ fn run_item<P: Plant, C: Cell, K: Clock>(
     ensures watched { P.tells → C.tells → (before : AnyList ℕ) → IsWatched P.Plant C.Cell before plant.old cell.old session.old watch.old → OnOk result (IsWatched P.Plant C.Cell before plant.new cell.new session.new watch.new) }
     ensures left { P.tells → C.tells → K.tells → (w : World) → Fits P.Plant C.Cell w plant.old cell.old session.old → HeldForLine w (K.moments clock.old) item → OnErr result (LineLeft P.Plant C.Cell w (K.moments clock.old) item plant.old plant.new cell.new (K.moments clock.new)) }
     ensures goes { IfOk result (λ passed. passed.goes ≡ goes_behind item) }
+    ensures not_quit { OnErr result (goes_behind item ≡ true) }
     ensures fewer { K.tells → length (K.moments clock.new) ≤ length (K.moments clock.old) }
     ensures used { K.tells → result ≡ Err ServeStop.Cell → HasUsed (K.moments clock.old) (K.moments clock.new) }
     ensures stays { Stays P.Plant plant.old plant.new }
@@ -224,6 +225,7 @@ pub fn run_line<P: Plant, C: Cell, K: Clock>(
     ensures watched { P.tells → C.tells → (before : AnyList ℕ) → IsWatched P.Plant C.Cell before plant.old cell.old session.old watch.old → OnOk result (IsWatched P.Plant C.Cell before plant.new cell.new session.new watch.new) }
     ensures left { P.tells → C.tells → K.tells → (w : World) → Fits P.Plant C.Cell w plant.old cell.old session.old → HeldForLine w (K.moments clock.old) (item_of line.now) → OnErr result (LineLeft P.Plant C.Cell w (K.moments clock.old) (item_of line.now) plant.old plant.new cell.new (K.moments clock.new)) }
     ensures goes { IfOk result (λ passed. passed.goes ≡ not (is_quit line.now)) }
+    ensures not_quit { OnErr result (is_quit line.now ≡ false) }
     ensures fewer { K.tells → length (K.moments clock.new) ≤ length (K.moments clock.old) }
     ensures used { K.tells → result ≡ Err ServeStop.Cell → HasUsed (K.moments clock.old) (K.moments clock.new) }
     ensures stays { Stays P.Plant plant.old plant.new }

@@ -37,8 +37,8 @@ use Rattle.backup_script.specs.declared.running.RunStop.{RunStop}
 use Rattle.backup_script.specs.declared.running.RunStop.TheVariants as stop
 use Rattle.backup_script.specs.Lines.{ended, has_quit}
 use Rattle.backup_script.specs.Scripts.{Outcome, script, Stage, IsStage}
-use Rattle.backup_script.specs.Running.{TookTooMany, Left, HasTold}
-use Rattle.backup_script.specs.Ended.{Ends, EndsShort, IsRefusedLog}
+use Rattle.backup_script.specs.Running.{TookTooMany, TookToFault, Left, HasTold}
+use Rattle.backup_script.specs.Ended.{Ends, EndsShort, TakesBytes, IsRefusedLog}
 use Rattle.backup_script.proofs.StageLaws.{stage_whole}
 use Rattle.dump_forms.specs.Journals.{IsJournalAfter}
 use Rattle.script_journals.proofs.Following.{journal_front, journal_form, journal_bytes}
@@ -171,6 +171,31 @@ runs_not_opened c Told damaged before now opening.Failed cause whole told = tt
 runs_not_opened c Told damaged before now (opening.BadLog at) cause whole told = whole (cause.2 told)
 
 -- ---- what was taken
+
+pub takes_run : (old new : List ℕ) (r : Result Bool RunStop) → TakesBytes old new r → TakesBy old new (run_status r)
+takes_run old new (Ok true) takes = takes
+takes_run old new (Ok false) takes = takes
+takes_run old new (Err stop.Read) takes = takes
+takes_run old new (Err stop.TooLong) takes = takes
+takes_run old new (Err stop.Plant) takes = takes
+takes_run old new (Err stop.Cell) takes = takes
+takes_run old new (Err stop.Output) takes = takes
+takes_run old new (Err stop.Memory) takes = takes
+takes_run old new (Err (stop.BadLog at)) takes = takes
+
+-- nothing
+pub takes_nothing : (input : List ℕ) → TookToFault input input
+takes_nothing input = record { took = record { taken = []; is = refl; few = omega arith }; no_quit = refl }
+
+pub takes_opening : (input : List ℕ) (fault : OpenFault) → TakesBy input input (opening_status fault)
+takes_opening input opening.Failed = takes_nothing input
+takes_opening input (opening.BadLog at) = refl
+
+pub takes_config : (input : List ℕ) (fault : ConfigFault) → TakesBy input input (config_status fault)
+takes_config input (config.BadLine line) = refl
+takes_config input (config.PortTwice line) = refl
+takes_config input (config.SlotTwice line) = refl
+takes_config input config.Memory = takes_nothing input
 
 pub bad_log_answer : (r : Result Bool RunStop) (at : ℕ) → run_status r ≡ BadLog at → r ≡ Err (stop.BadLog at)
 bad_log_answer (Ok true) at is = cc

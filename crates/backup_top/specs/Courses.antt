@@ -22,7 +22,7 @@ use Rattle.backup_session.specs.Opening.{opened}
 use Rattle.backup_script.specs.Lines.{ended, has_quit, most_script}
 use Rattle.backup_script.specs.Scripts.{Outcome, script, Stage, IsStage}
 use Rattle.backup_script.specs.Held.{IsHeldThroughout}
-use Rattle.backup_script.specs.Running.{Took, TookAll, TookToQuit, TookTooMany}
+use Rattle.backup_script.specs.Running.{Took, TookAll, TookToQuit, TookTooMany, TookToFault}
 use Rattle.dump_forms.specs.Journals.{IsJournalAfter}
 use Rattle.session_archives.specs.Held.{HoldsWorld, HoldsImage, contents_on, EachKeepsListed, RepliesSettle}
 use Rattle.session_archives.specs.Ready.{IsFitWorld, RestoresApartThroughout, at_first, IsFitFor, AreVolumesFor}
@@ -193,7 +193,7 @@ RefusesJournal MediaFault = Unit {0}
 RefusesJournal Memory = Unit {0}
 RefusesJournal status = ⊥
 
--- the bytes that are taken of the source, by the status
+-- the bytes that are taken of the source, by the status: nothing behind a line `quit` is
 abbrev pub TakesBy : List ℕ → List ℕ → Status → Type 0
 TakesBy old new Done = TookAll old new ⊎ TookToQuit old new
 TakesBy old new SomeRefused = TookAll old new ⊎ TookToQuit old new
@@ -201,11 +201,11 @@ TakesBy old new ScriptTooLong = TookTooMany old new
 TakesBy old new Usage = new ≡ old
 TakesBy old new (BadConfig line) = new ≡ old
 TakesBy old new (BadLog at) = new ≡ old
-TakesBy old new ReadFault = Took old new
-TakesBy old new MediaFault = Took old new
-TakesBy old new CellFault = Took old new
-TakesBy old new OutputFault = Took old new
-TakesBy old new Memory = Took old new
+TakesBy old new ReadFault = TookToFault old new
+TakesBy old new MediaFault = TookToFault old new
+TakesBy old new CellFault = TookToFault old new
+TakesBy old new OutputFault = TookToFault old new
+TakesBy old new Memory = TookToFault old new
 
 -- a script within its bound: no more bytes than it may have, or a line `quit` among the first of them
 abbrev pub IsWithin : List ℕ → Type 0

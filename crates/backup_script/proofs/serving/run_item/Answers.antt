@@ -1,4 +1,4 @@
-use Rattle.std.proofs.Common.{ℕ, ◌≤◌, List, [], ◌∷◌, length, true, false, refl, sym, ◌∙◌, ap, subst, arith, Ok, Err, IfOk, OnErr}
+use Rattle.std.proofs.Common.{ℕ, ◌≡◌, ◌≤◌, List, [], ◌∷◌, length, true, false, refl, sym, ◌∙◌, ap, subst, arith, Ok, Err, IfOk, OnErr}
 use Rattle.media_core.specs.Later.{later}
 use Rattle.plant_core.specs.Effects.{tells}
 use Rattle.plant_effects.specs.Runs.{Done, Leaves}
@@ -8,7 +8,7 @@ use Rattle.backup_session.specs.Machine.{turn}
 use Rattle.backup_script.specs.declared.serving.Passed.{Passed}
 use Rattle.backup_script.specs.Scripts.{first_of, one_line}
 use Rattle.backup_script.specs.Held.{HeldForLine}
-use Rattle.backup_script.specs.Running.{LineRan, LineLeft, TurnLeft, HasUsed}
+use Rattle.backup_script.specs.Running.{LineRan, LineLeft, TurnLeft, HasUsed, goes_behind}
 use Rattle.backup_script.specs.declared.item.Item.TheVariants.{Runs}
 use Rattle.backup_script.specs.Watching.{with_text}
 use Rattle.backup_script.proofs.TellingLaws.{refusal_watched}
@@ -99,3 +99,9 @@ pub returns-in-Refused-clause-used : goal.returns-in-Refused-clause-used
 returns-in-Refused-clause-used g c = λ tells_clock stops.
     let ms = g.K.Clock.moments c.args.clock.now in
     subst (λ (left : List ℕ). HasUsed ms left) (sym (c.tell_refusal.ensures.clock tells_clock)) (later_used ms)
+
+pub returns-in-Refused-clause-not_quit : goal.returns-in-Refused-clause-not_quit
+returns-in-Refused-clause-not_quit g c = subst (λ (i : Item). OnErr c.tell_refusal.result (goes_behind i ≡ true)) (sym c.in-Refused.is) (elim c.tell_refusal.result as (λ r. OnErr r (true ≡ true)) [ Ok passed ↦ tt | Err stop ↦ refl ])
+
+pub returns-in-Runs-clause-not_quit : goal.returns-in-Runs-clause-not_quit
+returns-in-Runs-clause-not_quit g c = subst (λ (i : Item). OnErr c.run_next.result (goes_behind i ≡ true)) (sym c.in-Runs.is) (elim c.run_next.result as (λ r. OnErr r (true ≡ true)) [ Ok passed ↦ tt | Err stop ↦ refl ])

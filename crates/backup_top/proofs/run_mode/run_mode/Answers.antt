@@ -7,10 +7,10 @@ use Rattle.budb_changes.specs.Bytes.{encoded}
 use Rattle.backup_script.specs.Scripts.{between}
 use Rattle.backup_script.proofs.StageLaws.{stage_front}
 use Rattle.backup_top.specs.declared.status.Status.{Status}
-use Rattle.backup_top.specs.Courses.{Course, course, course_of, FindsHeld, Runs, TellsLines, CellAtStage, EndsAt, LeavesImages, outcome}
+use Rattle.backup_top.specs.Courses.{Course, course, course_of, FindsHeld, Runs, TellsLines, TakesBy, CellAtStage, EndsAt, LeavesImages, outcome}
 use Rattle.backup_top.proofs.Lowering.{still_left, nothing_since, nothing_same, untold_to}
 use Rattle.backup_top.proofs.TapeCounts.{has_tapes}
-use Rattle.backup_top.proofs.CourseLaws.{OpenedForms, has_forms, settings_same, config_lines, journaled, images_of, ends_at}
+use Rattle.backup_top.proofs.CourseLaws.{OpenedForms, has_forms, settings_same, config_lines, takes_config, journaled, images_of, ends_at}
 use Rattle.backup_top.proofs.run_mode.run_mode.Goals as goal
 
 pub returns-in-Ok-clause-runs : goal.returns-in-Ok-clause-runs
@@ -82,6 +82,11 @@ pub returns-in-Err-clause-told_lines : goal.returns-in-Err-clause-told_lines
 returns-in-Err-clause-told_lines g c = λ told tells_cell.
     let at = (stock_of (g.M.Media.seen c.args.media)).told in
     subst (λ (s : Status). TellsLines at at s) (sym c.of_config.ensures) (config_lines at at c.in-Err.fault)
+
+pub returns-in-Err-clause-takes : goal.returns-in-Err-clause-takes
+returns-in-Err-clause-takes g c = λ source.
+    let input = g.S.Source.left c.args.source.now in
+    subst (λ (s : Status). TakesBy input input s) (sym c.of_config.ensures) (takes_config input c.in-Err.fault)
 
 pub returns-in-Err-clause-same_files : goal.returns-in-Err-clause-same_files
 returns-in-Err-clause-same_files g c = record { same_count = refl; same_present = λ f. refl }

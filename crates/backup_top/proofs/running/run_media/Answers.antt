@@ -17,10 +17,10 @@ use Rattle.session_archives.specs.Held.{HoldsWorld, HoldsAfter}
 use Rattle.session_archives.specs.Ready.{IsReady, RestoresApartThroughout, at_first, IsReadyFor}
 use Rattle.backup_top.specs.declared.status.Status.{Status}
 use Rattle.backup_top.specs.declared.status.Status.TheVariants.{MediaFault}
-use Rattle.backup_top.specs.Courses.{Course, course, outcome, at_rest, Runs, TellsLines, RefusesJournal, HasCauseAs}
+use Rattle.backup_top.specs.Courses.{Course, course, outcome, at_rest, Runs, TellsLines, TakesBy, RefusesJournal, HasCauseAs}
 use Rattle.backup_top.proofs.Lowering.{opened_rests, shown_log, journal_damaged, still_left, nothing_since, images_left, images_later, none_some, same_files, shown_told, told_to, untold_to, nothing_same, images_same}
 use Rattle.backup_top.proofs.TapeCounts.{has_tapes}
-use Rattle.backup_top.proofs.CourseLaws.{OpenedForms, has_forms, ready_for, AbsentStay, leaves_media, runs_of, runs_not_opened, journal_of_log, told_lines, opening_lines, opening_later, bad_log_answer, cell_answer, refuses_journal, opening_bad, opening_cause, bad_journal, damaged_journal, journaled, images_of, ends_at, left_whole}
+use Rattle.backup_top.proofs.CourseLaws.{OpenedForms, has_forms, ready_for, AbsentStay, leaves_media, runs_of, runs_not_opened, journal_of_log, told_lines, opening_lines, takes_run, takes_opening, opening_later, bad_log_answer, cell_answer, refuses_journal, opening_bad, opening_cause, bad_journal, damaged_journal, journaled, images_of, ends_at, left_whole}
 use Rattle.backup_top.proofs.running.run_media.Goals as goal
 
 pub returns-in-Ok-clause-runs : goal.returns-in-Ok-clause-runs
@@ -164,6 +164,17 @@ returns-in-Err-clause-told_lines g c = λ told tells_cell.
     let old = (stock_of (M.seen c.args.media)).told in
     let new = (stock_of (M.seen c.in-Err.unopened.media)).told in
     subst (λ (s : Status). TellsLines old new s) (sym c.of_opening.ensures) (opening_lines old new c.in-Err.unopened.fault)
+
+pub returns-in-Ok-clause-takes : goal.returns-in-Ok-clause-takes
+returns-in-Ok-clause-takes g c = λ source.
+    let old = g.S.Source.left c.args.source.now in
+    let new = g.S.Source.left c.run_on-answer.new.source in
+    subst (λ (s : Status). TakesBy old new s) (sym c.of_run.ensures) (takes_run old new c.run_on-answer.result (c.run_on-answer.ensures.takes source))
+
+pub returns-in-Err-clause-takes : goal.returns-in-Err-clause-takes
+returns-in-Err-clause-takes g c = λ source.
+    let input = g.S.Source.left c.args.source.now in
+    subst (λ (s : Status). TakesBy input input s) (sym c.of_opening.ensures) (takes_opening input c.in-Err.unopened.fault)
 
 pub returns-in-Ok-clause-same_files : goal.returns-in-Ok-clause-same_files
 returns-in-Ok-clause-same_files g c =

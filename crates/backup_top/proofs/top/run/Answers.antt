@@ -10,7 +10,7 @@ use Rattle.backup_top.proofs.Lowering.{still_left, nothing_since, nothing_same, 
 use Rattle.plant_media.specs.Laws.{below}
 use Rattle.backup_top.proofs.TapeCounts.{has_tapes}
 use Rattle.backup_top.proofs.ArchiveLaws.{holds_world}
-use Rattle.backup_top.proofs.CourseLaws.{OpenedForms, has_forms, ready_for, journaled, images_of, ends_at, never_refused, never_bad_log, complete_by}
+use Rattle.backup_top.proofs.CourseLaws.{OpenedForms, has_forms, ready_for, takes_nothing, journaled, images_of, ends_at, never_refused, never_bad_log, complete_by}
 use Rattle.backup_top.proofs.top.run.Goals as goal
 
 pub returns-in-Err-clause-images : goal.returns-in-Err-clause-images
@@ -74,6 +74,9 @@ returns-in-Err-clause-cell_at_end g c = λ runs told tells_cell tells_clock sour
     let media = c.args.media in
     let k : Course = course_of M.seen M.count M.present contents media entry media (g.C.Cell.list c.args.cell.now) (g.C.Cell.list c.args.cell.now) (g.K.Clock.moments c.args.clock.now) (g.K.Clock.moments c.args.clock.now) (g.S.Source.left c.args.source.now) (g.S.Source.left c.args.source.now) in
     record { stage = between [] k.world k.moments; on_the_way = stage_front [] k.world k.moments (lines k.input); is = refl; clock = refl; told = untold_to (stock_of (M.seen media)).told (stock_of (M.seen media)).told refl }
+
+pub returns-in-Err-clause-takes : goal.returns-in-Err-clause-takes
+returns-in-Err-clause-takes g c = λ runs source. takes_nothing (g.S.Source.left c.args.source.now)
 
 pub returns-in-Err-clause-same_files : goal.returns-in-Err-clause-same_files
 returns-in-Err-clause-same_files g c = record { same_count = refl; same_present = λ f. refl }
