@@ -65,6 +65,7 @@ fn run_last<P: Plant, C: Cell, K: Clock>(
     ensures ends { IfOk result (λ passed. passed.goes ≡ false) }
     ensures fewer { K.tells → length (K.moments clock.new) ≤ length (K.moments clock.old) }
     ensures used { K.tells → result ≡ Err ServeStop.Cell → HasUsed (K.moments clock.old) (K.moments clock.new) }
+    ensures plant_used { K.tells → result ≡ Err ServeStop.Plant → HasUsed (K.moments clock.old) (K.moments clock.new) }
     ensures stays { Stays P.Plant plant.old plant.new }
     ensures plant_cause { HasCauseAt ServeStop.Plant (P.view plant.old).faults (P.view plant.new).faults result }
     ensures cell_cause { HasCauseAt ServeStop.Cell (C.faults cell.old) (C.faults cell.new) result }
@@ -107,6 +108,7 @@ pub fn serve_line<P: Plant, C: Cell, K: Clock, S: Source>(
     ensures long { result ≡ Err ServeStop.TooLong → taken.new ≡ 16777217 }
     ensures fewer { K.tells → length (K.moments clock.new) ≤ length (K.moments clock.old) }
     ensures used { K.tells → result ≡ Err ServeStop.Cell → HasUsed (K.moments clock.old) (K.moments clock.new) }
+    ensures plant_used { K.tells → result ≡ Err ServeStop.Plant → HasUsed (K.moments clock.old) (K.moments clock.new) }
     ensures stays { Stays P.Plant plant.old plant.new }
     ensures plant_cause { HasCauseAt ServeStop.Plant (P.view plant.old).faults (P.view plant.new).faults result }
     ensures cell_cause { HasCauseAt ServeStop.Cell (C.faults cell.old) (C.faults cell.new) result }

@@ -137,9 +137,11 @@ pub fn run_on<P: Plant, C: Cell, K: Clock, S: Source>(
     ensures refused_log_cell { P.tells → (IsLog (state_of P.Plant plant.old).log → ⊥) → cell.new ≡ cell.old }
     ensures refused_log_clock { P.tells → (IsLog (state_of P.Plant plant.old).log → ⊥) → (clock.new ≡ clock.old) × (source.new ≡ source.old) }
 
-    // Where it ends by a fault of the cell and no moment of the clock was used, nothing was taken of the source: so it is where the cell's
-    // entries can't be listed at the opening, since in front of any other fault of the cell a moment is used, unless the clock had only one.
+    // Where it ends by a fault of the cell or of the plant and no moment of the clock was used, nothing was taken of the source: so it is
+    // where the log can't be read or the cell's entries can't be listed at the opening, since in front of any other fault of the two a moment
+    // is used, unless the clock had only one.
     ensures order { result ≡ Err RunStop.Cell → K.tells → S.tells → 2 ≤ length (K.moments clock.old) → K.moments clock.new ≡ K.moments clock.old → S.left source.new ≡ S.left source.old }
+    ensures plant_order { result ≡ Err RunStop.Plant → K.tells → S.tells → 2 ≤ length (K.moments clock.old) → K.moments clock.new ≡ K.moments clock.old → S.left source.new ≡ S.left source.old }
 
     // Each fault has its cause.
     ensures plant_cause { HasCauseAt RunStop.Plant (P.view plant.old).faults (P.view plant.new).faults result }

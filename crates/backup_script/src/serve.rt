@@ -51,8 +51,9 @@ pub fn run_script<P: Plant, C: Cell, K: Clock, S: Source>(
     ensures left { P.tells → C.tells → K.tells → S.tells → (w : World) → Fits P.Plant C.Cell w plant.old cell.old session.old
         → IsHeldThroughout w (K.moments clock.old) (lines (S.left source.old)) → Left P.Plant C.Cell w (K.moments clock.old) (lines (S.left source.old)) plant.old plant.new cell.new (K.moments clock.new) }
     ensures takes { S.tells → Takes (S.left source.old) (S.left source.new) result }
-    // A command uses its moment before the cell can fail in it.
+    // A command uses its moment before the cell or the plant can fail in it.
     ensures used { K.tells → result ≡ Err ServeStop.Cell → HasUsed (K.moments clock.old) (K.moments clock.new) }
+    ensures plant_used { K.tells → result ≡ Err ServeStop.Plant → HasUsed (K.moments clock.old) (K.moments clock.new) }
     ensures stays { Stays P.Plant plant.old plant.new }
 
     // Each fault has its cause.

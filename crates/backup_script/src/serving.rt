@@ -159,6 +159,7 @@ fn run_next<P: Plant, C: Cell, K: Clock>(
     ensures goes { IfOk result (λ passed. passed.goes ≡ true) }
     ensures fewer { K.tells → length (K.moments clock.new) ≤ length (K.moments clock.old) }
     ensures used { K.tells → result ≡ Err ServeStop.Cell → HasUsed (K.moments clock.old) (K.moments clock.new) }
+    ensures plant_used { K.tells → result ≡ Err ServeStop.Plant → HasUsed (K.moments clock.old) (K.moments clock.new) }
     ensures stays { Stays P.Plant plant.old plant.new }
     ensures plant_cause { HasCauseAt ServeStop.Plant (P.view plant.old).faults (P.view plant.new).faults result }
     ensures cell_cause { HasCauseAt ServeStop.Cell (C.faults cell.old) (C.faults cell.new) result }
@@ -193,6 +194,7 @@ fn run_item<P: Plant, C: Cell, K: Clock>(
     ensures not_quit { OnErr result (goes_behind item ≡ true) }
     ensures fewer { K.tells → length (K.moments clock.new) ≤ length (K.moments clock.old) }
     ensures used { K.tells → result ≡ Err ServeStop.Cell → HasUsed (K.moments clock.old) (K.moments clock.new) }
+    ensures plant_used { K.tells → result ≡ Err ServeStop.Plant → HasUsed (K.moments clock.old) (K.moments clock.new) }
     ensures stays { Stays P.Plant plant.old plant.new }
     ensures plant_cause { HasCauseAt ServeStop.Plant (P.view plant.old).faults (P.view plant.new).faults result }
     ensures cell_cause { HasCauseAt ServeStop.Cell (C.faults cell.old) (C.faults cell.new) result }
@@ -228,6 +230,7 @@ pub fn run_line<P: Plant, C: Cell, K: Clock>(
     ensures not_quit { OnErr result (is_quit line.now ≡ false) }
     ensures fewer { K.tells → length (K.moments clock.new) ≤ length (K.moments clock.old) }
     ensures used { K.tells → result ≡ Err ServeStop.Cell → HasUsed (K.moments clock.old) (K.moments clock.new) }
+    ensures plant_used { K.tells → result ≡ Err ServeStop.Plant → HasUsed (K.moments clock.old) (K.moments clock.new) }
     ensures stays { Stays P.Plant plant.old plant.new }
     ensures plant_cause { HasCauseAt ServeStop.Plant (P.view plant.old).faults (P.view plant.new).faults result }
     ensures cell_cause { HasCauseAt ServeStop.Cell (C.faults cell.old) (C.faults cell.new) result }

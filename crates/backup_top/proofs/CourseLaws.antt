@@ -219,6 +219,17 @@ cell_answer (Err stop.Output) is = cc
 cell_answer (Err stop.Memory) is = cc
 cell_answer (Err (stop.BadLog n)) is = cc
 
+pub plant_answer : (r : Result Bool RunStop) → run_status r ≡ MediaFault → r ≡ Err stop.Plant
+plant_answer (Ok true) is = cc
+plant_answer (Ok false) is = cc
+plant_answer (Err stop.Read) is = cc
+plant_answer (Err stop.TooLong) is = cc
+plant_answer (Err stop.Plant) is = refl
+plant_answer (Err stop.Cell) is = cc
+plant_answer (Err stop.Output) is = cc
+plant_answer (Err stop.Memory) is = cc
+plant_answer (Err (stop.BadLog n)) is = cc
+
 pub refuses_journal : (r : Result Bool RunStop) → IsRefusedLog r → RefusesJournal (run_status r)
 refuses_journal (Ok refused) is = absurd is
 refuses_journal (Err stop.Read) is = absurd is

@@ -57,6 +57,7 @@ pub fn run_mode<M: Media, C: Cell, K: Clock, S: Source>(
     ensures bad_log_same { (at : ℕ) → result.0 ≡ BadLog at → (cell.new ≡ cell.old) × (clock.new ≡ clock.old) × (source.new ≡ source.old) }
     ensures refused_config_same { (fault : AnyFault) → config_of config.now ≡ Err fault → (result.1 ≡ media) × (cell.new ≡ cell.old) × (clock.new ≡ clock.old) × (source.new ≡ source.old) }
     ensures order { result.0 ≡ CellFault → K.tells → S.tells → 2 ≤ length (K.moments clock.old) → K.moments clock.new ≡ K.moments clock.old → S.left source.new ≡ S.left source.old }
+    ensures media_order { result.0 ≡ MediaFault → K.tells → S.tells → 2 ≤ length (K.moments clock.old) → K.moments clock.new ≡ K.moments clock.old → S.left source.new ≡ S.left source.old }
     ensures cell_at_end { M.tells → C.tells → K.tells → S.tells → (entry : Entry config.now (stock_of (M.seen media))) → (contents : Contents)
         → let c = course_of M.seen M.count M.present contents media entry result.1 (C.list cell.old) (C.list cell.new) (K.moments clock.old) (K.moments clock.new) (S.left source.old) (S.left source.new) in
         FindsHeld c → CellAtStage c }

@@ -51,6 +51,7 @@ pub fn run_media<M: Media, C: Cell, K: Clock, S: Source>(
     ensures bad_log_media { M.tells → (at : ℕ) → result.0 ≡ BadLog at → M.seen result.1 ≡ M.seen media }
     ensures bad_log_same { (at : ℕ) → result.0 ≡ BadLog at → (cell.new ≡ cell.old) × (clock.new ≡ clock.old) × (source.new ≡ source.old) }
     ensures order { result.0 ≡ CellFault → K.tells → S.tells → 2 ≤ length (K.moments clock.old) → K.moments clock.new ≡ K.moments clock.old → S.left source.new ≡ S.left source.old }
+    ensures media_order { result.0 ≡ MediaFault → K.tells → S.tells → 2 ≤ length (K.moments clock.old) → K.moments clock.new ≡ K.moments clock.old → S.left source.new ≡ S.left source.old }
     ensures cell_at_end { M.tells → C.tells → K.tells → S.tells → (journal : Journal (stock_of (M.seen media))) → (contents : Contents)
         → let c = course M.seen M.count M.present config journal.log contents media result.1 (C.list cell.old) (C.list cell.new) (K.moments clock.old) (K.moments clock.new) (S.left source.old) (S.left source.new) in
         FindsHeld c → CellAtStage c }

@@ -245,9 +245,11 @@ pub fn run<M: Media, C: Cell, K: Clock, S: Source>(
     ensures refused_log_images { asked words.now.items ≡ Run → M.tells → (Journal (stock_of (M.seen media)) → ⊥) → LeavesSince M.time media result.1 SameStock }
     ensures refused_log_same { asked words.now.items ≡ Run → M.tells → (Journal (stock_of (M.seen media)) → ⊥) → (cell.new ≡ cell.old) × (clock.new ≡ clock.old) × (source.new ≡ source.old) }
 
-    // Where a run ends by a fault of the cell and no moment of the clock was used, nothing was taken of the source: so it is where the cell's
-    // entries can't be listed at the opening, since in front of any other fault of the cell a moment is used, unless the clock had only one.
+    // Where a run ends by a fault of the cell or of the media and no moment of the clock was used, nothing was taken of the source: so it is
+    // where the journal can't be read or the cell's entries can't be listed at the opening, since in front of any other fault of the two a
+    // moment is used, unless the clock had only one.
     ensures order { result.0 ≡ CellFault → K.tells → S.tells → 2 ≤ length (K.moments clock.old) → K.moments clock.new ≡ K.moments clock.old → S.left source.new ≡ S.left source.old }
+    ensures media_order { result.0 ≡ MediaFault → K.tells → S.tells → 2 ≤ length (K.moments clock.old) → K.moments clock.new ≡ K.moments clock.old → S.left source.new ≡ S.left source.old }
 
     // As many files come back, and the same of them are here. Each fault has its cause, and no count rises at another status, nor falls; that of
     // the media ends at 2^64 - 1.

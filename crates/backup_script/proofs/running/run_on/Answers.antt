@@ -99,6 +99,11 @@ returns-in-Ok-clause-order g c = λ stops tells_clock source many same.
     let used = c.in-Err-run_script.ensures.used tells_clock (ap (λ (e : ServeStop). Err e) (c.serving_stop.ensures.cell (err_same runs.Cell c.serving_stop.result stops))) many in
     absurd (omega (arith, ap length same, used))
 
+pub returns-in-Ok-clause-plant_order : goal.returns-in-Ok-clause-plant_order
+returns-in-Ok-clause-plant_order g c = λ stops tells_clock source many same.
+    let used = c.in-Err-run_script.ensures.plant_used tells_clock (ap (λ (e : ServeStop). Err e) (c.serving_stop.ensures.plant (err_same runs.Plant c.serving_stop.result stops))) many in
+    absurd (omega (arith, ap length same, used))
+
 pub returns-in-Ok-clause-plant_cause : goal.returns-in-Ok-clause-plant_cause
 returns-in-Ok-clause-plant_cause g c =
     let s = c.serving_stop.ensures in

@@ -4,7 +4,7 @@ use Rattle.std.proofs.lemmas.List.{append-nil}
 use Rattle.std.proofs.lemmas.List.Elements.{All-nil}
 use Rattle.plant_effects.specs.Runs.{state_of}
 use Rattle.backup_script.specs.declared.serving.ServeStop.{ServeStop}
-use Rattle.backup_script.specs.declared.serving.ServeStop.TheVariants.{Read, Cell as CellStop, TooLong}
+use Rattle.backup_script.specs.declared.serving.ServeStop.TheVariants.{Read, Plant as PlantStop, Cell as CellStop, TooLong}
 use Rattle.backup_script.specs.Lines.{is_feed}
 use Rattle.backup_script.specs.Scripts.{script}
 use Rattle.backup_script.proofs.ServingLaws.{went_nothing, nothing_begun}
@@ -84,6 +84,13 @@ returns-in-Err-clause-used g c = λ tells_clock is.
     let e = c.in-Err.ensures in
     used_behind (g.K.Clock.moments c.args.clock.now) (g.K.Clock.moments l.clock) (g.K.Clock.moments c.serve_line.new.clock) (l.invariant.fewer tells_clock) (e.fewer tells_clock)
     (e.used tells_clock (ap (λ (s : ServeStop). Err s) (err_is CellStop c.in-Err.stop is)))
+
+pub returns-in-Err-clause-plant_used : goal.returns-in-Err-clause-plant_used
+returns-in-Err-clause-plant_used g c = λ tells_clock is.
+    let l = c.loop-taken in
+    let e = c.in-Err.ensures in
+    used_behind (g.K.Clock.moments c.args.clock.now) (g.K.Clock.moments l.clock) (g.K.Clock.moments c.serve_line.new.clock) (l.invariant.fewer tells_clock) (e.fewer tells_clock)
+    (e.plant_used tells_clock (ap (λ (s : ServeStop). Err s) (err_is PlantStop c.in-Err.stop is)))
 
 pub returns-then-not-passed-clause-ran : goal.returns-then-not-passed-clause-ran
 returns-then-not-passed-clause-ran g c = λ told tells_cell tells_clock source w fits held.

@@ -100,6 +100,11 @@ returns-in-Refused-clause-used g c = λ tells_clock stops.
     let ms = g.K.Clock.moments c.args.clock.now in
     subst (λ (left : List ℕ). HasUsed ms left) (sym (c.tell_refusal.ensures.clock tells_clock)) (later_used ms)
 
+pub returns-in-Refused-clause-plant_used : goal.returns-in-Refused-clause-plant_used
+returns-in-Refused-clause-plant_used g c = λ tells_clock stops.
+    let ms = g.K.Clock.moments c.args.clock.now in
+    subst (λ (left : List ℕ). HasUsed ms left) (sym (c.tell_refusal.ensures.clock tells_clock)) (later_used ms)
+
 pub returns-in-Refused-clause-not_quit : goal.returns-in-Refused-clause-not_quit
 returns-in-Refused-clause-not_quit g c = subst (λ (i : Item). OnErr c.tell_refusal.result (goes_behind i ≡ true)) (sym c.in-Refused.is) (elim c.tell_refusal.result as (λ r. OnErr r (true ≡ true)) [ Ok passed ↦ tt | Err stop ↦ refl ])
 

@@ -43,3 +43,8 @@ pub returns-in-Err-clause-used : goal.returns-in-Err-clause-used
 returns-in-Err-clause-used g c = λ tells_clock stops.
     let ms = g.K.Clock.moments c.args.clock.now in
     subst (λ (left : List ℕ). HasUsed ms left) (sym (c.now-now.ensures.rest tells_clock)) (later_used ms)
+
+pub returns-in-Err-clause-plant_used : goal.returns-in-Err-clause-plant_used
+returns-in-Err-clause-plant_used g c = λ tells_clock stops.
+    let ms = g.K.Clock.moments c.args.clock.now in
+    subst (λ (left : List ℕ). HasUsed ms left) (sym (c.now-now.ensures.rest tells_clock)) (later_used ms)

@@ -20,7 +20,7 @@ use Rattle.backup_top.specs.declared.status.Status.TheVariants.{MediaFault}
 use Rattle.backup_top.specs.Courses.{Course, course, outcome, at_rest, Runs, TellsLines, TakesBy, RefusesJournal, HasCauseAs}
 use Rattle.backup_top.proofs.Lowering.{opened_rests, shown_log, journal_damaged, still_left, nothing_since, images_left, images_later, none_some, same_files, shown_told, told_to, untold_to, nothing_same, images_same}
 use Rattle.backup_top.proofs.TapeCounts.{has_tapes}
-use Rattle.backup_top.proofs.CourseLaws.{OpenedForms, has_forms, ready_for, AbsentStay, leaves_media, runs_of, runs_not_opened, journal_of_log, told_lines, opening_lines, takes_run, takes_opening, opening_later, bad_log_answer, cell_answer, refuses_journal, opening_bad, opening_cause, bad_journal, damaged_journal, journaled, images_of, ends_at, left_whole}
+use Rattle.backup_top.proofs.CourseLaws.{OpenedForms, has_forms, ready_for, AbsentStay, leaves_media, runs_of, runs_not_opened, journal_of_log, told_lines, opening_lines, takes_run, takes_opening, opening_later, bad_log_answer, cell_answer, plant_answer, refuses_journal, opening_bad, opening_cause, bad_journal, damaged_journal, journaled, images_of, ends_at, left_whole}
 use Rattle.backup_top.proofs.running.run_media.Goals as goal
 
 pub returns-in-Ok-clause-runs : goal.returns-in-Ok-clause-runs
@@ -202,6 +202,9 @@ returns-in-Ok-clause-bad_log_media g c = λ told at is.
 
 pub returns-in-Ok-clause-order : goal.returns-in-Ok-clause-order
 returns-in-Ok-clause-order g c = λ is. c.run_on-answer.ensures.order (cell_answer c.run_on-answer.result (sym c.of_run.ensures ∙ is))
+
+pub returns-in-Ok-clause-media_order : goal.returns-in-Ok-clause-media_order
+returns-in-Ok-clause-media_order g c = λ is. c.run_on-answer.ensures.plant_order (plant_answer c.run_on-answer.result (sym c.of_run.ensures ∙ is))
 
 pub returns-in-Err-clause-runs : goal.returns-in-Err-clause-runs
 returns-in-Err-clause-runs g c = λ told tells_cell tells_clock source named says journal contents held.
