@@ -16,7 +16,7 @@ use Rattle.backup_session.specs.Fitting.{Fits}
 use Rattle.backup_script.specs.declared.item.Item.TheVariants.{Silent, Quit, Runs, Refused}
 use Rattle.backup_script.specs.Lines.{is_quit}
 use Rattle.backup_script.specs.Items.{is_silent, said, item_of}
-use Rattle.backup_script.specs.Scripts.{first_of, between}
+use Rattle.backup_script.specs.Scripts.{first_of, ending}
 use Rattle.backup_script.specs.Running.{LineLeft, TurnLeft, HasUsed, goes_behind}
 
 pub first_is : (ms : List ℕ) (m : ℕ) → slice_get ms 0 ≡ Some m → first_of ms ≡ m
@@ -52,7 +52,7 @@ item_goes line = goes_by (is_quit line) (is_silent line) (command_of line)
 pub refusal_left : {D E : Type 0} (P : Plant D) (C : Cell E) (w : World) (ms text : List ℕ) (plant old new : D) (site : E) (session : SessionView) (left : List ℕ) → Fits P C w plant site session → Leaves P (tells text ∷ []) old new → left ≡ later ms
     → LineLeft P C w ms (Refused text) old new site left
 refusal_left P C w ms text plant old new site session left fits leaves clock = record {
-  stage = between (tells text ∷ []) (with_told w text) (later ms);
+  stage = ending [] (tells text ∷ []) (with_told w text) (later ms);
   on_line = inr (inr refl);
   cell = fits.cell;
   clock = clock;

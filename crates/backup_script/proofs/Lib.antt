@@ -2,6 +2,7 @@ pub mod LineLaws
 pub mod ScriptLaws
 pub mod HeldLaws
 pub mod StageLaws
+pub mod PastLaws
 pub mod ItemLaws
 pub mod WatchLaws
 pub mod TellingLaws

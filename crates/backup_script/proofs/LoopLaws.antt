@@ -20,6 +20,7 @@ use Rattle.backup_script.specs.declared.serving.ServeStop.TheVariants.{Read, Pla
 use Rattle.backup_script.proofs.LineLaws.{AreLines, no_lines, one_line_more, lines_cut, line_first, ended_first, or_false}
 use Rattle.backup_script.proofs.ScriptLaws.{script_more}
 use Rattle.backup_script.proofs.HeldLaws.{held_behind}
+use Rattle.backup_script.proofs.PastLaws.{past_whole, past_both}
 use Rattle.backup_script.proofs.StageLaws.{behind, stage_behind, stage_later, stage_last}
 use Rattle.backup_script.proofs.ServingLaws.{no_lines_ran}
 
@@ -128,6 +129,7 @@ module _ {D E : Type 0} (P : Plant D) (C : Cell E) where
       cell = now.cell;
       clock = now.clock;
       leaves = leaves_both P s.effects now.stage.effects old mid new so.went.done so.leaves now.leaves;
+      past = past_both P s.effects now.stage.effects now.stage.whole old mid new so.went.done so.leaves now.past;
     }
 
     -- nothing was run behind these
@@ -201,13 +203,15 @@ module _ {D E : Type 0} (P : Plant D) (C : Cell E) where
     }
 
   -- where all of it was run, the stage is the last one
-  pub all_left : (w : World) (ms : List ℕ) (these : List (List ℕ)) (old new : D) (site : E) (session : SessionView) (left : List ℕ) → ScriptRan P C (script w ms these) old new site session left → Left P C w ms these old new site left
-  all_left w ms these old new site session left ran = record {
+  pub all_left : (w : World) (ms : List ℕ) (these : List (List ℕ)) (old new : D) (site : E) (session : SessionView) (left : List ℕ) → FitsPlant P new → ScriptRan P C (script w ms these) old new site session left
+      → Left P C w ms these old new site left
+  all_left w ms these old new site session left fits ran = record {
     stage = between (script w ms these).effects (script w ms these).world (script w ms these).moments;
     on_the_way = stage_last [] w ms these;
     cell = ran.went.fits.cell;
     clock = ran.went.moments;
     leaves = ran.leaves;
+    past = past_whole P (script w ms these).effects old new ran.went.done ran.leaves fits;
   }
 
 -- ---- what was taken at an end

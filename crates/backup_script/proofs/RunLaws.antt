@@ -23,6 +23,7 @@ use Rattle.backup_script.specs.Scripts.{Outcome, between, script}
 use Rattle.backup_script.specs.Running.{Went, Left, WentShort, HasTold}
 use Rattle.backup_script.specs.Ended.{world_on, Ends, EndsShort}
 use Rattle.backup_script.proofs.StageLaws.{stage_front}
+use Rattle.backup_script.proofs.PastLaws.{past_none, past_both}
 
 -- some contents, which no call reads
 pub no_contents : Contents
@@ -63,6 +64,7 @@ module _ {D E : Type 0} (P : Plant D) (C : Cell E) where
       cell = begun.cell;
       clock = begun.clock;
       leaves = leaves_both P [] begun.stage.effects old mid new first first_leaves begun.leaves;
+      past = past_both P [] begun.stage.effects begun.stage.whole old mid new first first_leaves begun.past;
     }
 
   -- it wasn't opened
@@ -73,4 +75,5 @@ module _ {D E : Type 0} (P : Plant D) (C : Cell E) where
     cell = same;
     clock = refl;
     leaves = leaves;
+    past = past_none P [] old new leaves;
   }

@@ -3,19 +3,23 @@ use Rattle.std.proofs.Common.{◌≡◌, inl, ℕ, ◌<◌, Bool, true, false, L
 use Rattle.std.specs.Str.Lines.{lines, strip_carriage_return}
 use Rattle.std.proofs.lemmas.List.{append-nil}
 use Rattle.plant_core.specs.declared.plant.Plant.{Ghosts as Plant}
+use Rattle.plant_core.specs.Effects.{Effect}
+use Rattle.plant_effects.specs.Runs.{Leaves}
 use Rattle.plant_effects.proofs.Joining.{Fits as FitsPlant, nothing_done, nothing_left}
 use Rattle.cell_core.specs.declared.cell.Cell.{Ghosts as Cell}
 use Rattle.backup_session.specs.Worlds.{World}
 use Rattle.backup_session.specs.Views.{SessionView}
 use Rattle.backup_session.specs.Fitting.{Fits}
 use Rattle.backup_script.specs.Lines.{is_quit, TookPiece}
+use Rattle.backup_script.specs.declared.item.Item.{Item}
 use Rattle.backup_script.specs.Items.{item_of}
-use Rattle.backup_script.specs.Scripts.{Outcome, nothing, one_line, script, between, IsStage}
+use Rattle.backup_script.specs.Scripts.{Outcome, nothing, one_line, script, Stage, between, OnLine, IsStage}
 use Rattle.backup_script.specs.Held.{HeldForLine, IsHeldThroughout}
-use Rattle.backup_script.specs.Running.{Went, Left, LineRan, LineLeft, ScriptRan, LinePassed}
+use Rattle.backup_script.specs.Running.{Went, LeavesPast, Left, LineRan, LineLeft, ScriptRan, LinePassed}
 use Rattle.backup_script.proofs.LineLaws.{line_first, line_last}
 use Rattle.backup_script.proofs.ScriptLaws.{script_one, script_ended}
-use Rattle.backup_script.proofs.StageLaws.{stage_front}
+use Rattle.backup_script.proofs.StageLaws.{stage_front, line_whole}
+use Rattle.backup_script.proofs.PastLaws.{past_none}
 use Rattle.backup_script.proofs.HeldLaws.{held_first}
 
 -- the lines of a source of which one was taken
@@ -33,6 +37,10 @@ held_ended w ms input rest line read took is held = subst (λ (l : List ℕ). He
 pub held_last : (w : World) (ms input line read : List ℕ) → TookPiece input [] line → 0 < length line → read ≡ line → IsHeldThroughout w ms (lines input) → HeldForLine w ms (item_of read)
 held_last w ms input line read took some is held = subst (λ (l : List ℕ). HeldForLine w ms (item_of l)) (sym is)
     (held_first w ms line [] (subst (λ (ls : List (List ℕ)). IsHeldThroughout w ms ls) (lines_last input line took some) held))
+
+-- no line is whole while the first one is in progress
+first_past : {D : Type 0} (P : Plant D) (w : World) (ms : List ℕ) (item : Item) (old new : D) (stage : Stage) → OnLine [] w ms item stage → Leaves P stage.effects old new → LeavesPast P stage.whole stage.effects old new
+first_past P w ms item old new stage on leaves = subst (λ (es : List Effect). LeavesPast P es stage.effects old new) (sym (line_whole [] w ms item stage on)) (past_none P stage.effects old new leaves)
 
 module _ {D E : Type 0} (P : Plant D) (C : Cell E) where
   -- a line alone
@@ -67,7 +75,14 @@ module _ {D E : Type 0} (P : Plant D) (C : Cell E) where
     pub line_left : (left : List ℕ) → LineLeft P C w ms (item_of (strip_carriage_return line)) old new site left → Left P C w ms (lines input) old new site left
     unfolding IsStage
     line_left left begun = subst (λ (ls : List (List ℕ)). Left P C w ms ls old new site left) (sym (lines_first input rest line took))
-        (record { stage = begun.stage; on_the_way = inl begun.on_line; cell = begun.cell; clock = begun.clock; leaves = begun.leaves })
+        (record {
+          stage = begun.stage;
+          on_the_way = inl begun.on_line;
+          cell = begun.cell;
+          clock = begun.clock;
+          leaves = begun.leaves;
+          past = first_past P w ms (item_of (strip_carriage_return line)) old new begun.stage begun.on_line begun.leaves;
+        })
 
   -- the last line
   pub last_ran : (w : World) (ms input line : List ℕ) (old new : D) (site : E) (session : SessionView) (left : List ℕ) → TookPiece input [] line → 0 < length line → ScriptRan P C (script w ms (line ∷ [])) old new site session left
@@ -78,7 +93,14 @@ module _ {D E : Type 0} (P : Plant D) (C : Cell E) where
       → Left P C w ms (lines input) old new site left
   unfolding IsStage
   last_left w ms input line old new site left took some begun = subst (λ (ls : List (List ℕ)). Left P C w ms ls old new site left) (sym (lines_last input line took some))
-      (record { stage = begun.stage; on_the_way = inl begun.on_line; cell = begun.cell; clock = begun.clock; leaves = begun.leaves })
+      (record {
+        stage = begun.stage;
+        on_the_way = inl begun.on_line;
+        cell = begun.cell;
+        clock = begun.clock;
+        leaves = begun.leaves;
+        past = first_past P w ms (item_of line) old new begun.stage begun.on_line begun.leaves;
+      })
 
   -- nothing was run
   pub went_nothing : (w : World) (ms : List ℕ) (s : D) (site : E) (session : SessionView) (goes : Bool) → P.sound s → Fits P C w s site session → Went P C (nothing w ms goes) s s site session ms
@@ -98,4 +120,5 @@ module _ {D E : Type 0} (P : Plant D) (C : Cell E) where
     cell = fits.cell;
     clock = refl;
     leaves = nothing_left P [] s fits_plant;
+    past = past_none P [] s s (nothing_left P [] s fits_plant);
   }

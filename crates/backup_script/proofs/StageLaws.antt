@@ -8,28 +8,30 @@ use Rattle.backup_session.specs.Machine.{turn}
 use Rattle.backup_script.specs.declared.item.Item.{Item}
 use Rattle.backup_script.specs.declared.item.Item.TheVariants.{Silent, Quit, Runs, Refused}
 use Rattle.backup_script.specs.Items.{item_of}
-use Rattle.backup_script.specs.Scripts.{first_of, Outcome, then_outcome, one_line, script, Stage, between, InsideLine, OnLine, WhereItGoes, IsStage}
+use Rattle.backup_script.specs.Scripts.{first_of, Outcome, then_outcome, one_line, script, Stage, between, ending, InsideLine, OnLine, WhereItGoes, IsStage}
 
 -- a stage behind these effects
 abbrev pub behind : List Effect → Stage → Stage
-behind before stage = record { cell = stage.cell; effects = before ++ stage.effects; moments = stage.moments }
+behind before stage = record { cell = stage.cell; effects = before ++ stage.effects; moments = stage.moments; whole = before ++ stage.whole }
 
-behind_more : (before first more : List Effect) (w : World) (ms : List ℕ) (stage : Stage) → stage ≡ between (first ++ more) w ms → behind before stage ≡ between ((before ++ first) ++ more) w ms
-behind_more before first more w ms stage is = ap (behind before) is ∙ ap (λ (es : List Effect). between es w ms) (sym (append_assoc before first more))
+ending_behind : (before first more : List Effect) (w : World) (ms : List ℕ) (stage : Stage) → stage ≡ ending first more w ms → behind before stage ≡ ending (before ++ first) more w ms
+ending_behind before first more w ms stage is =
+    let same : behind before (ending first more w ms) ≡ ending (before ++ first) more w ms = λ i. record { cell = w.cell; effects = sym (append_assoc before first more) i; moments = ms; whole = before ++ first } in
+    ap (behind before) is ∙ same
 
 inside_behind : (before first : List Effect) (w : World) (ms : List ℕ) (item : Item) (stage : Stage) → InsideLine first w ms item stage → InsideLine (before ++ first) w ms item (behind before stage)
 inside_behind before first w ms Silent stage inside = absurd inside
 inside_behind before first w ms Quit stage inside = absurd inside
 inside_behind before first w ms (Refused text) stage inside = ap (behind before) inside
 inside_behind before first w ms (Runs command) stage inside =
-    (inside.0, ap (λ (es : List Effect). before ++ es) inside.1 ∙ sym (append_assoc before first (turn w (first_of ms) command).effects), inside.2)
+    (inside.0, ap (λ (es : List Effect). before ++ es) inside.1 ∙ sym (append_assoc before first (turn w (first_of ms) command).effects), inside.2, ap (λ (es : List Effect). before ++ es) inside.3)
 
 line_behind : (before first : List Effect) (w : World) (ms : List ℕ) (item : Item) (stage : Stage) → OnLine first w ms item stage → OnLine (before ++ first) w ms item (behind before stage)
 line_behind before first w ms item stage on = elim on [
   | inl front ↦ inl (ap (behind before) front)
   | inr rest ↦ elim rest [
     | inl inside ↦ inr (inl (inside_behind before first w ms item stage inside))
-    | inr end ↦ let s = one_line w ms item in inr (inr (behind_more before first s.effects s.world s.moments stage end))
+    | inr end ↦ let s = one_line w ms item in inr (inr (ending_behind before first s.effects s.world s.moments stage end))
   ]
 ]
 
@@ -71,20 +73,30 @@ stage_later first w ms (line ∷ ran) more stage goes is =
     inr (later_on first s (script s.world s.moments ran) (λ es v ns. IsStage es v ns more stage) (IsStage (first ++ s.effects) s.world s.moments (ran ++ more) stage) s.goes refl
     (stage_later (first ++ s.effects) s.world s.moments ran more stage) goes is)
 
+-- behind a line that ends the script: it has no effects
+never : true ≡ false → ⊥
+never is = cc
+
+stops_on : (first : List Effect) (w : World) (ms : List ℕ) (item : Item) → let s = one_line w ms item in s.goes ≡ false → OnLine first w ms item (between (first ++ s.effects) s.world s.moments)
+stops_on first w ms Silent stops = absurd (never stops)
+stops_on first w ms Quit stops = inl (ap (λ (es : List Effect). between es w ms) (append-nil first))
+stops_on first w ms (Refused text) stops = absurd (never stops)
+stops_on first w ms (Runs command) stops = absurd (never stops)
+
 -- behind all lines
-last_on : (first : List Effect) (w : World) (ms : List ℕ) (item : Item) (rest : Outcome) (At : List Effect → World → List ℕ → Stage → Type 0) (b : Bool)
+last_on : (first : List Effect) (w : World) (ms : List ℕ) (item : Item) (rest : Outcome) (At : List Effect → World → List ℕ → Stage → Type 0) (b : Bool) → (one_line w ms item).goes ≡ b
     → let s = one_line w ms item in At (first ++ s.effects) s.world s.moments (between ((first ++ s.effects) ++ rest.effects) rest.world rest.moments)
     → let whole = if b then then_outcome s rest else s in OnLine first w ms item (between (first ++ whole.effects) whole.world whole.moments)
     ⊎ WhereItGoes b (At (first ++ s.effects) s.world s.moments (between (first ++ whole.effects) whole.world whole.moments))
-last_on first w ms item rest At true at = let s = one_line w ms item in inr (subst (λ (es : List Effect). At (first ++ s.effects) s.world s.moments (between es rest.world rest.moments)) (append_assoc first s.effects rest.effects) at)
-last_on first w ms item rest At false at = inl (inr (inr refl))
+last_on first w ms item rest At true is at = let s = one_line w ms item in inr (subst (λ (es : List Effect). At (first ++ s.effects) s.world s.moments (between es rest.world rest.moments)) (append_assoc first s.effects rest.effects) at)
+last_on first w ms item rest At false is at = inl (stops_on first w ms item is)
 
 pub stage_last : (first : List Effect) (w : World) (ms : List ℕ) (lines : List (List ℕ)) → IsStage first w ms lines (between (first ++ (script w ms lines).effects) (script w ms lines).world (script w ms lines).moments)
 unfolding script IsStage
 stage_last first w ms [] = ap (λ (es : List Effect). between es w ms) (append-nil first)
 stage_last first w ms (line ∷ lines) =
     let s = one_line w ms (item_of line) in
-    last_on first w ms (item_of line) (script s.world s.moments lines) (λ es v ns stage. IsStage es v ns lines stage) s.goes (stage_last (first ++ s.effects) s.world s.moments lines)
+    last_on first w ms (item_of line) (script s.world s.moments lines) (λ es v ns stage. IsStage es v ns lines stage) s.goes refl (stage_last (first ++ s.effects) s.world s.moments lines)
 
 -- ---- what may be done by a stage is a front of what the script does
 
@@ -134,3 +146,21 @@ stage_whole first w ms (line ∷ lines) stage is =
       | inr later ↦ further_front first s rest stage s.goes
           (further_behind s.goes (IsStage (first ++ s.effects) s.world s.moments lines stage) (IsFront stage.effects ((first ++ s.effects) ++ rest.effects)) (stage_whole (first ++ s.effects) s.world s.moments lines stage) later)
     ]
+
+-- ---- what is whole by a stage
+
+inside_whole : (first : List Effect) (w : World) (ms : List ℕ) (item : Item) (stage : Stage) → InsideLine first w ms item stage → stage.whole ≡ first
+inside_whole first w ms Silent stage inside = absurd inside
+inside_whole first w ms Quit stage inside = absurd inside
+inside_whole first w ms (Refused text) stage inside = ap (λ (x : Stage). x.whole) inside
+inside_whole first w ms (Runs command) stage inside = inside.3
+
+-- on a line it is what stands in front of the line
+pub line_whole : (first : List Effect) (w : World) (ms : List ℕ) (item : Item) (stage : Stage) → OnLine first w ms item stage → stage.whole ≡ first
+line_whole first w ms item stage on = elim on [
+  | inl front ↦ ap (λ (x : Stage). x.whole) front
+  | inr later ↦ elim later [
+    | inl inside ↦ inside_whole first w ms item stage inside
+    | inr end ↦ ap (λ (x : Stage). x.whole) end
+  ]
+]

@@ -11,7 +11,7 @@ use Rattle.cell_core.specs.declared.cell.Cell.{Ghosts as Cell}
 use Rattle.backup_session.specs.Worlds.{World, Turn, with_told, before_reply, after_turn}
 use Rattle.backup_session.specs.Views.{SessionView, ReplyView}
 use Rattle.backup_session.specs.Fitting.{Fits, Turned, TurnedSomehow, OnTheWay}
-use Rattle.backup_script.specs.Scripts.{command_told, refusal_told, between}
+use Rattle.backup_script.specs.Scripts.{command_told, refusal_told, ending}
 use Rattle.backup_script.specs.Watching.{Watched, at_start, with_text}
 use Rattle.backup_script.specs.Running.{LineRan, TurnLeft, IsWatched}
 use Rattle.backup_script.proofs.WatchLaws.{with_both}
@@ -84,7 +84,7 @@ module _ {D E : Type 0} (P : Plant D) (C : Cell E) where
     -- it was told in part, or whole
     pub reply_left : (ms : List ℕ) → Leaves P t.effects old mid → Leaves P (tells reply.text ∷ []) mid new → TurnLeft P C w ms t old new site ms
     reply_left ms first second = record {
-      stage = between (t.effects ++ tells t.reply ∷ []) (after_turn w t) ms;
+      stage = ending [] (t.effects ++ tells t.reply ∷ []) (after_turn w t) ms;
       on_turn = inr refl;
       cell = turned.fits.cell;
       clock = refl;
@@ -94,8 +94,8 @@ module _ {D E : Type 0} (P : Plant D) (C : Cell E) where
   -- a command was begun
   pub command_left : (w : World) (ms : List ℕ) (t : Turn) (old new : D) (site : E) → OnTheWay w.cell t.cells (C.list site) → Leaves P t.effects old new → TurnLeft P C w ms t old new site ms
   command_left w ms t old new site cells leaves = record {
-    stage = record { cell = C.list site; effects = t.effects; moments = ms };
-    on_turn = inl (cells, refl, refl);
+    stage = record { cell = C.list site; effects = t.effects; moments = ms; whole = [] };
+    on_turn = inl (cells, refl, refl, refl);
     cell = refl;
     clock = refl;
     leaves = leaves;

@@ -2,7 +2,10 @@
 use Rattle.std.specs.Prelude.{◌≡◌, ◌⊎◌, ℕ, ◌<◌, ◌≤◌, List, [], ◌∷◌, ◌++◌, length, Bool, true, false, All, Result, Ok, Err}
 use Rattle.std.specs.Str.Lines.{lines, strip_carriage_return}
 use Rattle.plant_core.specs.declared.plant.Plant.{Ghosts as Plant}
-use Rattle.plant_core.specs.Effects.{Effect, tells}
+use Rattle.crash_moments.specs.Moments.{Stepped}
+use Rattle.plant_core.specs.Effects.{Effect, tells, Joint}
+use Rattle.plant_core.specs.Crashes.{State}
+use Rattle.plant_core.specs.Stock.{Stock}
 use Rattle.plant_effects.specs.Runs.{state_of, Done, Leaves}
 use Rattle.cell_core.specs.declared.cell.Cell.{Ghosts as Cell}
 use Rattle.backup_replies.specs.Texts.{has_refusal}
@@ -16,7 +19,7 @@ use Rattle.backup_session.specs.Worlds.{Turn, after_turn}
 use Rattle.backup_script.specs.declared.item.Item.{Item}
 use Rattle.backup_script.specs.declared.item.Item.TheVariants.{Silent, Quit, Runs, Refused}
 use Rattle.backup_script.specs.declared.serving.Passed.{Passed}
-use Rattle.backup_script.specs.Scripts.{Outcome, script, between, Stage, InsideTurn, OnLine, IsStage}
+use Rattle.backup_script.specs.Scripts.{Outcome, script, ending, Stage, InsideTurn, OnLine, IsStage}
 use Rattle.backup_script.specs.Watching.{Watched, at_start, with_text}
 
 -- These effects were done, and plant, cell, session and clock are as they are behind them.
@@ -25,14 +28,25 @@ pub record Went {D E : Type 0} (P : Plant D) (C : Cell E) (s : Outcome) (old new
   pub fits : Fits P C s.world new site session
   pub moments : left ≡ s.moments
 
+-- what the crash model leaves after so many of these effects at least
+pub record JointFrom (low : ℕ) (start : State) (effects : List Effect) (old new : Stock) : Type 0 where
+  pub joint : Joint start effects old new
+  pub low_is : low ≤ joint.count
+
+-- Each image of now is one of the crash model after the first of these effects, behind all that are whole.
+abbrev pub LeavesPast : {D : Type 0} → Plant D → List Effect → List Effect → D → D → Type 0
+LeavesPast P whole effects old new = P.tells → P.survives old → (image : Stock) → P.time.may_leave new image → Stepped P.time old (JointFrom (length whole) (state_of P old) effects) image
+
 -- However it ended: the cell has a list of some stage of the script, the clock has the moments of that stage left, and each image since the
--- start is one of the crash model after the first of the effects that may be done by then.
+-- start is one of the crash model after the first of the effects that may be done by then. In each image of now the lines before the one in
+-- progress are done.
 pub record Left {D E : Type 0} (P : Plant D) (C : Cell E) (w : World) (ms : List ℕ) (lines : List (List ℕ)) (old new : D) (site : E) (left : List ℕ) : Type 0 where
   pub stage : Stage
   pub on_the_way : IsStage [] w ms lines stage
   pub cell : C.list site ≡ stage.cell
   pub clock : left ≡ stage.moments
   pub leaves : Leaves P stage.effects old new
+  pub past : LeavesPast P stage.whole stage.effects old new
 
 -- The last of these lines is `quit`, and no other one.
 pub record EndsAtQuit (these : List (List ℕ)) : Type 0 where
@@ -120,7 +134,7 @@ pub record LineLeft {D E : Type 0} (P : Plant D) (C : Cell E) (w : World) (ms : 
 
 -- in a command, behind whose moment these are left, or behind it
 abbrev pub OnTurn : List Effect → World → List ℕ → Turn → Stage → Type 0
-OnTurn before w ms t stage = InsideTurn before w ms t stage ⊎ (stage ≡ between (before ++ (t.effects ++ tells t.reply ∷ [])) (after_turn w t) ms)
+OnTurn before w ms t stage = InsideTurn before w ms t stage ⊎ (stage ≡ ending before (t.effects ++ tells t.reply ∷ []) (after_turn w t) ms)
 
 pub record TurnLeft {D E : Type 0} (P : Plant D) (C : Cell E) (w : World) (ms : List ℕ) (t : Turn) (old new : D) (site : E) (left : List ℕ) : Type 0 where
   pub stage : Stage

@@ -56,19 +56,25 @@ script w ms (line ∷ lines) =
 -- ---- the cell on the way
 
 -- A list of the cell on the way of a script, the effects that may be done by then, and the moments that the clock has left there. Each command
--- whose reply is among these effects has made all its changes of this list.
+-- whose reply is among these effects has made all its changes of this list. The first of these effects are whole: those of the lines before the
+-- one in progress, which are done.
 pub record Stage : Type 0 where
   pub cell : List Stored
   pub effects : List Effect
   pub moments : List ℕ
+  pub whole : List Effect
 
 -- the list and the moments between two lines, where the effects of those before are done
 abbrev pub between : List Effect → World → List ℕ → Stage
-between before w ms = record { cell = w.cell; effects = before; moments = ms }
+between before w ms = record { cell = w.cell; effects = before; moments = ms; whole = before }
+
+-- The same where a line has made all its changes, and its last effect is in progress: so it is while its reply is told.
+abbrev pub ending : List Effect → List Effect → World → List ℕ → Stage
+ending before effects w ms = record { cell = w.cell; effects = before ++ effects; moments = ms; whole = before }
 
 -- Inside a command, behind whose moment these are left: it changes the list step by step, and its effects but for the reply may be done.
 abbrev pub InsideTurn : List Effect → World → List ℕ → Turn → Stage → Type 0
-InsideTurn before w ms t stage = OnTheWay w.cell t.cells stage.cell × (stage.effects ≡ before ++ t.effects) × (stage.moments ≡ ms)
+InsideTurn before w ms t stage = OnTheWay w.cell t.cells stage.cell × (stage.effects ≡ before ++ t.effects) × (stage.moments ≡ ms) × (stage.whole ≡ before)
 
 -- Inside a line: its moment is used. Of a line that is refused for its words nothing is told yet, and it changes no list. The other lines use
 -- no moment.
@@ -78,11 +84,11 @@ InsideLine before w ms Quit stage = ⊥
 InsideLine before w ms (Refused text) stage = stage ≡ between before w (later ms)
 InsideLine before w ms (Runs command) stage = InsideTurn before w (later ms) (turn w (first_of ms) command) stage
 
--- in front of a line, inside it, and behind it
+-- in front of a line, inside it, and at its end; behind it is in front of the next one, or behind all lines
 abbrev pub OnLine : List Effect → World → List ℕ → Item → Stage → Type 0
 OnLine before w ms item stage =
     let s = one_line w ms item in
-    (stage ≡ between before w ms) ⊎ (InsideLine before w ms item stage ⊎ (stage ≡ between (before ++ s.effects) s.world s.moments))
+    (stage ≡ between before w ms) ⊎ (InsideLine before w ms item stage ⊎ (stage ≡ ending before s.effects s.world s.moments))
 
 -- a further stage, where the script goes on
 abbrev pub WhereItGoes : Bool → Type 0 → Type 0

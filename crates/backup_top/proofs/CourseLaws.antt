@@ -5,7 +5,7 @@ use Rattle.std.specs.Str.Lines.{lines}
 use Rattle.std.proofs.lemmas.Bool.{cases_lt}
 use Rattle.std.proofs.lemmas.List.{take-append-le, take-append-drop, take_at, take_all}
 use Rattle.bk_text.specs.Places.{FailsAt}
-use Rattle.crash_moments.specs.Moments.{Moments, LeavesSince}
+use Rattle.crash_moments.specs.Moments.{Moments, Stepped, LeavesSince}
 use Rattle.media_core.specs.Media.{Image}
 use Rattle.plant_core.specs.declared.plant.Plant.{Ghosts as Plant}
 use Rattle.plant_core.specs.Crashes.{State, Alike, seen_in, settled_part}
@@ -36,16 +36,16 @@ use Rattle.backup_session.specs.Opening.{first_time}
 use Rattle.backup_script.specs.declared.running.RunStop.{RunStop}
 use Rattle.backup_script.specs.declared.running.RunStop.TheVariants as stop
 use Rattle.backup_script.specs.Lines.{ended, has_quit}
-use Rattle.backup_script.specs.Scripts.{Outcome, script, Stage, IsStage}
-use Rattle.backup_script.specs.Running.{TookTooMany, TookToFault, Left, HasTold}
+use Rattle.backup_script.specs.Scripts.{Outcome, script, Stage, between, IsStage}
+use Rattle.backup_script.specs.Running.{TookTooMany, TookToFault, JointFrom, Left, HasTold}
 use Rattle.backup_script.specs.Ended.{Ends, EndsShort, TakesBytes, IsRefusedLog}
-use Rattle.backup_script.proofs.StageLaws.{stage_whole}
+use Rattle.backup_script.proofs.StageLaws.{stage_front, stage_whole}
 use Rattle.dump_forms.specs.Journals.{IsJournalAfter}
 use Rattle.script_journals.proofs.Following.{journal_front, journal_form, journal_bytes}
 use Rattle.backup_top.specs.declared.status.Status.{Status}
 use Rattle.backup_top.specs.declared.status.Status.TheVariants.{Done, SomeRefused, Usage, ReadFault, MediaFault, CellFault, Memory, BadConfig, BadLog, OutputFault, ScriptTooLong}
 use Rattle.backup_top.specs.Answers.{run_status, opening_status, config_status}
-use Rattle.backup_top.specs.Courses.{Course, FindsFit, FindsVolumes, contents_in, IsWithin, IsComplete, outcome, Leaves, LeavesShort, Runs, TellsLines, TakesBy, Journal, IsBadLog, RefusesJournal, IsRefusedAt, Reopens, LeftImage, LeavesImages, EndsAt, HasCauseAs}
+use Rattle.backup_top.specs.Courses.{Course, FindsFit, FindsVolumes, contents_in, IsWithin, IsComplete, outcome, Leaves, LeavesShort, Runs, TellsLines, TakesBy, Journal, IsBadLog, RefusesJournal, IsRefusedAt, Reopens, LeftImage, LeavesImages, EndImage, EndsAt, HasCauseAs}
 use Rattle.script_journals.specs.Dumping.{IsFormedFor}
 use Rattle.session_archives.specs.Held.{HoldsWorld, HoldsAfter, KeepsListed, EachKeepsListed, RepliesSettle}
 use Rattle.session_archives.proofs.Replies.{settle_first}
@@ -342,6 +342,10 @@ image_of c effects old new j joint =
       archive = λ held asked. j.images c.world (contents_in c joint.count) (take joint.count effects) new (j.way held asked joint.count joint.within) joint.left;
     }
 
+end_image : (c : Course) (stage : Stage) (old new : Stock) → Journaled c stage.effects → JointFrom (length stage.whole) c.world.state stage.effects old new → EndImage c stage old new
+unfolding image_of
+end_image c stage old new j past = record { left = image_of c stage.effects old new j past.joint; whole = past.low_is }
+
 pub images_of : {D : Type 0} (time : Moments D Image) (old new : D) (c : Course) (effects : List Effect) → Journaled c effects → LeavesSince time old new (λ a b. Joint c.world.state effects (stock_of a) (stock_of b)) → LeavesImages time old new c effects
 images_of time old new c effects j images = λ i left. let at = images i left in record { from = at.from; was = at.was; step = image_of c effects (stock_of at.from) (stock_of i) j at.step }
 
@@ -391,15 +395,27 @@ stage_journaled c stage on j =
     }
 
 -- however it ended
-pub ends_at : {D : Type 0} (time : Moments D Image) (seen : D → Image) (old new : D) (c : Course) (stage : Stage) → IsStage [] c.world c.moments (lines c.input) stage → c.cell ≡ stage.cell → c.left ≡ stage.moments → Journaled c (outcome c).effects
-    → time.moment old ≤ time.moment new → time.may_leave new (seen new) → LeavesSince time old new (λ a b. Joint c.world.state stage.effects (stock_of a) (stock_of b)) → EndsAt time seen old new c
-ends_at time seen old new c stage on cell clock j later reads images = record {
+pub ends_past : {D : Type 0} (time : Moments D Image) (seen : D → Image) (old new : D) (c : Course) (stage : Stage) → IsStage [] c.world c.moments (lines c.input) stage → c.cell ≡ stage.cell → c.left ≡ stage.moments → Journaled c (outcome c).effects
+    → Stepped time old (λ a b. JointFrom (length stage.whole) c.world.state stage.effects (stock_of a) (stock_of b)) (seen new) → EndsAt time seen old new c
+ends_past time seen old new c stage on cell clock j last = record {
   stage = stage;
   on_the_way = on;
   cell = cell;
   clock = clock;
-  image = images_of time old new c stage.effects (stage_journaled c stage on j) images (seen new) (time.counts_now new (time.moment old) (seen new) later reads);
+  image = record {
+    from = last.from;
+    was = last.was;
+    step = end_image c stage (stock_of last.from) (stock_of (seen new)) (stage_journaled c stage on j) last.step;
+  };
 }
+
+-- where no line was begun
+pub ends_front : {D : Type 0} (time : Moments D Image) (seen : D → Image) (old new : D) (c : Course) → c.cell ≡ c.world.cell → c.left ≡ c.moments → Journaled c (outcome c).effects → time.moment old ≤ time.moment new → time.may_leave new (seen new)
+    → LeavesSince time old new (λ a b. Joint c.world.state [] (stock_of a) (stock_of b)) → EndsAt time seen old new c
+ends_front time seen old new c cell clock j later reads images =
+    let last = images (seen new) (time.counts_now new (time.moment old) (seen new) later reads) in
+    ends_past time seen old new c (between [] c.world c.moments) (stage_front [] c.world c.moments (lines c.input)) cell clock j
+    (record { from = last.from; was = last.was; step = record { joint = last.step; low_is = omega arith } })
 
 -- what was left of a stage was left of the script
 pub left_whole : {D E : Type 0} (P : Plant D) (C : Cell E) (w v : World) (ms : List ℕ) (these : List (List ℕ)) (old new : D) (site : E) (left : List ℕ) → w ≡ v → Left P C w ms these old new site left → LeavesPlant P (script v ms these).effects old new

@@ -1,7 +1,7 @@
 -- From a plant over media to the media.
 use Rattle.std.proofs.Common.{◌≡◌, inl, zero, suc, ℕ, ◌+◌, ◌-◌, ◌≤◌, Bool, true, IsTrue, List, [], ◌∷◌, ◌++◌, length, take, Some, None, refl, sym, ◌∙◌, ap, subst, arith}
 use Rattle.std.proofs.lemmas.List.{take_all, append-nil}
-use Rattle.crash_moments.specs.Moments.{Moments, Leads, LeavesSince}
+use Rattle.crash_moments.specs.Moments.{Moments, Stepped, Leads, LeavesSince}
 use Rattle.crash_moments.specs.Telling.{IsFront, Extends}
 use Rattle.crash_moments.proofs.Fronts.{whole_front}
 use Rattle.crash_moments.proofs.Joining.{joined, weakened, whole, mapped_leads, part_leaves}
@@ -17,6 +17,7 @@ use Rattle.plant_media.specs.Stock.{stock_of, journal_of, log_shown, tape_of}
 use Rattle.plant_media.specs.Slots.{slots_here, shown}
 use Rattle.plant_media.specs.State.{media_of, moments_of, shown_of}
 use Rattle.plant_media.specs.declared.plant.MediaPlant.{MediaPlant}
+use Rattle.backup_script.specs.Running.{JointFrom}
 use Rattle.backup_top.specs.Courses.{at_rest, SameFiles, SameStock}
 
 -- ---- states
@@ -133,8 +134,18 @@ module _ {D : Type 0} (time : Moments D Image) (seen : D → Image) (media : D) 
       images_left = subst (λ (m : D). LeavesSince time media m (λ a b. Joint rest es (stock_of a) (stock_of b))) (sym back_is)
           (part_leaves time media_of stock_of first end (Joint rest es) all (λ a was. joint_none rest es (stock_of a) (stock_of a) (fits a was) (grows_none (stock_of a) (stock_of a) refl)))
 
-      pub images_later : time.moment media ≤ time.moment back
-      images_later = subst (λ (m : D). time.moment media ≤ time.moment m) (sym back_is) all.later
+  -- what reads give at the end, where so many of these effects were done at least
+  pub reads_past : (back : D) (es : List Effect) (low : ℕ) (s : State) (plant end : MediaPlant D) → back ≡ end.media → rest ≡ s → Leads time media plant.media Same → time.may_leave back (seen back)
+      → ((c : Stock) → (moments_of time).may_leave end c → Stepped (moments_of time) plant (JointFrom low s es) c) → Stepped time media (λ a b. JointFrom low rest es (stock_of a) (stock_of b)) (seen back)
+  reads_past back es low s plant end back_is same_rest opening reads past =
+      let last = past (stock_of (seen back)) (record { from = seen back; was = subst (λ (m : D). time.may_leave m (seen back)) back_is reads; is = refl }) in
+      let first = opening.now last.was.from last.was.was in
+      let same : last.from ≡ stock_of first.from = last.was.is ∙ ap stock_of first.step in
+      record {
+        from = first.from;
+        was = first.was;
+        step = subst (λ (a : Stock). JointFrom low rest es a (stock_of (seen back))) same (subst (λ (t : State). JointFrom low t es last.from (stock_of (seen back))) (sym same_rest) last.step);
+      }
 
   -- where it was only read
   pub nothing_same : (back : D) → Leads time media back Same → LeavesSince time media back SameStock

@@ -262,14 +262,20 @@ pub record CellAtStage (c : Course) : Type 0 where
   pub clock : c.left ≡ stage.moments
   pub told : IsFront c.after.told (c.before.told ++ told_by stage.effects)
 
+-- What reads give at the end: such an image, behind all effects of the lines before the one in progress.
+pub record EndImage (c : Course) (stage : Stage) (old new : Stock) : Type 0 where
+  pub left : LeftImage c stage.effects old new
+  pub whole : length stage.whole ≤ left.joint.count
+
 -- However a run ends, what reads give is such an image of a stage of the script, the cell has the list of this stage, and the clock has its
--- moments left. So the cell has the changes of each command whose reply was told.
+-- moments left. So the cell has the changes of each command whose reply was told, and so have the journal and the tapes those of each command
+-- before the one in progress.
 pub record EndsAt {D : Type 0} (time : Moments D Image) (seen : D → Image) (old new : D) (c : Course) : Type 0 where
   pub stage : Stage
   pub on_the_way : IsStage [] c.world c.moments (lines c.input) stage
   pub cell : c.cell ≡ stage.cell
   pub clock : c.left ≡ stage.moments
-  pub image : Stepped time old (λ a b. LeftImage c stage.effects (stock_of a) (stock_of b)) (seen new)
+  pub image : Stepped time old (λ a b. EndImage c stage (stock_of a) (stock_of b)) (seen new)
 
 -- ---- causes
 

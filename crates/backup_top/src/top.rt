@@ -213,7 +213,8 @@ pub fn run<M: Media, C: Cell, K: Clock, S: Source>(
     ensures images { asked words.now.items ≡ Run → M.tells → C.tells → K.tells → S.tells → AreStill M.time M.seen media → (entry : Entry config.now (stock_of (M.seen media))) → (contents : Contents)
         → let c = course_of M.seen M.count M.present contents media entry result.1 (C.list cell.old) (C.list cell.new) (K.moments clock.old) (K.moments clock.new) (S.left source.old) (S.left source.new) in
         FindsHeld c → LeavesImages M.time media result.1 c (outcome c).effects }
-    // However it ended, what reads give is such an image, and cell and clock are those of its stage.
+    // However it ended, what reads give is such an image, and cell and clock are those of its stage. All effects of the lines before the one in
+    // progress are done in it.
     ensures ends { asked words.now.items ≡ Run → M.tells → C.tells → K.tells → S.tells → AreStill M.time M.seen media → (entry : Entry config.now (stock_of (M.seen media))) → (contents : Contents)
         → let c = course_of M.seen M.count M.present contents media entry result.1 (C.list cell.old) (C.list cell.new) (K.moments clock.old) (K.moments clock.new) (S.left source.old) (S.left source.new) in
         FindsHeld c → EndsAt M.time M.seen media result.1 c }

@@ -120,6 +120,7 @@ returns-then-not-passed-clause-left g c = λ told tells_cell tells_clock source 
     let so = l.invariant.serving told tells_cell tells_clock source w fits held in
     let ran = c.in-Ok.ensures.ended told tells_cell tells_clock source (script w ms so.ran).world so.so_far.went.fits (serving_held P g.C.Cell w (g.K.Clock.moments c.args.clock.now) (g.S.Source.left c.args.source.now) c.args.plant.now l.plant l.cell l.session (g.K.Clock.moments l.clock) (g.S.Source.left l.source) so held) (not_true c.in-Ok.passed.goes c.if-not-passed.true) in
     all_left P g.C.Cell w ms (lines input) c.args.plant.now n.plant n.cell n.session (g.K.Clock.moments n.clock)
+    (λ told survives image was. g.met.P.Plant.left n.plant image told c.in-Ok.ensures.sound survives was)
     (serving_ended P g.C.Cell w ms input c.args.plant.now l.plant l.cell l.session (g.K.Clock.moments l.clock) (g.S.Source.left l.source) so n.plant n.cell n.session (g.K.Clock.moments n.clock) ran)
 
 pub returns-then-not-passed-clause-takes : goal.returns-then-not-passed-clause-takes

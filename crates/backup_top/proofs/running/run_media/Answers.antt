@@ -1,4 +1,4 @@
-use Rattle.std.proofs.Common.{◌≡◌, ℕ, ◌-◌, Bool, [], refl, sym, ◌∙◌, ap, subst, arith}
+use Rattle.std.proofs.Common.{◌≡◌, ℕ, ◌-◌, Bool, [], length, refl, sym, ◌∙◌, ap, subst, arith}
 use Rattle.std.specs.Str.Lines.{lines}
 use Rattle.media_core.specs.Media.{Image}
 use Rattle.plant_core.specs.Stock.{Stock}
@@ -18,9 +18,9 @@ use Rattle.session_archives.specs.Ready.{IsReady, RestoresApartThroughout, at_fi
 use Rattle.backup_top.specs.declared.status.Status.{Status}
 use Rattle.backup_top.specs.declared.status.Status.TheVariants.{MediaFault}
 use Rattle.backup_top.specs.Courses.{Course, course, outcome, at_rest, Runs, TellsLines, TakesBy, RefusesJournal, HasCauseAs}
-use Rattle.backup_top.proofs.Lowering.{opened_rests, shown_log, journal_damaged, still_left, nothing_since, images_left, images_later, none_some, same_files, shown_told, told_to, untold_to, nothing_same, images_same}
+use Rattle.backup_top.proofs.Lowering.{opened_rests, shown_log, journal_damaged, still_left, nothing_since, images_left, reads_past, none_some, same_files, shown_told, told_to, untold_to, nothing_same, images_same}
 use Rattle.backup_top.proofs.TapeCounts.{has_tapes}
-use Rattle.backup_top.proofs.CourseLaws.{OpenedForms, has_forms, ready_for, AbsentStay, leaves_media, runs_of, runs_not_opened, journal_of_log, told_lines, opening_lines, takes_run, takes_opening, opening_later, bad_log_answer, cell_answer, plant_answer, refuses_journal, opening_bad, opening_cause, bad_journal, damaged_journal, journaled, images_of, ends_at, left_whole}
+use Rattle.backup_top.proofs.CourseLaws.{OpenedForms, has_forms, ready_for, AbsentStay, leaves_media, runs_of, runs_not_opened, journal_of_log, told_lines, opening_lines, takes_run, takes_opening, opening_later, bad_log_answer, cell_answer, plant_answer, refuses_journal, opening_bad, opening_cause, bad_journal, damaged_journal, journaled, images_of, ends_past, ends_front, left_whole}
 use Rattle.backup_top.proofs.running.run_media.Goals as goal
 
 pub returns-in-Ok-clause-runs : goal.returns-in-Ok-clause-runs
@@ -102,12 +102,8 @@ returns-in-Ok-clause-ends g c = λ told tells_cell tells_clock source still name
     = λ i. opened (record { config = c.args.config; slots = e.count i - 1; present = slots_here (e.present i) }) journal.log (g.C.Cell.list c.args.cell.now) contents (sym rests i) in
     let found = subst (λ (w : World). IsHeldThroughout w k.moments (lines k.input)) (sym same) held in
     let left = r.left told tells_cell tells_clock source (e.settled told) journal.log journal.form log_is contents found in
-    let fits = still_left M.time M.seen media bytes still (λ image was. g.met.M.Media.told_left media image told was) journal.is in
-    let crash = left.leaves.crash told (e.survives told still) in
-    ends_at M.time M.seen media back k left.stage (subst (λ (w : World). IsStage [] w k.moments (lines k.input) left.stage) same left.on_the_way) left.cell left.clock (journaled c.journals_of_scripts.ensures c.scripts_keep_the_archive.ensures.on_the_way c.scripts_keep_the_archive.ensures.listed c.scripts_keep_the_archive.ensures.settled c.images_hold_the_archive.ensures.behind k forms has refl journal.form refl)
-    (images_later M.time M.seen media bytes back left.stage.effects fits shown plant n.plant c.into_media.ensures.media rests (e.crash told) crash)
-    (g.met.M.Media.seen_may_be_left back told)
-    (images_left M.time M.seen media bytes back left.stage.effects fits shown plant n.plant c.into_media.ensures.media rests (e.crash told) crash)
+    ends_past M.time M.seen media back k left.stage (subst (λ (w : World). IsStage [] w k.moments (lines k.input) left.stage) same left.on_the_way) left.cell left.clock (journaled c.journals_of_scripts.ensures c.scripts_keep_the_archive.ensures.on_the_way c.scripts_keep_the_archive.ensures.listed c.scripts_keep_the_archive.ensures.settled c.images_hold_the_archive.ensures.behind k forms has refl journal.form refl)
+    (reads_past M.time M.seen media bytes back left.stage.effects (length left.stage.whole) shown plant n.plant c.into_media.ensures.media rests (e.crash told) (g.met.M.Media.seen_may_be_left back told) (left.past told (e.survives told still)))
 
 pub returns-in-Ok-clause-bad_log : goal.returns-in-Ok-clause-bad_log
 returns-in-Ok-clause-bad_log g c = λ told at is.
@@ -237,7 +233,7 @@ returns-in-Err-clause-ends g c = λ told tells_cell tells_clock source still nam
     let has = has_tapes k.world (M.present media) (M.seen media) (M.count media) refl refl (g.met.M.Media.here_below media) (g.met.M.Media.few_files media) in
     let laws : OpenedForms = record { lines = c.opened_worlds_have_their_forms.ensures.lines; ready = c.opened_worlds_have_their_forms.ensures.ready; fit = c.opened_worlds_have_their_forms.ensures.fit } in
     let forms = has_forms laws k named says has journal.form (g.met.C.Cell.is_cell c.args.cell.now tells_cell) (c.listed_is_allowed.ensures tells_cell) refl in
-    ends_at M.time M.seen media back k (between [] k.world k.moments) (stage_front [] k.world k.moments (lines k.input)) refl refl (journaled c.journals_of_scripts.ensures c.scripts_keep_the_archive.ensures.on_the_way c.scripts_keep_the_archive.ensures.listed c.scripts_keep_the_archive.ensures.settled c.images_hold_the_archive.ensures.behind k forms has refl journal.form refl) (c.in-Err.ensures.crash told).later (g.met.M.Media.seen_may_be_left back told)
+    ends_front M.time M.seen media back k refl refl (journaled c.journals_of_scripts.ensures c.scripts_keep_the_archive.ensures.on_the_way c.scripts_keep_the_archive.ensures.listed c.scripts_keep_the_archive.ensures.settled c.images_hold_the_archive.ensures.behind k forms has refl journal.form refl) (c.in-Err.ensures.crash told).later (g.met.M.Media.seen_may_be_left back told)
     (nothing_since M.time M.seen media bytes back [] (still_left M.time M.seen media bytes still (λ image was. g.met.M.Media.told_left media image told was) journal.is) (c.in-Err.ensures.crash told))
 
 pub returns-in-Err-clause-bad_log : goal.returns-in-Err-clause-bad_log
