@@ -14,7 +14,7 @@ use Rattle.backup_script.specs.declared.serving.ServeStop.TheVariants.{Read, Too
 use Rattle.backup_script.specs.Lines.{is_feed, is_quit, TookPiece}
 use Rattle.backup_script.specs.Items.{item_of}
 use Rattle.backup_script.specs.Scripts.{one_line, script}
-use Rattle.backup_script.specs.Running.{Left, LineRan, LineLeft, ScriptRan, LinePassed, TookEnd, TakesNext}
+use Rattle.backup_script.specs.Running.{LeftWith, LineRan, LineLeft, ScriptRan, LinePassed, TookEnd, TakesNext}
 use Rattle.backup_script.proofs.LineLaws.{none_ended, one_ended}
 use Rattle.backup_script.proofs.ServingLaws.{line_passed, line_ended, line_left, last_ran, last_left}
 
@@ -79,7 +79,7 @@ module _ {D E : Type 0} (P : Plant D) (C : Cell E) (w : World) (ms input rest li
   ended_line (Ok passed) ran = λ off. line_ended P C w ms input rest line old new site took session left passed.goes off (ran_stripped passed ran)
   ended_line (Err stop) ran = tt
 
-  pub left_line : (r : Result Passed ServeStop) → OnErr r (LineLeft P C w ms (item_of read) old new site left) → OnErr r (Left P C w ms (lines input) old new site left)
+  pub left_line : (r : Result Passed ServeStop) → OnErr r (LineLeft P C w ms (item_of read) old new site left) → OnErr r (LeftWith P C w ms (lines input) [] old new site left)
   left_line (Ok passed) begun = tt
   left_line (Err stop) begun = line_left P C w ms input rest line old new site took left (subst (λ (l : List ℕ). LineLeft P C w ms (item_of l) old new site left) is begun)
 
@@ -88,7 +88,7 @@ module _ {D E : Type 0} (P : Plant D) (C : Cell E) (w : World) (ms input line re
   ended_last (Ok passed) ran = λ off. last_ran P C w ms input line old new site session left took some (subst (λ (l : List ℕ). ScriptRan P C (script w ms (l ∷ [])) old new site session left) is ran)
   ended_last (Err stop) ran = tt
 
-  pub left_last : (r : Result Passed ServeStop) → OnErr r (LineLeft P C w ms (item_of read) old new site left) → OnErr r (Left P C w ms (lines input) old new site left)
+  pub left_last : (r : Result Passed ServeStop) → OnErr r (LineLeft P C w ms (item_of read) old new site left) → OnErr r (LeftWith P C w ms (lines input) [] old new site left)
   left_last (Ok passed) begun = tt
   left_last (Err stop) begun = last_left P C w ms input line old new site left took some (subst (λ (l : List ℕ). LineLeft P C w ms (item_of l) old new site left) is begun)
 

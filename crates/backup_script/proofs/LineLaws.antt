@@ -1,5 +1,5 @@
 -- Lines, one after the other.
-use Rattle.std.proofs.Common.{◌≡◌, ℕ, ◌<◌, Bool, true, false, List, [], ◌∷◌, ◌++◌, length, All, cond, refl, sym, ◌∙◌, ap, arith, append_assoc}
+use Rattle.std.proofs.Common.{◌≡◌, inl, inr, ℕ, ◌<◌, Bool, true, false, List, [], ◌∷◌, ◌++◌, length, All, cond, refl, sym, ◌∙◌, ap, arith, append_assoc}
 use Rattle.std.specs.Prelude.{◌==◌, ◌||◌, if◌then◌else◌}
 use Rattle.std.specs.List.{list_any, slice_split}
 use Rattle.std.specs.Str.Lines.{lines, lines_of_parts, strip_carriage_return}
@@ -9,6 +9,7 @@ use Rattle.std.proofs.lemmas.List.Elements.{All-append, All-cons, All-nil}
 use Rattle.std.proofs.lemmas.List.Folds.{list_any-append, list_any_none}
 use Rattle.std.proofs.lemmas.List.Splits.{slice_split_at, slice_split_none, length-slice_split}
 use Rattle.backup_script.specs.Lines.{is_feed, has_feed, ended, is_quit, has_quit, TookPiece}
+use Rattle.backup_script.specs.Running.{IsOneLine}
 
 -- one byte more
 pub piece_more : (old new piece : List ℕ) (b : ℕ) → TookPiece old (b ∷ new) piece → (b ≡ 10 → ⊥) → TookPiece old new (piece ++ b ∷ [])
@@ -79,18 +80,23 @@ lines_cut bytes piece these are plain =
 pub lines_ended : (bytes : List ℕ) (these : List (List ℕ)) → AreLines bytes these → lines (ended bytes) ≡ these
 lines_ended bytes these are = ap (λ (l : List ℕ). lines (ended l)) (sym (append-nil bytes)) ∙ lines_cut bytes [] these are (All-nil (λ b. is_feed b ≡ false))
 
--- ---- none of what is ended is `quit`
+-- ---- one line at most is ended
 
 pub or_false : (a b : Bool) → a ≡ false → b ≡ false → (a || b) ≡ false
 or_false true b is other = cc
 or_false false b is other = other
 
 -- nothing is ended
-pub none_ended : (piece : List ℕ) → All (λ b. is_feed b ≡ false) piece → has_quit (lines (ended piece)) ≡ false
-none_ended piece plain = ap has_quit (lines_cut [] piece [] no_lines plain)
+pub none_ended : (piece : List ℕ) → All (λ b. is_feed b ≡ false) piece → IsOneLine (lines (ended piece))
+none_ended piece plain = inl (lines_cut [] piece [] no_lines plain)
 
 -- a line with its end
-pub one_ended : (line : List ℕ) → All (λ b. is_feed b ≡ false) line → is_quit (strip_carriage_return line) ≡ false → has_quit (lines (ended (line ++ 10 ∷ []))) ≡ false
+pub one_ended : (line : List ℕ) → All (λ b. is_feed b ≡ false) line → is_quit (strip_carriage_return line) ≡ false → IsOneLine (lines (ended (line ++ 10 ∷ [])))
 one_ended line plain other =
-    ap has_quit (lines_ended (line ++ 10 ∷ []) (strip_carriage_return line ∷ []) (one_line_more [] line [] no_lines plain))
-    ∙ or_false (is_quit (strip_carriage_return line)) false other refl
+    inr (strip_carriage_return line, lines_ended (line ++ 10 ∷ []) (strip_carriage_return line ∷ []) (one_line_more [] line [] no_lines plain), other)
+
+pub one_no_quit : (these : List (List ℕ)) → IsOneLine these → has_quit these ≡ false
+one_no_quit these one = elim one [
+  | inl none ↦ ap has_quit none
+  | inr (line, is, other) ↦ ap has_quit is ∙ or_false (is_quit line) false other refl
+]

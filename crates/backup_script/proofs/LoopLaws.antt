@@ -14,10 +14,10 @@ use Rattle.backup_session.specs.Fitting.{Fits}
 use Rattle.backup_script.specs.Lines.{is_feed, ended, is_quit, has_quit, TookPiece}
 use Rattle.backup_script.specs.Scripts.{Outcome, nothing, then_outcome, script, between, IsStage}
 use Rattle.backup_script.specs.Held.{IsHeldThroughout}
-use Rattle.backup_script.specs.Running.{Went, Left, ScriptRan, LinePassed, Took, TookAll, TookToQuit, TookTooMany, TookToFault, WentShort, TookEnd, TakesNext, Takes, HasUsed}
+use Rattle.backup_script.specs.Running.{Went, AreBegun, LeftAt, LeftWith, ScriptRan, LinePassed, Took, TookAll, TookToQuit, TookTooMany, TookToFault, WentShort, IsOneLine, TookEnd, TakesNext, Takes, HasUsed}
 use Rattle.backup_script.specs.declared.serving.ServeStop.{ServeStop}
 use Rattle.backup_script.specs.declared.serving.ServeStop.TheVariants.{Read, Plant as PlantStop, Cell as CellStop, Output, TooLong, Memory}
-use Rattle.backup_script.proofs.LineLaws.{AreLines, no_lines, one_line_more, lines_cut, line_first, ended_first, or_false}
+use Rattle.backup_script.proofs.LineLaws.{AreLines, no_lines, one_line_more, lines_cut, line_first, ended_first, or_false, one_no_quit}
 use Rattle.backup_script.proofs.ScriptLaws.{script_more}
 use Rattle.backup_script.proofs.HeldLaws.{held_behind}
 use Rattle.backup_script.proofs.PastLaws.{past_whole, past_both}
@@ -73,12 +73,21 @@ module _ (input rest : List ℕ) (ran : List (List ℕ)) (so : Reading input res
         no_quit = ap has_quit (lines_cut so.bytes piece ran so.are plain) ∙ so.no_quit;
       }
 
-  pub took_to_fault : (new piece : List ℕ) (n : ℕ) → rest ≡ piece ++ new → has_quit (lines (ended piece)) ≡ false → length input ≡ length new + n → n ≤ 16777217 → TookToFault input new
+  -- the lines that were ended, with those of a piece
+  ended_lines : (piece : List ℕ) → lines (ended (so.bytes ++ piece)) ≡ ran ++ lines (ended piece)
+  ended_lines piece = ap (λ (l : List ℕ). lines l) (so.are.ended piece) ∙ so.are.lines (ended piece)
+
+  pub lines_begun : (w : World) (ms piece : List ℕ) (whole : List Effect) → IsOneLine (lines (ended piece)) → whole ≡ (script w ms ran).effects → AreBegun w ms (lines (ended (so.bytes ++ piece))) whole
+  lines_begun w ms piece whole one is = elim one [
+    | inl none ↦ inl (is ∙ ap (λ (ls : List (List ℕ)). (script w ms ls).effects) (sym (ended_lines piece ∙ ap (λ (ls : List (List ℕ)). ran ++ ls) none ∙ append-nil ran)))
+    | inr (line, same, other) ↦ inr (ran, line, ended_lines piece ∙ ap (λ (ls : List (List ℕ)). ran ++ ls) same, is)
+  ]
+
+  pub took_to_fault : (new piece : List ℕ) (n : ℕ) → rest ≡ piece ++ new → IsOneLine (lines (ended piece)) → length input ≡ length new + n → n ≤ 16777217 → TookToFault input new
   unfolding took_more
-  took_to_fault new piece n is none count few = record {
+  took_to_fault new piece n is one count few = record {
     took = took_more new piece n is count few;
-    no_quit = ap (λ (l : List ℕ). has_quit (lines l)) (so.are.ended piece) ∙ ap has_quit (so.are.lines (ended piece)) ∙ list_any-append is_quit ran (lines (ended piece))
-        ∙ or_false (has_quit ran) (has_quit (lines (ended piece))) so.no_quit none;
+    no_quit = ap has_quit (ended_lines piece) ∙ list_any-append is_quit ran (lines (ended piece)) ∙ or_false (has_quit ran) (has_quit (lines (ended piece))) so.no_quit (one_no_quit (lines (ended piece)) one);
   }
 
   pub took_end : (new : List ℕ) (n : ℕ) → TookEnd rest new n → length input ≡ length new + n → n ≤ 16777217 → TookAll input new ⊎ TookToQuit input new
@@ -121,16 +130,22 @@ module _ {D E : Type 0} (P : Plant D) (C : Cell E) where
         }
 
     -- lines begun behind these
-    pub left_behind : (site2 : E) (left2 : List ℕ) → Left P C s.world left more mid new site2 left2 → Left P C w ms (ran ++ more) old new site2 left2
-    left_behind site2 left2 begun = let now = subst (λ (m : List ℕ). Left P C s.world m more mid new site2 left2) so.went.moments begun in record {
-      stage = behind s.effects now.stage;
-      on_the_way = stage_later [] w ms ran more (behind s.effects now.stage) goes
-          (subst (λ (es : List Effect). IsStage es s.world s.moments more (behind s.effects now.stage)) (append-nil s.effects) (stage_behind s.effects [] s.world s.moments more now.stage now.on_the_way));
-      cell = now.cell;
-      clock = now.clock;
-      leaves = leaves_both P s.effects now.stage.effects old mid new so.went.done so.leaves now.leaves;
-      past = past_both P s.effects now.stage.effects now.stage.whole old mid new so.went.done so.leaves now.past;
-    }
+    pub left_behind : (site2 : E) (left2 : List ℕ) → LeftWith P C s.world left more [] mid new site2 left2 → LeftWith P C w ms (ran ++ more) s.effects old new site2 left2
+    left_behind site2 left2 begun =
+        let first = subst (λ (m : List ℕ). LeftWith P C s.world m more [] mid new site2 left2) so.went.moments begun in
+        let now = first.at in
+        record {
+          at = record {
+            stage = behind s.effects now.stage;
+            on_the_way = stage_later [] w ms ran more (behind s.effects now.stage) goes
+                (subst (λ (es : List Effect). IsStage es s.world s.moments more (behind s.effects now.stage)) (append-nil s.effects) (stage_behind s.effects [] s.world s.moments more now.stage now.on_the_way));
+            cell = now.cell;
+            clock = now.clock;
+            leaves = leaves_both P s.effects now.stage.effects old mid new so.went.done so.leaves now.leaves;
+            past = past_both P s.effects now.stage.effects now.stage.whole old mid new so.went.done so.leaves now.past;
+          };
+          whole_is = ap (λ (es : List Effect). s.effects ++ es) first.whole_is ∙ append-nil s.effects;
+        }
 
     -- nothing was run behind these
     pub nothing_behind : (site2 : E) (session2 : SessionView) (left2 : List ℕ) → Went P C (nothing s.world left true) mid new site2 session2 left2 → Went P C s old new site2 session2 left2
@@ -189,9 +204,17 @@ module _ {D E : Type 0} (P : Plant D) (C : Cell E) where
         subst (λ (ls : List (List ℕ)). ScriptRan P C (script w ms ls) old new site2 session2 left2) (sym (lines_all input rest so.ran so.reading))
         (ran_behind w ms so.ran (lines rest) old now new site session left so.so_far so.goes site2 session2 left2 next)
 
-    pub serving_left : (new : D) (site2 : E) (left2 : List ℕ) → Left P C here.world left (lines rest) now new site2 left2 → Left P C w ms (lines input) old new site2 left2
-    serving_left new site2 left2 begun = subst (λ (ls : List (List ℕ)). Left P C w ms ls old new site2 left2) (sym (lines_all input rest so.ran so.reading))
-        (left_behind w ms so.ran (lines rest) old now new site session left so.so_far so.goes site2 left2 begun)
+    pub serving_left : (new : D) (site2 : E) (left2 rest2 piece : List ℕ) (n : ℕ) → rest ≡ piece ++ rest2 → IsOneLine (lines (ended piece)) → length input ≡ length rest2 + n → n ≤ 16777217 → LeftWith P C here.world left (lines rest) [] now new site2 left2
+        → LeftAt P C w ms input rest2 old new site2 left2
+    unfolding took_more
+    serving_left new site2 left2 rest2 piece n is one count few begun =
+        let all = subst (λ (ls : List (List ℕ)). LeftWith P C w ms ls here.effects old new site2 left2) (sym (lines_all input rest so.ran so.reading))
+        (left_behind w ms so.ran (lines rest) old now new site session left so.so_far so.goes site2 left2 begun) in
+        record {
+          at = all.at;
+          took = took_more input rest so.ran so.reading rest2 piece n is count few;
+          begun = inr (lines_begun input rest so.ran so.reading w ms piece all.at.stage.whole one all.whole_is);
+        }
 
     pub serving_short : (new : D) (site2 : E) (session2 : SessionView) (left2 rest2 piece : List ℕ) (n : ℕ) → rest ≡ piece ++ rest2 → All (λ b. is_feed b ≡ false) piece → length input ≡ length rest2 + n → n ≤ 16777217
         → Went P C (nothing here.world left true) now new site2 session2 left2 → WentShort P C w ms input rest2 old new site2 session2 left2
@@ -203,26 +226,38 @@ module _ {D E : Type 0} (P : Plant D) (C : Cell E) where
     }
 
   -- where all of it was run, the stage is the last one
-  pub all_left : (w : World) (ms : List ℕ) (these : List (List ℕ)) (old new : D) (site : E) (session : SessionView) (left : List ℕ) → FitsPlant P new → ScriptRan P C (script w ms these) old new site session left
-      → Left P C w ms these old new site left
-  all_left w ms these old new site session left fits ran = record {
-    stage = between (script w ms these).effects (script w ms these).world (script w ms these).moments;
-    on_the_way = stage_last [] w ms these;
-    cell = ran.went.fits.cell;
-    clock = ran.went.moments;
-    leaves = ran.leaves;
-    past = past_whole P (script w ms these).effects old new ran.went.done ran.leaves fits;
-  }
+  pub all_left : (w : World) (ms input rest : List ℕ) (old new : D) (site : E) (session : SessionView) (left : List ℕ) → Took input rest → FitsPlant P new → ScriptRan P C (script w ms (lines input)) old new site session left
+      → LeftAt P C w ms input rest old new site left
+  all_left w ms input rest old new site session left took fits ran =
+      let s = script w ms (lines input) in
+      record {
+        at = record {
+          stage = between s.effects s.world s.moments;
+          on_the_way = stage_last [] w ms (lines input);
+          cell = ran.went.fits.cell;
+          clock = ran.went.moments;
+          leaves = ran.leaves;
+          past = past_whole P s.effects old new ran.went.done ran.leaves fits;
+        };
+        took = took;
+        begun = inl refl;
+      }
 
 -- ---- what was taken at an end
 
+pub took_at_end : (old new : List ℕ) → TookAll old new ⊎ TookToQuit old new → Took old new
+took_at_end old new end = elim end [
+  | inl all ↦ record { taken = old; is = sym (append-nil old) ∙ ap (λ (l : List ℕ). old ++ l) (sym all.none_left); few = omega (arith, all.few) }
+  | inr quit ↦ quit.took
+]
+
 pub stop_takes : (input rest new : List ℕ) (ran : List (List ℕ)) (n : ℕ) (stop : ServeStop) → Reading input rest ran → TakesNext rest new n (Err stop) → length input ≡ length new + n → n ≤ 16777217 → (stop ≡ TooLong → n ≡ 16777217) → Takes input new (Err stop)
-stop_takes input rest new ran n TooLong so (piece, is, plain, none) count few long = took_too_many input rest ran so new piece is (plain (inl refl)) (omega (arith, count, long refl))
-stop_takes input rest new ran n Read so (piece, is, plain, none) count few long = took_to_fault input rest ran so new piece n is none count few
-stop_takes input rest new ran n PlantStop so (piece, is, plain, none) count few long = took_to_fault input rest ran so new piece n is none count few
-stop_takes input rest new ran n CellStop so (piece, is, plain, none) count few long = took_to_fault input rest ran so new piece n is none count few
-stop_takes input rest new ran n Output so (piece, is, plain, none) count few long = took_to_fault input rest ran so new piece n is none count few
-stop_takes input rest new ran n Memory so (piece, is, plain, none) count few long = took_to_fault input rest ran so new piece n is none count few
+stop_takes input rest new ran n TooLong so (piece, is, plain, one) count few long = took_too_many input rest ran so new piece is (plain (inl refl)) (omega (arith, count, long refl))
+stop_takes input rest new ran n Read so (piece, is, plain, one) count few long = took_to_fault input rest ran so new piece n is one count few
+stop_takes input rest new ran n PlantStop so (piece, is, plain, one) count few long = took_to_fault input rest ran so new piece n is one count few
+stop_takes input rest new ran n CellStop so (piece, is, plain, one) count few long = took_to_fault input rest ran so new piece n is one count few
+stop_takes input rest new ran n Output so (piece, is, plain, one) count few long = took_to_fault input rest ran so new piece n is one count few
+stop_takes input rest new ran n Memory so (piece, is, plain, one) count few long = took_to_fault input rest ran so new piece n is one count few
 
 -- ---- the moments of the clock
 

@@ -1,5 +1,5 @@
 -- How a session is opened and runs a script.
-use Rattle.std.proofs.Common.{◌≡◌, ℕ, Bool, List, [], ◌++◌, Err, refl, sym, ◌∙◌, ap, subst}
+use Rattle.std.proofs.Common.{◌≡◌, inl, inr, arith, ℕ, Bool, List, [], ◌++◌, Err, refl, sym, ◌∙◌, ap, subst}
 use Rattle.std.specs.Str.Lines.{lines}
 use Rattle.std.proofs.lemmas.List.{append_cancel_left}
 use Rattle.plant_core.specs.declared.plant.Plant.{Ghosts as Plant}
@@ -20,7 +20,7 @@ use Rattle.backup_session.specs.Views.{SessionView}
 use Rattle.backup_session.specs.Fitting.{Fits}
 use Rattle.backup_script.specs.Lines.{ended}
 use Rattle.backup_script.specs.Scripts.{Outcome, between, script}
-use Rattle.backup_script.specs.Running.{Went, Left, WentShort, HasTold}
+use Rattle.backup_script.specs.Running.{Went, LeftAt, WentShort, HasTold}
 use Rattle.backup_script.specs.Ended.{world_on, Ends, EndsShort}
 use Rattle.backup_script.proofs.StageLaws.{stage_front}
 use Rattle.backup_script.proofs.PastLaws.{past_none, past_both}
@@ -57,23 +57,32 @@ module _ {D E : Type 0} (P : Plant D) (C : Cell E) where
     pub short_ends : (input rest : List ℕ) (session : SessionView) (left : List ℕ) → WentShort P C w ms input rest mid new site session left → EndsShort P C w ms input rest old new site left
     short_ends input rest session left short = record { took = short.took; ends = went_ends (script w ms (lines (ended short.took.taken))) session left short.went }
 
-    pub left_after : (these : List (List ℕ)) (left : List ℕ) → Left P C w ms these mid new site left → Left P C w ms these old new site left
-    left_after these left begun = record {
-      stage = begun.stage;
-      on_the_way = begun.on_the_way;
-      cell = begun.cell;
-      clock = begun.clock;
-      leaves = leaves_both P [] begun.stage.effects old mid new first first_leaves begun.leaves;
-      past = past_both P [] begun.stage.effects begun.stage.whole old mid new first first_leaves begun.past;
+    pub left_after : (input rest left : List ℕ) → LeftAt P C w ms input rest mid new site left → LeftAt P C w ms input rest old new site left
+    left_after input rest left begun = let b = begun.at in record {
+      at = record {
+        stage = b.stage;
+        on_the_way = b.on_the_way;
+        cell = b.cell;
+        clock = b.clock;
+        leaves = leaves_both P [] b.stage.effects old mid new first first_leaves b.leaves;
+        past = past_both P [] b.stage.effects b.stage.whole old mid new first first_leaves b.past;
+      };
+      took = begun.took;
+      begun = begun.begun;
     }
 
   -- it wasn't opened
-  pub not_opened : (w : World) (ms : List ℕ) (these : List (List ℕ)) (old new : D) (site : E) → C.list site ≡ w.cell → Leaves P [] old new → Left P C w ms these old new site ms
-  not_opened w ms these old new site same leaves = record {
-    stage = between [] w ms;
-    on_the_way = stage_front [] w ms these;
-    cell = same;
-    clock = refl;
-    leaves = leaves;
-    past = past_none P [] old new leaves;
+  pub not_opened : (w : World) (ms input : List ℕ) (old new : D) (site : E) → C.list site ≡ w.cell → Leaves P [] old new → LeftAt P C w ms input input old new site ms
+  unfolding script
+  not_opened w ms input old new site same leaves = record {
+    at = record {
+      stage = between [] w ms;
+      on_the_way = stage_front [] w ms (lines input);
+      cell = same;
+      clock = refl;
+      leaves = leaves;
+      past = past_none P [] old new leaves;
+    };
+    took = record { taken = []; is = refl; few = omega arith };
+    begun = inr (inl refl);
   }

@@ -15,7 +15,7 @@ use Rattle.backup_script.specs.declared.item.Item.{Item}
 use Rattle.backup_script.specs.Items.{item_of}
 use Rattle.backup_script.specs.Scripts.{Outcome, nothing, one_line, script, Stage, between, OnLine, IsStage}
 use Rattle.backup_script.specs.Held.{HeldForLine, IsHeldThroughout}
-use Rattle.backup_script.specs.Running.{Went, LeavesPast, Left, LineRan, LineLeft, ScriptRan, LinePassed}
+use Rattle.backup_script.specs.Running.{Went, LeavesPast, LeftWith, LineRan, LineLeft, ScriptRan, LinePassed}
 use Rattle.backup_script.proofs.LineLaws.{line_first, line_last}
 use Rattle.backup_script.proofs.ScriptLaws.{script_one, script_ended}
 use Rattle.backup_script.proofs.StageLaws.{stage_front, line_whole}
@@ -53,6 +53,21 @@ module _ {D E : Type 0} (P : Plant D) (C : Cell E) where
       → (script w ms (line ∷ [])).goes ≡ goes
   goes_alone w ms line old new site session left goes ran = ap (λ (s : Outcome). s.goes) (script_one w ms line) ∙ sym ran.goes_is
 
+  -- the first of lines was begun
+  line_begun : (w : World) (ms line : List ℕ) (more : List (List ℕ)) (old new : D) (site : E) (left : List ℕ) → LineLeft P C w ms (item_of line) old new site left → LeftWith P C w ms (line ∷ more) [] old new site left
+  unfolding IsStage
+  line_begun w ms line more old new site left begun = record {
+    at = record {
+      stage = begun.stage;
+      on_the_way = inl begun.on_line;
+      cell = begun.cell;
+      clock = begun.clock;
+      leaves = begun.leaves;
+      past = first_past P w ms (item_of line) old new begun.stage begun.on_line begun.leaves;
+    };
+    whole_is = line_whole [] w ms (item_of line) begun.stage begun.on_line;
+  }
+
   -- a line that was ended, and what is behind it
   module _ (w : World) (ms input rest line : List ℕ) (old new : D) (site : E) (took : TookPiece input (10 ∷ rest) line) where
     pub line_passed : (session : SessionView) (left : List ℕ) (goes : Bool) → is_quit (strip_carriage_return line) ≡ false → goes ≡ true → LineRan P C (one_line w ms (item_of (strip_carriage_return line))) old new site session left goes
@@ -72,17 +87,9 @@ module _ {D E : Type 0} (P : Plant D) (C : Cell E) where
         (sym (ap (script w ms) (lines_first input rest line took) ∙ script_ended (strip_carriage_return line ∷ []) (lines rest) w ms (goes_alone w ms (strip_carriage_return line) old new site session left goes ran ∙ off)))
         (ran_alone w ms (strip_carriage_return line) old new site session left goes ran)
 
-    pub line_left : (left : List ℕ) → LineLeft P C w ms (item_of (strip_carriage_return line)) old new site left → Left P C w ms (lines input) old new site left
-    unfolding IsStage
-    line_left left begun = subst (λ (ls : List (List ℕ)). Left P C w ms ls old new site left) (sym (lines_first input rest line took))
-        (record {
-          stage = begun.stage;
-          on_the_way = inl begun.on_line;
-          cell = begun.cell;
-          clock = begun.clock;
-          leaves = begun.leaves;
-          past = first_past P w ms (item_of (strip_carriage_return line)) old new begun.stage begun.on_line begun.leaves;
-        })
+    pub line_left : (left : List ℕ) → LineLeft P C w ms (item_of (strip_carriage_return line)) old new site left → LeftWith P C w ms (lines input) [] old new site left
+    line_left left begun = subst (λ (ls : List (List ℕ)). LeftWith P C w ms ls [] old new site left) (sym (lines_first input rest line took))
+        (line_begun w ms (strip_carriage_return line) (lines rest) old new site left begun)
 
   -- the last line
   pub last_ran : (w : World) (ms input line : List ℕ) (old new : D) (site : E) (session : SessionView) (left : List ℕ) → TookPiece input [] line → 0 < length line → ScriptRan P C (script w ms (line ∷ [])) old new site session left
@@ -90,17 +97,8 @@ module _ {D E : Type 0} (P : Plant D) (C : Cell E) where
   last_ran w ms input line old new site session left took some ran = subst (λ (ls : List (List ℕ)). ScriptRan P C (script w ms ls) old new site session left) (sym (lines_last input line took some)) ran
 
   pub last_left : (w : World) (ms input line : List ℕ) (old new : D) (site : E) (left : List ℕ) → TookPiece input [] line → 0 < length line → LineLeft P C w ms (item_of line) old new site left
-      → Left P C w ms (lines input) old new site left
-  unfolding IsStage
-  last_left w ms input line old new site left took some begun = subst (λ (ls : List (List ℕ)). Left P C w ms ls old new site left) (sym (lines_last input line took some))
-      (record {
-        stage = begun.stage;
-        on_the_way = inl begun.on_line;
-        cell = begun.cell;
-        clock = begun.clock;
-        leaves = begun.leaves;
-        past = first_past P w ms (item_of line) old new begun.stage begun.on_line begun.leaves;
-      })
+      → LeftWith P C w ms (lines input) [] old new site left
+  last_left w ms input line old new site left took some begun = subst (λ (ls : List (List ℕ)). LeftWith P C w ms ls [] old new site left) (sym (lines_last input line took some)) (line_begun w ms line [] old new site left begun)
 
   -- nothing was run
   pub went_nothing : (w : World) (ms : List ℕ) (s : D) (site : E) (session : SessionView) (goes : Bool) → P.sound s → Fits P C w s site session → Went P C (nothing w ms goes) s s site session ms
@@ -113,12 +111,15 @@ module _ {D E : Type 0} (P : Plant D) (C : Cell E) where
   pub nothing_ran : (w : World) (ms input : List ℕ) (s : D) (site : E) (session : SessionView) → input ≡ [] → P.sound s → FitsPlant P s → Fits P C w s site session → ScriptRan P C (script w ms (lines input)) s s site session ms
   nothing_ran w ms input s site session none sound fits_plant fits = subst (λ (l : List ℕ). ScriptRan P C (script w ms (lines l)) s s site session ms) (sym none) (no_lines_ran w ms s site session sound fits_plant fits)
 
-  pub nothing_begun : (w : World) (ms : List ℕ) (lines : List (List ℕ)) (s : D) (site : E) (session : SessionView) → FitsPlant P s → Fits P C w s site session → Left P C w ms lines s s site ms
+  pub nothing_begun : (w : World) (ms : List ℕ) (lines : List (List ℕ)) (s : D) (site : E) (session : SessionView) → FitsPlant P s → Fits P C w s site session → LeftWith P C w ms lines [] s s site ms
   nothing_begun w ms lines s site session fits_plant fits = record {
-    stage = between [] w ms;
-    on_the_way = stage_front [] w ms lines;
-    cell = fits.cell;
-    clock = refl;
-    leaves = nothing_left P [] s fits_plant;
-    past = past_none P [] s s (nothing_left P [] s fits_plant);
+    at = record {
+      stage = between [] w ms;
+      on_the_way = stage_front [] w ms lines;
+      cell = fits.cell;
+      clock = refl;
+      leaves = nothing_left P [] s fits_plant;
+      past = past_none P [] s s (nothing_left P [] s fits_plant);
+    };
+    whole_is = refl;
   }

@@ -93,6 +93,17 @@ Takes old new (Err CellStop) = TookToFault old new
 Takes old new (Err Output) = TookToFault old new
 Takes old new (Err Memory) = TookToFault old new
 
+-- These lines were begun: what is whole comes of all of them, or of all but the last.
+abbrev pub AreBegun : World → List ℕ → List (List ℕ) → List Effect → Type 0
+AreBegun w ms these whole = (whole ≡ (script w ms these).effects) ⊎ ((before : List (List ℕ)) × (line : List ℕ) × (these ≡ before ++ line ∷ []) × (whole ≡ (script w ms before).effects))
+
+-- However it ended, by the bytes taken: all of the script is done, or all lines that were ended among these bytes, but for the last of them at
+-- most. So a line is run as soon as it is complete.
+pub record LeftAt {D E : Type 0} (P : Plant D) (C : Cell E) (w : World) (ms input rest : List ℕ) (old new : D) (site : E) (left : List ℕ) : Type 0 where
+  pub at : Left P C w ms (lines input) old new site left
+  pub took : Took input rest
+  pub begun : (at.stage.whole ≡ (script w ms (lines input)).effects) ⊎ AreBegun w ms (lines (ended took.taken)) at.stage.whole
+
 -- Cut short: the lines that were ended were run, and no other one.
 pub record WentShort {D E : Type 0} (P : Plant D) (C : Cell E) (w : World) (ms input rest : List ℕ) (old new : D) (site : E) (session : SessionView) (left : List ℕ) : Type 0 where
   pub took : Took input rest
@@ -143,6 +154,11 @@ pub record TurnLeft {D E : Type 0} (P : Plant D) (C : Cell E) (w : World) (ms : 
   pub clock : left ≡ stage.moments
   pub leaves : Leaves P stage.effects old new
 
+-- a script was left where these effects are whole
+pub record LeftWith {D E : Type 0} (P : Plant D) (C : Cell E) (w : World) (ms : List ℕ) (lines : List (List ℕ)) (whole : List Effect) (old new : D) (site : E) (left : List ℕ) : Type 0 where
+  pub at : Left P C w ms lines old new site left
+  pub whole_is : at.stage.whole ≡ whole
+
 -- whether the script goes on behind a line
 abbrev pub goes_behind : Item → Bool
 goes_behind Silent = true
@@ -163,6 +179,10 @@ pub record LinePassed {D E : Type 0} (P : Plant D) (C : Cell E) (w : World) (ms 
   pub goes : (script w ms (strip_carriage_return line ∷ [])).goes ≡ true
   pub ran : ScriptRan P C (script w ms (strip_carriage_return line ∷ [])) old new site session left
 
+-- one line at most, which isn't `quit`
+abbrev pub IsOneLine : List (List ℕ) → Type 0
+IsOneLine these = (these ≡ []) ⊎ ((line : List ℕ) × (these ≡ line ∷ []) × (is_quit line ≡ false))
+
 -- what was taken of a source, by what is known of it
 abbrev pub TookOn : List ℕ → List ℕ → Type 0
 TookOn old new = (line : List ℕ) × TookPiece old (10 ∷ new) line × (is_quit (strip_carriage_return line) ≡ false)
@@ -172,4 +192,4 @@ TookEnd old new taken = ((new ≡ []) × (taken ≤ 16777216) × All (λ b. is_f
 
 abbrev pub TakesNext : List ℕ → List ℕ → ℕ → Result Passed ServeStop → Type 0
 TakesNext old new taken (Ok passed) = ((passed.goes ≡ true) → TookOn old new) × ((passed.goes ≡ false) → TookEnd old new taken)
-TakesNext old new taken (Err stop) = (piece : List ℕ) × (old ≡ piece ++ new) × ((stop ≡ TooLong) ⊎ (stop ≡ Read) → All (λ b. is_feed b ≡ false) piece) × (has_quit (lines (ended piece)) ≡ false)
+TakesNext old new taken (Err stop) = (piece : List ℕ) × (old ≡ piece ++ new) × ((stop ≡ TooLong) ⊎ (stop ≡ Read) → All (λ b. is_feed b ≡ false) piece) × IsOneLine (lines (ended piece))

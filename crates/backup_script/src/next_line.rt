@@ -9,7 +9,7 @@ ghost use Rattle.backup_session.specs.Fitting.{Fits};
 ghost use Rattle.backup_script.specs.Items.{item_of};
 ghost use Rattle.backup_script.specs.Scripts.{nothing, script};
 ghost use Rattle.backup_script.specs.Held.{HeldForLine, IsHeldThroughout};
-ghost use Rattle.backup_script.specs.Running.{Went, Left, LineLeft, ScriptRan, LinePassed, TakesNext, HasUsed, IsWatched};
+ghost use Rattle.backup_script.specs.Running.{Went, LeftWith, LineLeft, ScriptRan, LinePassed, TakesNext, HasUsed, IsWatched};
 
 use crate::lines::{LineStop, Next, take_line};
 use crate::serving::{Passed, ServeStop, run_line};
@@ -97,7 +97,7 @@ pub fn serve_line<P: Plant, C: Cell, K: Clock, S: Source>(
         → IsHeldThroughout w (K.moments clock.old) (lines (S.left source.old)) → IfOk result (λ passed. passed.goes ≡ true → LinePassed P.Plant C.Cell w (K.moments clock.old) (S.left source.old) (S.left source.new) plant.old plant.new cell.new session.new (K.moments clock.new)) }
     ensures ended { P.tells → C.tells → K.tells → S.tells → (w : World) → Fits P.Plant C.Cell w plant.old cell.old session.old
         → IsHeldThroughout w (K.moments clock.old) (lines (S.left source.old)) → IfOk result (λ passed. passed.goes ≡ false → ScriptRan P.Plant C.Cell (script w (K.moments clock.old) (lines (S.left source.old))) plant.old plant.new cell.new session.new (K.moments clock.new)) }
-    ensures left { P.tells → C.tells → K.tells → S.tells → (w : World) → Fits P.Plant C.Cell w plant.old cell.old session.old → IsHeldThroughout w (K.moments clock.old) (lines (S.left source.old)) → OnErr result (Left P.Plant C.Cell w (K.moments clock.old) (lines (S.left source.old)) plant.old plant.new cell.new (K.moments clock.new)) }
+    ensures left { P.tells → C.tells → K.tells → S.tells → (w : World) → Fits P.Plant C.Cell w plant.old cell.old session.old → IsHeldThroughout w (K.moments clock.old) (lines (S.left source.old)) → OnErr result (LeftWith P.Plant C.Cell w (K.moments clock.old) (lines (S.left source.old)) [] plant.old plant.new cell.new (K.moments clock.new)) }
     ensures watched { P.tells → C.tells → (before : AnyList ℕ) → IsWatched P.Plant C.Cell before plant.old cell.old session.old watch.old → OnOk result (IsWatched P.Plant C.Cell before plant.new cell.new session.new watch.new) }
     ensures read_short { P.tells → C.tells → K.tells → (w : World) → Fits P.Plant C.Cell w plant.old cell.old session.old → result ≡ Err ServeStop.Read → Went P.Plant C.Cell (nothing w (K.moments clock.old) true) plant.old plant.new cell.new session.new (K.moments clock.new) }
     ensures long_short { P.tells → C.tells → K.tells → (w : World) → Fits P.Plant C.Cell w plant.old cell.old session.old → result ≡ Err ServeStop.TooLong → Went P.Plant C.Cell (nothing w (K.moments clock.old) true) plant.old plant.new cell.new session.new (K.moments clock.new) }

@@ -14,7 +14,7 @@ ghost use Rattle.backup_replies.specs.Texts.{has_refusal};
 ghost use Rattle.backup_session.specs.Worlds.{Contents};
 ghost use Rattle.backup_script.specs.Scripts.{script};
 ghost use Rattle.backup_script.specs.Held.{IsHeldThroughout};
-ghost use Rattle.backup_script.specs.Running.{Left, HasTold};
+ghost use Rattle.backup_script.specs.Running.{LeftAt, HasTold};
 ghost use Rattle.backup_script.specs.Ended.{world_on, Ends, EndsShort, TakesBytes, IsRefusedLog};
 
 use crate::serve::run_script;
@@ -116,10 +116,10 @@ pub fn run_on<P: Plant, C: Cell, K: Clock, S: Source>(
     ensures long_short { P.tells → C.tells → K.tells → S.tells → IsSettled (state_of P.Plant plant.old) → (log : AnyList AnyChange) → AreChanges log → (state_of P.Plant plant.old).log ≡ encoded log
         → (contents : Contents) → let w = world_on P.Plant C.Cell config log contents plant.old cell.old in
         IsHeldThroughout w (K.moments clock.old) (lines (S.left source.old)) → result ≡ Err RunStop.TooLong → EndsShort P.Plant C.Cell w (K.moments clock.old) (S.left source.old) (S.left source.new) plant.old plant.new cell.new (K.moments clock.new) }
-    // However it ended.
+    // However it ended: each line is run as soon as it is complete.
     ensures left { P.tells → C.tells → K.tells → S.tells → IsSettled (state_of P.Plant plant.old) → (log : AnyList AnyChange) → AreChanges log → (state_of P.Plant plant.old).log ≡ encoded log
         → (contents : Contents) → let w = world_on P.Plant C.Cell config log contents plant.old cell.old in
-        IsHeldThroughout w (K.moments clock.old) (lines (S.left source.old)) → Left P.Plant C.Cell w (K.moments clock.old) (lines (S.left source.old)) plant.old plant.new cell.new (K.moments clock.new) }
+        IsHeldThroughout w (K.moments clock.old) (lines (S.left source.old)) → LeftAt P.Plant C.Cell w (K.moments clock.old) (S.left source.old) (S.left source.new) plant.old plant.new cell.new (K.moments clock.new) }
     // Whatever stood on the plant, it is said of what was told whether some line begins with `refused`.
     ensures flag { P.tells → C.tells → IsSettled (state_of P.Plant plant.old) → IfOk result (λ refused. HasTold P.Plant plant.old plant.new refused) }
     ensures takes { S.tells → TakesBytes (S.left source.old) (S.left source.new) result }

@@ -8,7 +8,7 @@ ghost use Rattle.backup_session.specs.Worlds.{World};
 ghost use Rattle.backup_session.specs.Fitting.{Fits};
 ghost use Rattle.backup_script.specs.Scripts.{script};
 ghost use Rattle.backup_script.specs.Held.{IsHeldThroughout};
-ghost use Rattle.backup_script.specs.Running.{Left, ScriptRan, WentShort, Takes, HasUsed, HasTold};
+ghost use Rattle.backup_script.specs.Running.{LeftAt, ScriptRan, WentShort, Takes, HasUsed, HasTold};
 
 use crate::lines::MOST;
 use crate::next_line::serve_line;
@@ -47,9 +47,9 @@ pub fn run_script<P: Plant, C: Cell, K: Clock, S: Source>(
         → IsHeldThroughout w (K.moments clock.old) (lines (S.left source.old)) → result ≡ Err ServeStop.Read → WentShort P.Plant C.Cell w (K.moments clock.old) (S.left source.old) (S.left source.new) plant.old plant.new cell.new session.new (K.moments clock.new) }
     ensures long_short { P.tells → C.tells → K.tells → S.tells → (w : World) → Fits P.Plant C.Cell w plant.old cell.old session.old
         → IsHeldThroughout w (K.moments clock.old) (lines (S.left source.old)) → result ≡ Err ServeStop.TooLong → WentShort P.Plant C.Cell w (K.moments clock.old) (S.left source.old) (S.left source.new) plant.old plant.new cell.new session.new (K.moments clock.new) }
-    // However it ended.
+    // However it ended: each line is run as soon as it is complete.
     ensures left { P.tells → C.tells → K.tells → S.tells → (w : World) → Fits P.Plant C.Cell w plant.old cell.old session.old
-        → IsHeldThroughout w (K.moments clock.old) (lines (S.left source.old)) → Left P.Plant C.Cell w (K.moments clock.old) (lines (S.left source.old)) plant.old plant.new cell.new (K.moments clock.new) }
+        → IsHeldThroughout w (K.moments clock.old) (lines (S.left source.old)) → LeftAt P.Plant C.Cell w (K.moments clock.old) (S.left source.old) (S.left source.new) plant.old plant.new cell.new (K.moments clock.new) }
     ensures takes { S.tells → Takes (S.left source.old) (S.left source.new) result }
     // A command uses its moment before the cell or the plant can fail in it.
     ensures used { K.tells → result ≡ Err ServeStop.Cell → HasUsed (K.moments clock.old) (K.moments clock.new) }

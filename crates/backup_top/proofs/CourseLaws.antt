@@ -1,5 +1,5 @@
 -- What a run over a plant and a cell says of its course.
-use Rattle.std.proofs.Common.{◌≡◌, inl, inr, zero, suc, ℕ, ◌+◌, ◌<◌, ◌≤◌, Bool, true, false, IsTrue, List, [], ◌∷◌, ◌++◌, length, take, drop, Option, Some, None, refl, sym, ◌∙◌, ap, subst, arith, length-append, Result, Ok, Err, IfOk}
+use Rattle.std.proofs.Common.{◌≡◌, ◌⊎◌, inl, inr, zero, suc, ℕ, ◌+◌, ◌<◌, ◌≤◌, Bool, true, false, IsTrue, List, [], ◌∷◌, ◌++◌, length, take, drop, Option, Some, None, refl, sym, ◌∙◌, ap, subst, arith, length-append, Result, Ok, Err, IfOk}
 use Rattle.std.specs.Prelude.{All, slice_get, min, ◌-◌, ◌^◌}
 use Rattle.std.specs.Str.Lines.{lines}
 use Rattle.std.proofs.lemmas.Bool.{cases_lt}
@@ -37,7 +37,7 @@ use Rattle.backup_script.specs.declared.running.RunStop.{RunStop}
 use Rattle.backup_script.specs.declared.running.RunStop.TheVariants as stop
 use Rattle.backup_script.specs.Lines.{ended, has_quit}
 use Rattle.backup_script.specs.Scripts.{Outcome, script, Stage, between, IsStage}
-use Rattle.backup_script.specs.Running.{TookTooMany, TookToFault, JointFrom, Left, HasTold}
+use Rattle.backup_script.specs.Running.{Took, TookTooMany, TookToFault, JointFrom, Left, AreBegun, HasTold}
 use Rattle.backup_script.specs.Ended.{Ends, EndsShort, TakesBytes, IsRefusedLog}
 use Rattle.backup_script.proofs.StageLaws.{stage_front, stage_whole}
 use Rattle.dump_forms.specs.Journals.{IsJournalAfter}
@@ -45,7 +45,7 @@ use Rattle.script_journals.proofs.Following.{journal_front, journal_form, journa
 use Rattle.backup_top.specs.declared.status.Status.{Status}
 use Rattle.backup_top.specs.declared.status.Status.TheVariants.{Done, SomeRefused, Usage, ReadFault, MediaFault, CellFault, Memory, BadConfig, BadLog, OutputFault, ScriptTooLong}
 use Rattle.backup_top.specs.Answers.{run_status, opening_status, config_status}
-use Rattle.backup_top.specs.Courses.{Course, FindsFit, FindsVolumes, contents_in, IsWithin, IsComplete, outcome, Leaves, LeavesShort, Runs, TellsLines, TakesBy, Journal, IsBadLog, RefusesJournal, IsRefusedAt, Reopens, LeftImage, LeavesImages, EndImage, EndsAt, HasCauseAs}
+use Rattle.backup_top.specs.Courses.{Course, FindsFit, FindsVolumes, contents_in, IsWithin, IsComplete, outcome, Leaves, LeavesShort, Runs, TellsLines, TakesBy, Journal, IsBadLog, RefusesJournal, IsRefusedAt, Reopens, LeftImage, LeavesImages, EndImage, EndsAt, RunsLines, HasCauseAs}
 use Rattle.script_journals.specs.Dumping.{IsFormedFor}
 use Rattle.session_archives.specs.Held.{HoldsWorld, HoldsAfter, KeepsListed, EachKeepsListed, RepliesSettle}
 use Rattle.session_archives.proofs.Replies.{settle_first}
@@ -394,14 +394,26 @@ stage_journaled c stage on j =
       replies = λ held asked. settle_first c.world stage.effects more.0 (subst (RepliesSettle c.world) more.1 (j.replies held asked));
     }
 
+-- which lines are whole
+pub runs_in : (c : Course) (w : World) (whole : List Effect) → w ≡ c.world → (took : Took c.input c.rest) → (whole ≡ (script w c.moments (lines c.input)).effects) ⊎ AreBegun w c.moments (lines (ended took.taken)) whole → RunsLines c whole
+runs_in c w whole same took begun = record {
+  took = took;
+  begun = subst (λ (v : World). (whole ≡ (script v c.moments (lines c.input)).effects) ⊎ AreBegun v c.moments (lines (ended took.taken)) whole) same begun;
+}
+
+pub runs_front : (c : Course) → c.rest ≡ c.input → RunsLines c []
+unfolding script
+runs_front c none = record { took = record { taken = []; is = sym none; few = omega arith }; begun = inr (inl refl) }
+
 -- however it ended
-pub ends_past : {D : Type 0} (time : Moments D Image) (seen : D → Image) (old new : D) (c : Course) (stage : Stage) → IsStage [] c.world c.moments (lines c.input) stage → c.cell ≡ stage.cell → c.left ≡ stage.moments → Journaled c (outcome c).effects
+pub ends_past : {D : Type 0} (time : Moments D Image) (seen : D → Image) (old new : D) (c : Course) (stage : Stage) → IsStage [] c.world c.moments (lines c.input) stage → c.cell ≡ stage.cell → c.left ≡ stage.moments → RunsLines c stage.whole → Journaled c (outcome c).effects
     → Stepped time old (λ a b. JointFrom (length stage.whole) c.world.state stage.effects (stock_of a) (stock_of b)) (seen new) → EndsAt time seen old new c
-ends_past time seen old new c stage on cell clock j last = record {
+ends_past time seen old new c stage on cell clock run j last = record {
   stage = stage;
   on_the_way = on;
   cell = cell;
   clock = clock;
+  run = run;
   image = record {
     from = last.from;
     was = last.was;
@@ -410,11 +422,11 @@ ends_past time seen old new c stage on cell clock j last = record {
 }
 
 -- where no line was begun
-pub ends_front : {D : Type 0} (time : Moments D Image) (seen : D → Image) (old new : D) (c : Course) → c.cell ≡ c.world.cell → c.left ≡ c.moments → Journaled c (outcome c).effects → time.moment old ≤ time.moment new → time.may_leave new (seen new)
+pub ends_front : {D : Type 0} (time : Moments D Image) (seen : D → Image) (old new : D) (c : Course) → c.cell ≡ c.world.cell → c.left ≡ c.moments → c.rest ≡ c.input → Journaled c (outcome c).effects → time.moment old ≤ time.moment new → time.may_leave new (seen new)
     → LeavesSince time old new (λ a b. Joint c.world.state [] (stock_of a) (stock_of b)) → EndsAt time seen old new c
-ends_front time seen old new c cell clock j later reads images =
+ends_front time seen old new c cell clock none j later reads images =
     let last = images (seen new) (time.counts_now new (time.moment old) (seen new) later reads) in
-    ends_past time seen old new c (between [] c.world c.moments) (stage_front [] c.world c.moments (lines c.input)) cell clock j
+    ends_past time seen old new c (between [] c.world c.moments) (stage_front [] c.world c.moments (lines c.input)) cell clock (runs_front c none) j
     (record { from = last.from; was = last.was; step = record { joint = last.step; low_is = omega arith } })
 
 -- what was left of a stage was left of the script

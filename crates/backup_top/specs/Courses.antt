@@ -22,7 +22,7 @@ use Rattle.backup_session.specs.Opening.{opened}
 use Rattle.backup_script.specs.Lines.{ended, has_quit, most_script}
 use Rattle.backup_script.specs.Scripts.{Outcome, script, Stage, IsStage}
 use Rattle.backup_script.specs.Held.{IsHeldThroughout}
-use Rattle.backup_script.specs.Running.{Took, TookAll, TookToQuit, TookTooMany, TookToFault}
+use Rattle.backup_script.specs.Running.{Took, TookAll, TookToQuit, TookTooMany, TookToFault, AreBegun}
 use Rattle.dump_forms.specs.Journals.{IsJournalAfter}
 use Rattle.session_archives.specs.Held.{HoldsWorld, HoldsImage, contents_on, EachKeepsListed, RepliesSettle}
 use Rattle.session_archives.specs.Ready.{IsFitWorld, RestoresApartThroughout, at_first, IsFitFor, AreVolumesFor}
@@ -253,6 +253,12 @@ SameStock old new = stock_of new ≡ stock_of old
 abbrev pub LeavesImages : {D : Type 0} → Moments D Image → D → D → Course → List Effect → Type 0
 LeavesImages time old new c effects = LeavesSince time old new (λ a b. LeftImage c effects (stock_of a) (stock_of b))
 
+-- The lines that are whole at the end, by the bytes taken: all of the script, or all lines that were ended among these bytes, but for the last
+-- of them at most. So a line is run as soon as it is complete.
+pub record RunsLines (c : Course) (whole : List Effect) : Type 0 where
+  pub took : Took c.input c.rest
+  pub begun : (whole ≡ (outcome c).effects) ⊎ AreBegun c.world c.moments (lines (ended took.taken)) whole
+
 -- The cell has the list of a stage of the script, the clock has its moments left, and no more was told than its effects tell: so the cell has
 -- the changes of each command whose reply was told.
 pub record CellAtStage (c : Course) : Type 0 where
@@ -260,6 +266,7 @@ pub record CellAtStage (c : Course) : Type 0 where
   pub on_the_way : IsStage [] c.world c.moments (lines c.input) stage
   pub is : c.cell ≡ stage.cell
   pub clock : c.left ≡ stage.moments
+  pub run : RunsLines c stage.whole
   pub told : IsFront c.after.told (c.before.told ++ told_by stage.effects)
 
 -- What reads give at the end: such an image, behind all effects of the lines before the one in progress.
@@ -275,6 +282,7 @@ pub record EndsAt {D : Type 0} (time : Moments D Image) (seen : D → Image) (ol
   pub on_the_way : IsStage [] c.world c.moments (lines c.input) stage
   pub cell : c.cell ≡ stage.cell
   pub clock : c.left ≡ stage.moments
+  pub run : RunsLines c stage.whole
   pub image : Stepped time old (λ a b. EndImage c stage (stock_of a) (stock_of b)) (seen new)
 
 -- ---- causes

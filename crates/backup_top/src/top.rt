@@ -214,7 +214,8 @@ pub fn run<M: Media, C: Cell, K: Clock, S: Source>(
         → let c = course_of M.seen M.count M.present contents media entry result.1 (C.list cell.old) (C.list cell.new) (K.moments clock.old) (K.moments clock.new) (S.left source.old) (S.left source.new) in
         FindsHeld c → LeavesImages M.time media result.1 c (outcome c).effects }
     // However it ended, what reads give is such an image, and cell and clock are those of its stage. All effects of the lines before the one in
-    // progress are done in it.
+    // progress are done in it: a line is run as soon as it is complete, so these are all lines that were ended among the bytes taken, but for
+    // the last of them at most.
     ensures ends { asked words.now.items ≡ Run → M.tells → C.tells → K.tells → S.tells → AreStill M.time M.seen media → (entry : Entry config.now (stock_of (M.seen media))) → (contents : Contents)
         → let c = course_of M.seen M.count M.present contents media entry result.1 (C.list cell.old) (C.list cell.new) (K.moments clock.old) (K.moments clock.new) (S.left source.old) (S.left source.new) in
         FindsHeld c → EndsAt M.time M.seen media result.1 c }

@@ -49,7 +49,7 @@ returns-in-Ok-run_script-clause-left g c = λ told tells_cell tells_clock source
     let w = world_on P C c.args.config log contents old c.args.cell.now in
     let f = c.in-Ok.ensures.stands told in
     let fits = opened_fits P C c.args.config log contents old mid c.args.cell.now c.open.new.cell c.in-Ok.session form is f.0 f.1 f.2 (stands_fit P C (world_on P C c.args.config f.0 contents old c.args.cell.now) mid c.open.new.cell c.in-Ok.session settled (f.3 tells_cell contents)) in
-    left_after P C w (g.K.Clock.moments c.args.clock.now) old mid n.plant n.cell c.in-Ok.ensures.done c.in-Ok.ensures.leaves (lines (g.S.Source.left c.args.source.now)) (g.K.Clock.moments n.clock) (c.run_script.ensures.left told tells_cell tells_clock source w fits held)
+    left_after P C w (g.K.Clock.moments c.args.clock.now) old mid n.plant n.cell c.in-Ok.ensures.done c.in-Ok.ensures.leaves (g.S.Source.left c.args.source.now) (g.S.Source.left n.source) (g.K.Clock.moments n.clock) (c.run_script.ensures.left told tells_cell tells_clock source w fits held)
 
 pub returns-in-Ok-clause-left : goal.returns-in-Ok-clause-left
 returns-in-Ok-clause-left g c = λ told tells_cell tells_clock source settled log form is contents held.
@@ -61,7 +61,7 @@ returns-in-Ok-clause-left g c = λ told tells_cell tells_clock source settled lo
     let w = world_on P C c.args.config log contents old c.args.cell.now in
     let f = c.in-Ok.ensures.stands told in
     let fits = opened_fits P C c.args.config log contents old mid c.args.cell.now c.open.new.cell c.in-Ok.session form is f.0 f.1 f.2 (stands_fit P C (world_on P C c.args.config f.0 contents old c.args.cell.now) mid c.open.new.cell c.in-Ok.session settled (f.3 tells_cell contents)) in
-    left_after P C w (g.K.Clock.moments c.args.clock.now) old mid n.plant n.cell c.in-Ok.ensures.done c.in-Ok.ensures.leaves (lines (g.S.Source.left c.args.source.now)) (g.K.Clock.moments n.clock) (c.run_script.ensures.left told tells_cell tells_clock source w fits held)
+    left_after P C w (g.K.Clock.moments c.args.clock.now) old mid n.plant n.cell c.in-Ok.ensures.done c.in-Ok.ensures.leaves (g.S.Source.left c.args.source.now) (g.S.Source.left n.source) (g.K.Clock.moments n.clock) (c.run_script.ensures.left told tells_cell tells_clock source w fits held)
 
 pub returns-in-Ok-clause-read_short : goal.returns-in-Ok-clause-read_short
 returns-in-Ok-clause-read_short g c = λ told tells_cell tells_clock source settled log form is contents held stops.
@@ -126,7 +126,7 @@ returns-in-Ok-clause-read_cause g c =
 
 pub returns-clause-left : goal.returns-clause-left
 returns-clause-left g c = λ told tells_cell tells_clock source settled log form is contents held.
-    not_opened g.P.Plant g.C.Cell (world_on g.P.Plant g.C.Cell c.args.config log contents c.args.plant.now c.args.cell.now) (g.K.Clock.moments c.args.clock.now) (lines (g.S.Source.left c.args.source.now)) c.args.plant.now c.open.new.plant c.open.new.cell
+    not_opened g.P.Plant g.C.Cell (world_on g.P.Plant g.C.Cell c.args.config log contents c.args.plant.now c.args.cell.now) (g.K.Clock.moments c.args.clock.now) (g.S.Source.left c.args.source.now) c.args.plant.now c.open.new.plant c.open.new.cell
     (c.in-Err.ensures.cell tells_cell) c.in-Err.ensures.leaves
 
 pub returns-in-Ok-run_script-clause-refused_log_looks : goal.returns-in-Ok-run_script-clause-refused_log_looks

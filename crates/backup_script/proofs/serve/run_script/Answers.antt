@@ -12,7 +12,8 @@ use Rattle.backup_script.specs.Watching.{Watched}
 use Rattle.backup_script.proofs.WatchLaws.{watched_from_start}
 use Rattle.backup_script.proofs.AnswerLaws.{not_false, not_true, err_is}
 use Rattle.plant_effects.proofs.Joining.{nothing_stays, stays_both}
-use Rattle.backup_script.proofs.LoopLaws.{reading_starts, reading_more, took_end, took_too_many, serving_starts, serving_held, serving_more, serving_ended, serving_left, serving_short, all_left, stop_takes, used_behind}
+use Rattle.backup_script.proofs.LineLaws.{none_ended}
+use Rattle.backup_script.proofs.LoopLaws.{reading_starts, reading_more, took_end, took_at_end, took_too_many, serving_starts, serving_held, serving_more, serving_ended, serving_left, serving_short, all_left, stop_takes, used_behind}
 use Rattle.backup_script.proofs.serve.run_script.Goals as goal
 
 pub loop-taken-init : goal.loop-taken-init
@@ -41,9 +42,12 @@ returns-in-Err-clause-left g c = λ told tells_cell tells_clock source w fits he
     let P = g.P.Plant in
     let l = c.loop-taken in
     let n = c.serve_line.new in
+    let e = c.in-Err.ensures in
     let so = l.invariant.serving told tells_cell tells_clock source w fits held in
-    serving_left P g.C.Cell w (g.K.Clock.moments c.args.clock.now) (g.S.Source.left c.args.source.now) c.args.plant.now l.plant l.cell l.session (g.K.Clock.moments l.clock) (g.S.Source.left l.source) so n.plant n.cell (g.K.Clock.moments n.clock)
-    (c.in-Err.ensures.left told tells_cell tells_clock source (script w (g.K.Clock.moments c.args.clock.now) so.ran).world so.so_far.went.fits (serving_held P g.C.Cell w (g.K.Clock.moments c.args.clock.now) (g.S.Source.left c.args.source.now) c.args.plant.now l.plant l.cell l.session (g.K.Clock.moments l.clock) (g.S.Source.left l.source) so held))
+    let took = e.took source in
+    serving_left P g.C.Cell w (g.K.Clock.moments c.args.clock.now) (g.S.Source.left c.args.source.now) c.args.plant.now l.plant l.cell l.session (g.K.Clock.moments l.clock) (g.S.Source.left l.source) so n.plant n.cell (g.K.Clock.moments n.clock) (g.S.Source.left n.source)
+    took.0 n.taken took.1 took.3 (omega (arith, l.invariant.count source, e.count source)) e.within
+    (e.left told tells_cell tells_clock source (script w (g.K.Clock.moments c.args.clock.now) so.ran).world so.so_far.went.fits (serving_held P g.C.Cell w (g.K.Clock.moments c.args.clock.now) (g.S.Source.left c.args.source.now) c.args.plant.now l.plant l.cell l.session (g.K.Clock.moments l.clock) (g.S.Source.left l.source) so held))
 
 pub returns-in-Err-clause-read_short : goal.returns-in-Err-clause-read_short
 returns-in-Err-clause-read_short g c = λ told tells_cell tells_clock source w fits held is.
@@ -119,7 +123,10 @@ returns-then-not-passed-clause-left g c = λ told tells_cell tells_clock source 
     let input = g.S.Source.left c.args.source.now in
     let so = l.invariant.serving told tells_cell tells_clock source w fits held in
     let ran = c.in-Ok.ensures.ended told tells_cell tells_clock source (script w ms so.ran).world so.so_far.went.fits (serving_held P g.C.Cell w (g.K.Clock.moments c.args.clock.now) (g.S.Source.left c.args.source.now) c.args.plant.now l.plant l.cell l.session (g.K.Clock.moments l.clock) (g.S.Source.left l.source) so held) (not_true c.in-Ok.passed.goes c.if-not-passed.true) in
-    all_left P g.C.Cell w ms (lines input) c.args.plant.now n.plant n.cell n.session (g.K.Clock.moments n.clock)
+    let e = c.in-Ok.ensures in
+    let reading = l.invariant.reading source in
+    all_left P g.C.Cell w ms input (g.S.Source.left n.source) c.args.plant.now n.plant n.cell n.session (g.K.Clock.moments n.clock)
+    (took_at_end input (g.S.Source.left n.source) (took_end input (g.S.Source.left l.source) reading.0 reading.1 (g.S.Source.left n.source) n.taken ((e.took source).1 (not_true c.in-Ok.passed.goes c.if-not-passed.true)) (omega (arith, l.invariant.count source, e.count source)) e.within))
     (λ told survives image was. g.met.P.Plant.left n.plant image told c.in-Ok.ensures.sound survives was)
     (serving_ended P g.C.Cell w ms input c.args.plant.now l.plant l.cell l.session (g.K.Clock.moments l.clock) (g.S.Source.left l.source) so n.plant n.cell n.session (g.K.Clock.moments n.clock) ran)
 
@@ -179,7 +186,8 @@ returns-clause-left g c = λ told tells_cell tells_clock source w fits held.
     let l = c.loop-taken in
     let ms = g.K.Clock.moments c.args.clock.now in
     let so = l.invariant.serving told tells_cell tells_clock source w fits held in
-    serving_left P g.C.Cell w ms (g.S.Source.left c.args.source.now) c.args.plant.now l.plant l.cell l.session (g.K.Clock.moments l.clock) (g.S.Source.left l.source) so l.plant l.cell (g.K.Clock.moments l.clock)
+    serving_left P g.C.Cell w ms (g.S.Source.left c.args.source.now) c.args.plant.now l.plant l.cell l.session (g.K.Clock.moments l.clock) (g.S.Source.left l.source) so l.plant l.cell (g.K.Clock.moments l.clock) (g.S.Source.left l.source)
+    [] l.taken refl (none_ended [] (All-nil (λ b. is_feed b ≡ false))) (l.invariant.count source) l.invariant.within
     (nothing_begun P g.C.Cell (script w ms so.ran).world (g.K.Clock.moments l.clock) (lines (g.S.Source.left l.source)) l.plant l.cell l.session (λ told survives image was. g.met.P.Plant.left l.plant image told l.invariant.sound survives was) so.so_far.went.fits)
 
 pub returns-clause-takes : goal.returns-clause-takes

@@ -20,7 +20,7 @@ use Rattle.backup_top.specs.declared.status.Status.TheVariants.{MediaFault}
 use Rattle.backup_top.specs.Courses.{Course, course, outcome, at_rest, Runs, TellsLines, TakesBy, RefusesJournal, HasCauseAs}
 use Rattle.backup_top.proofs.Lowering.{opened_rests, shown_log, journal_damaged, still_left, nothing_since, images_left, reads_past, none_some, same_files, shown_told, told_to, untold_to, nothing_same, images_same}
 use Rattle.backup_top.proofs.TapeCounts.{has_tapes}
-use Rattle.backup_top.proofs.CourseLaws.{OpenedForms, has_forms, ready_for, AbsentStay, leaves_media, runs_of, runs_not_opened, journal_of_log, told_lines, opening_lines, takes_run, takes_opening, opening_later, bad_log_answer, cell_answer, plant_answer, refuses_journal, opening_bad, opening_cause, bad_journal, damaged_journal, journaled, images_of, ends_past, ends_front, left_whole}
+use Rattle.backup_top.proofs.CourseLaws.{OpenedForms, has_forms, ready_for, AbsentStay, leaves_media, runs_of, runs_not_opened, journal_of_log, told_lines, opening_lines, takes_run, takes_opening, opening_later, bad_log_answer, cell_answer, plant_answer, refuses_journal, opening_bad, opening_cause, bad_journal, damaged_journal, journaled, images_of, ends_past, ends_front, runs_in, runs_front, left_whole}
 use Rattle.backup_top.proofs.running.run_media.Goals as goal
 
 pub returns-in-Ok-clause-runs : goal.returns-in-Ok-clause-runs
@@ -75,7 +75,7 @@ returns-in-Ok-clause-images g c = λ told tells_cell tells_clock source still na
     = λ i. opened (record { config = c.args.config; slots = e.count i - 1; present = slots_here (e.present i) }) journal.log (g.C.Cell.list c.args.cell.now) contents (sym rests i) in
     let found = subst (λ (w : World). IsHeldThroughout w k.moments (lines k.input)) (sym same) held in
     let left = r.left told tells_cell tells_clock source (e.settled told) journal.log journal.form log_is contents found in
-    let leaves = left_whole _ g.C.Cell _ k.world k.moments (lines k.input) plant n.plant n.cell (g.K.Clock.moments n.clock) same left in
+    let leaves = left_whole _ g.C.Cell _ k.world k.moments (lines k.input) plant n.plant n.cell (g.K.Clock.moments n.clock) same left.at in
     images_of M.time media c.into_media.result k (outcome k).effects (journaled c.journals_of_scripts.ensures c.scripts_keep_the_archive.ensures.on_the_way c.scripts_keep_the_archive.ensures.listed c.scripts_keep_the_archive.ensures.settled c.images_hold_the_archive.ensures.behind k forms has refl journal.form refl)
     (images_left M.time M.seen media bytes c.into_media.result (outcome k).effects (still_left M.time M.seen media bytes still (λ image was. g.met.M.Media.told_left media image told was) journal.is)
     shown plant n.plant c.into_media.ensures.media rests (e.crash told) (leaves.crash told (e.survives told still)))
@@ -101,8 +101,9 @@ returns-in-Ok-clause-ends g c = λ told tells_cell tells_clock source still name
     let same : opened (record { config = c.args.config; slots = M.count plant.media - 1; present = slots_here (M.present plant.media) }) journal.log (g.C.Cell.list c.args.cell.now) contents shown ≡ k.world
     = λ i. opened (record { config = c.args.config; slots = e.count i - 1; present = slots_here (e.present i) }) journal.log (g.C.Cell.list c.args.cell.now) contents (sym rests i) in
     let found = subst (λ (w : World). IsHeldThroughout w k.moments (lines k.input)) (sym same) held in
-    let left = r.left told tells_cell tells_clock source (e.settled told) journal.log journal.form log_is contents found in
-    ends_past M.time M.seen media back k left.stage (subst (λ (w : World). IsStage [] w k.moments (lines k.input) left.stage) same left.on_the_way) left.cell left.clock (journaled c.journals_of_scripts.ensures c.scripts_keep_the_archive.ensures.on_the_way c.scripts_keep_the_archive.ensures.listed c.scripts_keep_the_archive.ensures.settled c.images_hold_the_archive.ensures.behind k forms has refl journal.form refl)
+    let at_end = r.left told tells_cell tells_clock source (e.settled told) journal.log journal.form log_is contents found in
+    let left = at_end.at in
+    ends_past M.time M.seen media back k left.stage (subst (λ (w : World). IsStage [] w k.moments (lines k.input) left.stage) same left.on_the_way) left.cell left.clock (runs_in k _ left.stage.whole same at_end.took at_end.begun) (journaled c.journals_of_scripts.ensures c.scripts_keep_the_archive.ensures.on_the_way c.scripts_keep_the_archive.ensures.listed c.scripts_keep_the_archive.ensures.settled c.images_hold_the_archive.ensures.behind k forms has refl journal.form refl)
     (reads_past M.time M.seen media bytes back left.stage.effects (length left.stage.whole) shown plant n.plant c.into_media.ensures.media rests (e.crash told) (g.met.M.Media.seen_may_be_left back told) (left.past told (e.survives told still)))
 
 pub returns-in-Ok-clause-bad_log : goal.returns-in-Ok-clause-bad_log
@@ -233,7 +234,7 @@ returns-in-Err-clause-ends g c = λ told tells_cell tells_clock source still nam
     let has = has_tapes k.world (M.present media) (M.seen media) (M.count media) refl refl (g.met.M.Media.here_below media) (g.met.M.Media.few_files media) in
     let laws : OpenedForms = record { lines = c.opened_worlds_have_their_forms.ensures.lines; ready = c.opened_worlds_have_their_forms.ensures.ready; fit = c.opened_worlds_have_their_forms.ensures.fit } in
     let forms = has_forms laws k named says has journal.form (g.met.C.Cell.is_cell c.args.cell.now tells_cell) (c.listed_is_allowed.ensures tells_cell) refl in
-    ends_front M.time M.seen media back k refl refl (journaled c.journals_of_scripts.ensures c.scripts_keep_the_archive.ensures.on_the_way c.scripts_keep_the_archive.ensures.listed c.scripts_keep_the_archive.ensures.settled c.images_hold_the_archive.ensures.behind k forms has refl journal.form refl) (c.in-Err.ensures.crash told).later (g.met.M.Media.seen_may_be_left back told)
+    ends_front M.time M.seen media back k refl refl refl (journaled c.journals_of_scripts.ensures c.scripts_keep_the_archive.ensures.on_the_way c.scripts_keep_the_archive.ensures.listed c.scripts_keep_the_archive.ensures.settled c.images_hold_the_archive.ensures.behind k forms has refl journal.form refl) (c.in-Err.ensures.crash told).later (g.met.M.Media.seen_may_be_left back told)
     (nothing_since M.time M.seen media bytes back [] (still_left M.time M.seen media bytes still (λ image was. g.met.M.Media.told_left media image told was) journal.is) (c.in-Err.ensures.crash told))
 
 pub returns-in-Err-clause-bad_log : goal.returns-in-Err-clause-bad_log
@@ -269,12 +270,14 @@ returns-in-Ok-clause-cell_at_end g c = λ told tells_cell tells_clock source jou
     let same : opened (record { config = c.args.config; slots = M.count plant.media - 1; present = slots_here (M.present plant.media) }) journal.log (g.C.Cell.list c.args.cell.now) contents shown ≡ k.world
     = λ i. opened (record { config = c.args.config; slots = e.count i - 1; present = slots_here (e.present i) }) journal.log (g.C.Cell.list c.args.cell.now) contents (sym rests i) in
     let found = subst (λ (w : World). IsHeldThroughout w k.moments (lines k.input)) (sym same) held in
-    let left = r.left told tells_cell tells_clock source (e.settled told) journal.log journal.form log_is contents found in
+    let at_end = r.left told tells_cell tells_clock source (e.settled told) journal.log journal.form log_is contents found in
+    let left = at_end.at in
     record {
       stage = left.stage;
       on_the_way = subst (λ (w : World). IsStage [] w k.moments (lines k.input) left.stage) same left.on_the_way;
       is = left.cell;
       clock = left.clock;
+      run = runs_in k _ left.stage.whole same at_end.took at_end.begun;
       told = told_to stock.told (stock_of (M.seen back)).told (shown_of M.seen n.plant).told left.stage.effects shown (ap (λ (x : Stock). x.told) (e.stock told)) (shown_told M.seen n.plant back c.into_media.ensures.media) (left.leaves.told told);
     }
 
@@ -284,4 +287,4 @@ returns-in-Err-clause-cell_at_end g c = λ told tells_cell tells_clock source jo
     let media = c.args.media in
     let back = c.in-Err.unopened.media in
     let k : Course = course M.seen M.count M.present c.args.config journal.log contents media back (g.C.Cell.list c.args.cell.now) (g.C.Cell.list c.args.cell.now) (g.K.Clock.moments c.args.clock.now) (g.K.Clock.moments c.args.clock.now) (g.S.Source.left c.args.source.now) (g.S.Source.left c.args.source.now) in
-    record { stage = between [] k.world k.moments; on_the_way = stage_front [] k.world k.moments (lines k.input); is = refl; clock = refl; told = untold_to (stock_of (M.seen media)).told (stock_of (M.seen back)).told (ap (λ (image : Image). image.told) (c.in-Err.ensures.seen told)) }
+    record { stage = between [] k.world k.moments; on_the_way = stage_front [] k.world k.moments (lines k.input); is = refl; clock = refl; run = runs_front k refl; told = untold_to (stock_of (M.seen media)).told (stock_of (M.seen back)).told (ap (λ (image : Image). image.told) (c.in-Err.ensures.seen told)) }

@@ -10,7 +10,7 @@ use Rattle.backup_top.proofs.Lowering.{still_left, nothing_since, nothing_same, 
 use Rattle.plant_media.specs.Laws.{below}
 use Rattle.backup_top.proofs.TapeCounts.{has_tapes}
 use Rattle.backup_top.proofs.ArchiveLaws.{holds_world}
-use Rattle.backup_top.proofs.CourseLaws.{OpenedForms, has_forms, ready_for, takes_nothing, journaled, images_of, ends_front, never_refused, never_bad_log, complete_by}
+use Rattle.backup_top.proofs.CourseLaws.{OpenedForms, has_forms, ready_for, takes_nothing, journaled, images_of, ends_front, runs_front, never_refused, never_bad_log, complete_by}
 use Rattle.backup_top.proofs.top.run.Goals as goal
 
 pub returns-in-Err-clause-images : goal.returns-in-Err-clause-images
@@ -34,7 +34,7 @@ returns-in-Err-clause-ends g c = λ runs told tells_cell tells_clock source stil
     let has = has_tapes k.world (M.present media) (M.seen media) (M.count media) refl refl (g.met.M.Media.here_below media) (g.met.M.Media.few_files media) in
     let laws : OpenedForms = record { lines = c.opened_worlds_have_their_forms.ensures.lines; ready = c.opened_worlds_have_their_forms.ensures.ready; fit = c.opened_worlds_have_their_forms.ensures.fit } in
     let forms = has_forms laws k c.args.config.now entry.says has entry.journal.form (g.met.C.Cell.is_cell c.args.cell.now tells_cell) (c.listed_is_allowed.ensures tells_cell) refl in
-    ends_front M.time M.seen media media k refl refl (journaled c.journals_of_scripts.ensures c.scripts_keep_the_archive.ensures.on_the_way c.scripts_keep_the_archive.ensures.listed c.scripts_keep_the_archive.ensures.settled c.images_hold_the_archive.ensures.behind k forms has refl entry.journal.form refl) (stays M.time media).later (g.met.M.Media.seen_may_be_left media told)
+    ends_front M.time M.seen media media k refl refl refl (journaled c.journals_of_scripts.ensures c.scripts_keep_the_archive.ensures.on_the_way c.scripts_keep_the_archive.ensures.listed c.scripts_keep_the_archive.ensures.settled c.images_hold_the_archive.ensures.behind k forms has refl entry.journal.form refl) (stays M.time media).later (g.met.M.Media.seen_may_be_left media told)
     (nothing_since M.time M.seen media bytes media [] (still_left M.time M.seen media bytes still (λ image was. g.met.M.Media.told_left media image told was) entry.journal.is) (stays M.time media))
 
 pub returns-in-Err-clause-finds : goal.returns-in-Err-clause-finds
@@ -73,7 +73,7 @@ returns-in-Err-clause-cell_at_end g c = λ runs told tells_cell tells_clock sour
     let M = g.M.Media in
     let media = c.args.media in
     let k : Course = course_of M.seen M.count M.present contents media entry media (g.C.Cell.list c.args.cell.now) (g.C.Cell.list c.args.cell.now) (g.K.Clock.moments c.args.clock.now) (g.K.Clock.moments c.args.clock.now) (g.S.Source.left c.args.source.now) (g.S.Source.left c.args.source.now) in
-    record { stage = between [] k.world k.moments; on_the_way = stage_front [] k.world k.moments (lines k.input); is = refl; clock = refl; told = untold_to (stock_of (M.seen media)).told (stock_of (M.seen media)).told refl }
+    record { stage = between [] k.world k.moments; on_the_way = stage_front [] k.world k.moments (lines k.input); is = refl; clock = refl; run = runs_front k refl; told = untold_to (stock_of (M.seen media)).told (stock_of (M.seen media)).told refl }
 
 pub returns-in-Err-clause-takes : goal.returns-in-Err-clause-takes
 returns-in-Err-clause-takes g c = λ runs source. takes_nothing (g.S.Source.left c.args.source.now)
