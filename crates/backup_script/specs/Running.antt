@@ -35,7 +35,8 @@ pub record JointFrom (low : ℕ) (start : State) (effects : List Effect) (old ne
 
 -- Each image of now is one of the crash model after the first of these effects, behind all that are whole.
 abbrev pub LeavesPast : {D : Type 0} → Plant D → List Effect → List Effect → D → D → Type 0
-LeavesPast P whole effects old new = P.tells → P.survives old → (image : Stock) → P.time.may_leave new image → Stepped P.time old (JointFrom (length whole) (state_of P old) effects) image
+LeavesPast P whole effects old new =
+    P.tells → P.survives old → (image : Stock) → P.time.may_leave new image → Stepped P.time old (JointFrom (length whole) (state_of P old) effects) image
 
 -- However it ended: the cell has a list of some stage of the script, the clock has the moments of that stage left, and each image since the
 -- start is one of the crash model after the first of the effects that may be done by then. In each image of now the lines before the one in
@@ -95,7 +96,8 @@ Takes old new (Err Memory) = TookToFault old new
 
 -- These lines were begun: what is whole comes of all of them, or of all but the last.
 abbrev pub AreBegun : World → List ℕ → List (List ℕ) → List Effect → Type 0
-AreBegun w ms these whole = (whole ≡ (script w ms these).effects) ⊎ ((before : List (List ℕ)) × (line : List ℕ) × (these ≡ before ++ line ∷ []) × (whole ≡ (script w ms before).effects))
+AreBegun w ms these whole =
+    (whole ≡ (script w ms these).effects) ⊎ ((before : List (List ℕ)) × (line : List ℕ) × (these ≡ before ++ line ∷ []) × (whole ≡ (script w ms before).effects))
 
 -- However it ended, by the bytes taken: all of the script is done, or all lines that were ended among these bytes, but for the last of them at
 -- most. So a line is run as soon as it is complete.
@@ -188,8 +190,10 @@ abbrev pub TookOn : List ℕ → List ℕ → Type 0
 TookOn old new = (line : List ℕ) × TookPiece old (10 ∷ new) line × (is_quit (strip_carriage_return line) ≡ false)
 
 abbrev pub TookEnd : List ℕ → List ℕ → ℕ → Type 0
-TookEnd old new taken = ((new ≡ []) × (taken ≤ 16777216) × All (λ b. is_feed b ≡ false) old) ⊎ ((line : List ℕ) × TookPiece old (10 ∷ new) line × (is_quit (strip_carriage_return line) ≡ true))
+TookEnd old new taken =
+    ((new ≡ []) × (taken ≤ 16777216) × All (λ b. is_feed b ≡ false) old) ⊎ ((line : List ℕ) × TookPiece old (10 ∷ new) line × (is_quit (strip_carriage_return line) ≡ true))
 
 abbrev pub TakesNext : List ℕ → List ℕ → ℕ → Result Passed ServeStop → Type 0
 TakesNext old new taken (Ok passed) = ((passed.goes ≡ true) → TookOn old new) × ((passed.goes ≡ false) → TookEnd old new taken)
-TakesNext old new taken (Err stop) = (piece : List ℕ) × (old ≡ piece ++ new) × ((stop ≡ TooLong) ⊎ (stop ≡ Read) → All (λ b. is_feed b ≡ false) piece) × IsOneLine (lines (ended piece))
+TakesNext old new taken (Err stop) =
+    (piece : List ℕ) × (old ≡ piece ++ new) × ((stop ≡ TooLong) ⊎ (stop ≡ Read) → All (λ b. is_feed b ≡ false) piece) × IsOneLine (lines (ended piece))

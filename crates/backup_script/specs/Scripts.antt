@@ -74,7 +74,8 @@ ending before effects w ms = record { cell = w.cell; effects = before ++ effects
 
 -- Inside a command, behind whose moment these are left: it changes the list step by step, and its effects but for the reply may be done.
 abbrev pub InsideTurn : List Effect → World → List ℕ → Turn → Stage → Type 0
-InsideTurn before w ms t stage = OnTheWay w.cell t.cells stage.cell × (stage.effects ≡ before ++ t.effects) × (stage.moments ≡ ms) × (stage.whole ≡ before)
+InsideTurn before w ms t stage =
+    OnTheWay w.cell t.cells stage.cell × (stage.effects ≡ before ++ t.effects) × (stage.moments ≡ ms) × (stage.whole ≡ before)
 
 -- Inside a line: its moment is used. Of a line that is refused for its words nothing is told yet, and it changes no list. The other lines use
 -- no moment.
