@@ -21,7 +21,7 @@ use Rattle.archive_model.specs.Settled.{HoldsSettled, Kept, AreHeld}
 use Rattle.archive_model.specs.Turns.{is_here, StillHeld}
 use Rattle.dump_job.specs.declared.fields.JobFields.{JobFields}
 use Rattle.dump_forms.specs.Journals.{AreBytesOf, IsJournalAfter}
-use Rattle.dump_laws.specs.Keeping.{IsOnTheWay, Keeps as KeepsDump}
+use Rattle.dump_laws.specs.Keeping.{IsBetween, IsOnTheWay, Keeps as KeepsDump}
 use Rattle.dump_archives.proofs.Fields.{OnlyAdds, CutsFirst}
 use Rattle.dump_archives.proofs.Keeping.{archive_at, HoldsAt, Keeps}
 use Rattle.dump_archives.proofs.Slots.{ReadOnce, slots_again}
@@ -120,13 +120,15 @@ module _ (once : ReadOnce) (n : ℕ) (present : ℕ → Bool) (contents : ℕ �
 
   module _ (s : State) (a : Archive) (records : List DumpRecordFields) (contents2 : ℕ → List ℕ → Result VolumeFields Refusal) (clones : List Taken) (dumps : List DumpRecordFields) (effects : List Effect) (changes : List Change) (next : JobFields) (k : KeepsDump s a records contents2 clones dumps effects changes next)
       (mine : a.contents ≡ contents) (same : contents2 ≡ contents) (slots_are : a.slots ≡ slots) (old : (d : DumpRecordFields) → Contains records d → Is d) (join : (d : DumpRecordFields) → Contains dumps d → Is d) (here_are : map is_here a.slots ≡ map is_here (slots_of n present first)) where
+    contents_between : (x : Archive) → IsBetween a k.last.archive.log k.last.archive.contents x → x.contents ≡ contents
+    contents_between x (inl (log, inl old)) = old ∙ mine
+    contents_between x (inl (log, inr last)) = last ∙ k.contents_are ∙ same
+    contents_between x (inr (log, last)) = last ∙ k.contents_are ∙ same
+
     on_way : (x : Kept) → IsOnTheWay a k.last.archive records dumps x → IsOn x
     on_way x on = record {
       here = on.here ∙ here_are;
-      contents_are = elim on.contents [
-        | inl old ↦ old ∙ mine
-        | inr last ↦ last ∙ k.contents_are ∙ same
-      ];
+      contents_are = contents_between x.archive on.between;
       still = subst (λ (l : List Slot). StillHeld (listed_of x.archive) l x.archive.slots) slots_are on.still;
       each = λ d there. elim (on.dumps_are d there) [
         | inl was ↦ old d was

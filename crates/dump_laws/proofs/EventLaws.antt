@@ -30,7 +30,7 @@ use Rattle.dump_job.specs.Events.{Around, Event, putting, head_event, piece_even
 use Rattle.dump_laws.specs.Made.{Made}
 use Rattle.dump_laws.specs.Running.{basis_of, Goes, BeforeHead, BeforePiece, BeforeVolumeEnd, BeforePartEnd, BeforeDumpEnd, WithHand, Before, UnlessOver, RunsIn}
 use Rattle.dump_laws.specs.Growing.{with_dump, record_done}
-use Rattle.dump_laws.specs.Keeping.{IsFormedHand, IsFormed, Asks, MayStep, contents_behind, clones_behind, dumps_behind, AreAllHeld, IsOnTheWay, Keeps, ImageHolds}
+use Rattle.dump_laws.specs.Keeping.{IsFormedHand, IsFormed, Asks, MayStep, contents_behind, clones_behind, dumps_behind, AreAllHeld, IsBetween, IsOnTheWay, Keeps, ImageHolds}
 use Rattle.archive_model.proofs.FoundLaws.{found_held}
 use Rattle.archive_model.proofs.StillLaws.{joint_holds}
 use Rattle.dump_laws.proofs.NeighbourLaws.{get_more}
@@ -67,8 +67,7 @@ module _ (s : State) (a : Archive) (records : List DumpRecordFields) (around : A
   twice_on : (z : Archive) (t : Slot) (more next : List Item) (records2 : List DumpRecordFields) → slice_get a.slots j.reel.slot ≡ Some t → z.contents ≡ grown → ((d : DumpRecordFields) → Contains records2 d → Contains with_done d)
       → IsOnTheWay a z records with_done (record { archive = with_contents (with_slot (with_slot a j.reel.slot (t.items ++ more)) j.reel.slot ((t.items ++ more) ++ next)) grown; records = records2 })
   twice_on z t more next records2 at contents among = record {
-    log = inl refl;
-    contents = inr (sym contents);
+    between = inl (refl, inr (sym contents));
     here = here_same j.reel.slot ((t.items ++ more) ++ next) (with_items j.reel.slot (t.items ++ more) a.slots) ∙ here_same j.reel.slot (t.items ++ more) a.slots;
     still = twice_held (listed_of a) t more next at;
     listed = λ d there. inl there;
@@ -211,25 +210,24 @@ on_the_way Is [] x count each at = absurd (cc)
 on_the_way Is (y ∷ before) x zero each at = (let same : y ≡ x = cc in subst Is same (All-head Is y before each))
 on_the_way Is (y ∷ before) x (suc count) each at = on_the_way Is before x count (All-tail Is y before each) at
 
+-- what is between one archive and another is between it and the other's log and contents by any name
+between_as : (a z : Archive) (log : List Change) (contents : ℕ → List ℕ → Result VolumeFields Refusal) (x : Archive) → z.log ≡ log → z.contents ≡ contents → IsBetween a z.log z.contents x → IsBetween a log contents x
+between_as a z log contents x logs same (inl (old, inl stays)) = inl (old, inl stays)
+between_as a z log contents x logs same (inl (old, inr new)) = inl (old, inr (new ∙ same))
+between_as a z log contents x logs same (inr (new, all)) = inr (new ∙ logs, all ∙ same)
+
 -- What a crash leaves of effects that keep an archive holds an archive on the way.
 pub image_holds : (s : State) (a : Archive) (records : List DumpRecordFields) (contents : ℕ → List ℕ → Result VolumeFields Refusal) (clones : List Taken) (dumps : List DumpRecordFields) (effects : List Effect) (changes : List Change) (next : JobFields) → Keeps s a records contents clones dumps effects changes next → (old c : Stock) → Joint s effects old c → ImageHolds a (a.log ++ changes) contents c
 image_holds s a records contents clones dumps effects changes next k old c joint =
     let x = joint_holds effects (k.before ++ k.last ∷ []) s joint.count c k.held joint.within joint.left in
     let way : IsOnTheWay a k.last.archive records dumps x.0 = elim (get_more k.before k.last joint.count x.0 x.1) [
       | inl early ↦ on_the_way (IsOnTheWay a k.last.archive records dumps) k.before x.0 joint.count k.each early
-      | inr last ↦ subst (IsOnTheWay a k.last.archive records dumps) last.1 (record { log = inr refl; contents = inr refl; here = k.here; still = k.still; listed = k.listed; dumps_are = λ d there. inr (k.dumps_are d there) })
+      | inr last ↦ subst (IsOnTheWay a k.last.archive records dumps) last.1 (record { between = inr (refl, refl); here = k.here; still = k.still; listed = k.listed; dumps_are = λ d there. inr (k.dumps_are d there) })
     ] in
     record {
       moment = x.0;
       slots = x.2;
-      log_is = elim way.log [
-        | inl old_log ↦ inl old_log
-        | inr new_log ↦ inr (new_log ∙ k.log)
-      ];
-      contents_are = elim way.contents [
-        | inl old_contents ↦ inl old_contents
-        | inr new_contents ↦ inr (new_contents ∙ k.contents_are)
-      ];
+      between = between_as a k.last.archive (a.log ++ changes) contents x.0.archive k.log k.contents_are way.between;
       here = x.3 ∙ way.here;
       still = still_then (listed_of x.0.archive) a.slots x.0.archive.slots x.2 way.still x.4;
       listed = λ d there. elim (way.listed d there) [

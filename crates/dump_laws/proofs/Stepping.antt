@@ -90,13 +90,13 @@ here_same (suc k) items (t ∷ slots) = ap (λ (l : List Bool). t.here ∷ l) (h
 
 -- an archive with other items on one slot
 pub slot_on : (a z : Archive) (records dumps : List DumpRecordFields) (k : ℕ) (items : List Item) (few : List DumpRecordFields) → StillHeld (listed_of a) a.slots (with_items k items a.slots) → ((d : DumpRecordFields) → Contains few d → Contains records d) → IsOnTheWay a z records dumps (record { archive = with_slot a k items; records = few })
-slot_on a z records dumps k items few still among = record { log = inl refl; contents = inl refl; here = here_same k items a.slots; still = still; listed = λ d there. inl there; dumps_are = λ d there. inl (among d there) }
+slot_on a z records dumps k items few still among = record { between = inl (refl, inl refl); here = here_same k items a.slots; still = still; listed = λ d there. inl there; dumps_are = λ d there. inl (among d there) }
 
 pub put_on_way : (a z : Archive) (records dumps : List DumpRecordFields) (k : ℕ) (s : Slot) (more : List Item) → slice_get a.slots k ≡ Some s → IsOnTheWay a z records dumps (record { archive = with_slot a k (s.items ++ more); records = records })
 put_on_way a z records dumps k s more at = slot_on a z records dumps k (s.items ++ more) records (still_put (listed_of a) a.slots k s more at) (λ d there. there)
 
 pub first_on : (a z : Archive) (records dumps : List DumpRecordFields) → IsOnTheWay a z records dumps (record { archive = a; records = records })
-first_on a z records dumps = record { log = inl refl; contents = inl refl; here = refl; still = still_self (listed_of a) a.slots; listed = λ d there. inl there; dumps_are = λ d there. inl there }
+first_on a z records dumps = record { between = inl (refl, inl refl); here = refl; still = still_self (listed_of a) a.slots; listed = λ d there. inl there; dumps_are = λ d there. inl there }
 
 module _ (a z : Archive) (records dumps : List DumpRecordFields) where
   abbrev On : Kept → Type 0

@@ -154,11 +154,16 @@ AreAllHeld listed slots = (d : DumpRecordFields) → Contains listed d → IsHel
 abbrev pub ListsWhole : List DumpRecordFields → List DumpRecordFields → List Slot → Type 0
 ListsWhole before listed slots = (d : DumpRecordFields) → Contains listed d → Contains before d ⊎ IsHeld d slots
 
--- An archive on the way from one to another: it has the log and the contents of the one or of the other, the same slots are here, and each
--- of its listed dumps is held where it was; one that was listed since is held whole. It has no dumps but those of before or these.
+-- The log and the contents that an archive has on the way from another one to these: the log of before with the contents of before or already these,
+-- for a dump is made by its last filemark and listed behind it; or this log, and then with these contents.
+abbrev pub IsBetween : Archive → List Change → (ℕ → List ℕ → Result VolumeFields Refusal) → Archive → Type 0
+IsBetween a log contents x = ((x.log ≡ a.log) × ((x.contents ≡ a.contents) ⊎ (x.contents ≡ contents))) ⊎ ((x.log ≡ log) × (x.contents ≡ contents))
+
+-- An archive on the way from one to another: it has the log and the contents of the one or of the other, or the log of the one with the contents of
+-- the other; the same slots are here, and each of its listed dumps is held where it was; one that was listed since is held whole. It has no dumps
+-- but those of before or these.
 pub record IsOnTheWay (a z : Archive) (records dumps : List DumpRecordFields) (x : Kept) : Type 0 where
-  pub log : (x.archive.log ≡ a.log) ⊎ (x.archive.log ≡ z.log)
-  pub contents : (x.archive.contents ≡ a.contents) ⊎ (x.archive.contents ≡ z.contents)
+  pub between : IsBetween a z.log z.contents x.archive
   pub here : map is_here x.archive.slots ≡ map is_here a.slots
   pub still : StillHeld (listed_of x.archive) a.slots x.archive.slots
   pub listed : ListsWhole (listed_of a) (listed_of x.archive) x.archive.slots
@@ -185,13 +190,12 @@ pub record Keeps (s : State) (a : Archive) (records : List DumpRecordFields) (co
 
 -- ---- what each image holds
 
--- An image holds an archive on the way: its log is the one before or this one, its contents are those before or these; the same slots are
--- here; each of its listed dumps is held where it was before them; and of the other dumps it has those that are whole yet.
+-- An image holds an archive on the way: its log and its contents are those of before or these, or it has these contents under the log of before;
+-- the same slots are here; each of its listed dumps is held where it was before them; and of the other dumps it has those that are whole yet.
 pub record ImageHolds (a : Archive) (log : List Change) (contents : ℕ → List ℕ → Result VolumeFields Refusal) (c : Stock) : Type 0 where
   pub moment : Kept
   pub slots : List Slot
-  pub log_is : (moment.archive.log ≡ a.log) ⊎ (moment.archive.log ≡ log)
-  pub contents_are : (moment.archive.contents ≡ a.contents) ⊎ (moment.archive.contents ≡ contents)
+  pub between : IsBetween a log contents moment.archive
   pub here : map is_here slots ≡ map is_here a.slots
   pub still : StillHeld (listed_of moment.archive) a.slots slots
   pub listed : ListsWhole (listed_of a) (listed_of moment.archive) slots
