@@ -69,7 +69,6 @@ use Rattle.dump_archives.proofs.Clones.{AreUp, expansion_up, expansion_within, g
 use Rattle.dump_archives.proofs.Contents.{free_contents, dumped_same, grown_other}
 use Rattle.dump_archives.proofs.Courses.{Underway, Left, course_done}
 use Rattle.dump_archives.proofs.Fairs.{fewer_fair}
-use Rattle.dump_archives.proofs.Formed.{label_fits}
 use Rattle.dump_archives.proofs.Growing.{greatest_begun}
 use Rattle.dump_archives.proofs.Heads.{StaysUpTo, stays_known, heads_raised}
 use Rattle.dump_archives.proofs.Keeping.{Keeps, keeps_then, keeps_so, kept_after}
@@ -228,7 +227,7 @@ module _ (once : ReadOnce) (s : Scene) (contents : Contents) (records : List Dum
   later_made : NoneIsMadeAfter o.time s.cell
   later_made = subst (λ (n : ℕ). NoneIsMadeAfter n s.cell) (sym time) asks.made
 
-  underway : Underway once s o contents asks.cell asks.form.cell few good later_made asks.named point
+  underway : Underway once s o contents asks.cell asks.form.cell good later_made asks.named point
   underway = record {
     archive = begun_so;
     records = begun_records t.take start records;
@@ -239,8 +238,6 @@ module _ (once : ReadOnce) (s : Scene) (contents : Contents) (records : List Dum
     runs = runs.1;
     running = tt;
     forms = begin.1;
-    stream = tt;
-    label = label_fits begun_so point.job (nothing_made runs.0) begin.1.head runs.1.before;
     places = refl;
     time = refl;
     parent = refl;
@@ -265,9 +262,9 @@ module _ (once : ReadOnce) (s : Scene) (contents : Contents) (records : List Dum
   abbrev its_course : Course
   its_course = course s point
 
-  course_way : Keeps s.slots s.present grown IsLow point.log point.state its_course.effects its_course.log × Left once s o contents asks.cell asks.form.cell few good later_made asks.named its_course.log (come its_course.effects point.state)
+  course_way : Keeps s.slots s.present grown IsLow point.log point.state its_course.effects its_course.log × Left once s o contents asks.cell asks.form.cell good later_made asks.named its_course.log (come its_course.effects point.state)
       × IsSettled (come its_course.effects point.state) × StaysUpTo its s.slots s.present point.state its_course.effects
-  course_way = course_done once s o contents asks.cell asks.form.cell few good later_made asks.named point underway
+  course_way = course_done once s o contents asks.cell asks.form.cell good later_made asks.named point underway
 
   begun_way : Keeps s.slots s.present grown IsLow s.log s.state (commit_of s o t ++ its_course.effects) its_course.log
   begun_way = keeps_then s.slots s.present grown IsLow (commit_of s o t) its_course.effects s.state s.log point.log its_course.log commit_way course_way.0

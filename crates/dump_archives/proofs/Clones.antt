@@ -1,16 +1,12 @@
 -- The clones of a dump are those of the places of its order, and each next one is a good one of a fair cell.
 use Rattle.std.proofs.Common.{◌≡◌, ◌⊎◌, ℕ, zero, suc, ◌+◌, ◌<◌, ◌≤◌, Bool, true, false, Option, Some, None, List, [], ◌∷◌, ◌++◌, length, map, get_or, refl, sym, ap, subst, ◌∙◌, arith, inl, inr, length-append}
-use Rattle.std.specs.Prelude.{All, Contains, IfSome, slice_get, find, nat_lt, ◌==◌}
+use Rattle.std.specs.Prelude.{All, Contains, IfSome, slice_get, find}
 use Rattle.std.proofs.lemmas.Bool.{cases_Bool}
 use Rattle.std.proofs.lemmas.List.Elements.{All-contains}
 use Rattle.std.specs.declared.cmp.Ordering.TheVariants.{Less}
 use Rattle.bk_text.specs.Blanks.{is_same_text}
-use Rattle.byte_formats.specs.Forms.{IsFour}
 use Rattle.vnode_model.specs.declared.listed.VolEntry.{VolEntry}
 use Rattle.vnode_model.specs.declared.volumes.VolumeFields.{VolumeFields}
-use Rattle.vnode_model.specs.Increments.{selected}
-use Rattle.dump_stream.specs.Allowed.{Allowed}
-use Rattle.dump_stream.proofs.AllowedLaws.{selected_allowed}
 use Rattle.cell_core.specs.declared.stored.Stored.{Stored}
 use Rattle.cell_core.specs.declared.stored.Image.{Image}
 use Rattle.cell_core.specs.declared.stored.Image.TheVariants.{Good, Bad}
@@ -19,10 +15,7 @@ use Rattle.cell_core.specs.Cells.{IsCell, IsImageOf, born}
 use Rattle.cell_core.specs.Listings.{name_order}
 use Rattle.cell_core.specs.Calls.{clone_time, state_of, entry_of_stored, entry_of, entry_at, clone_of_image, clone_of, clone_at}
 use Rattle.cell_core.specs.Fairness.{Fair}
-use Rattle.budb_changes.specs.declared.records.VolRecordFields.{VolRecordFields}
 use Rattle.budb_changes.specs.declared.records.DumpRecordFields.{DumpRecordFields}
-use Rattle.budb_changes.specs.Forms.{IsVolRecord, IsDumpRecord}
-use Rattle.budb_fold.specs.Lookups.{volume_of, from_volume, from_of}
 use Rattle.tape_text.specs.Texts.{IsBefore}
 use Rattle.archive_model.specs.Archives.{Archive}
 use Rattle.archive_model.specs.Sources.{dumped_by}
@@ -30,8 +23,9 @@ use Rattle.dump_job.specs.declared.fields.Hand.{Hand}
 use Rattle.dump_job.specs.declared.fields.JobFields.{JobFields}
 use Rattle.dump_job.specs.Cloning.{record_with, with_hand, volumes_done}
 use Rattle.dump_job.specs.Events.{Around}
-use Rattle.cell_core.specs.Forms.{IsVolumeForm, IsImageForm, IsStoredForm}
-use Rattle.dump_forms.proofs.EventForms.{found_has}
+use Rattle.cell_core.specs.Forms.{IsStoredForm}
+use Rattle.dump_forms.specs.Forms.{HasForms}
+use Rattle.dump_forms.proofs.EventForms.{allowed_there}
 use Rattle.dump_laws.specs.Made.{Made}
 use Rattle.dump_laws.specs.Growing.{is_clone_of}
 use Rattle.dump_laws.specs.Running.{CloneGoes}
@@ -210,41 +204,6 @@ clone_place cell now (q ∷ places) (d ∷ cs) (suc i) c are at = clone_place ce
 
 -- ---- the next one
 
-from_found : (o : Option VolRecordFields) (since : ℕ) → IfSome o IsVolRecord → IsFour (from_volume o since)
-from_found None since form = omega arith
-from_found (Some v) since form = elim (cases_Bool (nat_lt since v.clone)) [ inl hit ↦ rw hit form.clone | inr miss ↦ rw miss (omega arith) ]
-
-pub from_form : (parent : Option DumpRecordFields) (name : List ℕ) (since : ℕ) → IfSome parent IsDumpRecord → IsFour (from_of parent name since)
-from_form None name since form = omega arith
-from_form (Some d) name since form = from_found (volume_of d name) since (found_has IsVolRecord (λ v. is_same_text v.name name) d.volumes form.each_volume)
-
-time_form : (volume : VolumeFields) (now : ℕ) → IsFour now → IsVolumeForm volume → IsFour (clone_time volume now)
-time_form volume now four form = elim (cases_Bool (volume.header.kind == 0)) [ inl hit ↦ rw hit four | inr miss ↦ rw miss (let created : volume.header.created < 4294967296 = form.header.created in omega (arith, created)) ]
-
--- the volume that stands at a place has its form
-pub good_form : (cell : List Stored) (place : ℕ) → All IsStoredForm cell → (g : IsGoodAt cell place) → IsVolumeForm g.volume
-good_form cell place forms g = subst IsImageForm g.good (All-contains IsStoredForm cell g.stored forms (in_list cell place g.stored g.at)).image
-
-pub clone_allowed : (cell : List Stored) (place now : ℕ) (parent : Option DumpRecordFields) → IsFour now → All IsStoredForm cell → IfSome parent IsDumpRecord → (g : IsGoodAt cell place)
-    → Allowed (selected g.volume (from_of parent g.stored.name (its_clone cell now g.volume).born) (its_clone cell now g.volume).time)
-clone_allowed cell place now parent four forms record_form g =
-    let from = from_form parent g.stored.name (its_clone cell now g.volume).born record_form in
-    let form : IsVolumeForm g.volume = good_form cell place forms g in
-    let time = time_form g.volume now four form in
-    selected_allowed g.volume (from_of parent g.stored.name (its_clone cell now g.volume).born) (its_clone cell now g.volume).time (omega (arith, from)) (omega (arith, time)) form.header form.vnodes form.fit
-
--- what an entry and a clone are at one place
-pub allowed_at : (cell : List Stored) → IsCell cell → (place now : ℕ) (parent : Option DumpRecordFields) → IsFour now → All IsStoredForm cell → IfSome parent IsDumpRecord → (e : VolEntry) (c : Taken) → entry_at cell place ≡ Some e → clone_at cell place now ≡ Some c
-    → Allowed (selected c.volume (from_of parent e.name c.born) c.time)
-allowed_at cell is_cell place now parent four forms record_form e c entry clone =
-    let x : IsCloneAt cell place now c = clone_there cell is_cell place now c clone in
-    let g : IsGoodAt cell place = record { stored = x.stored; volume = c.volume; at = x.at; good = x.good } in
-    let form : IsVolumeForm c.volume = good_form cell place forms g in
-    let from = from_form parent e.name c.born record_form in
-    let time : IsFour (clone_time c.volume now) = time_form c.volume now four form in
-    let same : c.time ≡ clone_time c.volume now = ap (λ (y : Taken). y.time) x.is in
-    selected_allowed c.volume (from_of parent e.name c.born) c.time (omega (arith, from)) (omega (arith, time, same)) form.header form.vnodes form.fit
-
 -- the name of the volume in hand is before that of the next one
 name_after : (cell : List Stored) → IsCell cell → (a : Archive) (j : JobFields) (m : Made) (o : Option Hand) → j.hand ≡ o → CloneGoes a j m o → AreUp 0 j.places → AreFirstClones cell j.time j.places m.clones → (place : ℕ) (next : Stored)
     → slice_get j.places (length (volumes_done j)) ≡ Some place → slice_get cell place ≡ Some next → IfSome o (λ h. IsBefore h.head.name next.name)
@@ -259,9 +218,9 @@ name_after cell is_cell a j m (Some h) is d up are place next at there =
     let name : h.head.name ≡ c.stored.name = x.cloned.name_is ∙ c.name in
     subst (λ (n : List ℕ). IsBefore n next.name) (sym name) (names_ascend cell is_cell before.0 place c.stored next c.at there less)
 
-pub next_clone : (around : Around) → IsCell around.cell → All IsStoredForm around.cell → (a : Archive) (records : List DumpRecordFields) (j : JobFields) (m : Made) → HasGoodPlaces around.cell j.places → IsFour j.time → IfSome j.parent IsDumpRecord
+pub next_clone : (around : Around) → IsCell around.cell → All IsStoredForm around.cell → (a : Archive) (records : List DumpRecordFields) (j : JobFields) (m : Made) → HasGoodPlaces around.cell j.places → HasForms j
     → Fair around.cell (dumped_by a.contents records) j.time → AreFirstClones around.cell j.time j.places m.clones → CloneGoes a j m j.hand → length (volumes_done j) < length j.places → CloneIsFair a records around j
-next_clone around is_cell forms a records j m good four parent fair are goes left =
+next_clone around is_cell stored a records j m good forms fair are goes left =
     let at = within_get j.places (length (volumes_done j)) left in
     let g : IsGoodAt around.cell at.0 = good.good (length (volumes_done j)) at.0 at.1 in
     record {
@@ -274,7 +233,7 @@ next_clone around is_cell forms a records j m good four parent fair are goes lef
       after = name_after around.cell is_cell a j m j.hand refl goes good.up are at.0 g.stored at.1 g.at;
       cell = is_cell;
       fair = fair;
-      allowed = clone_allowed around.cell at.0 j.time j.parent four forms parent g;
+      allowed = allowed_there around.cell at.0 j (entry_of_stored g.stored) (its_clone around.cell j.time g.volume) stored forms (good_entry around.cell at.0 g) (good_clone around.cell at.0 j.time g);
     }
 
 -- ---- all clones, by their names

@@ -1,11 +1,8 @@
 -- The course of a dump keeps the archive, event by event.
 use Rattle.std.proofs.Common.{◌≡◌, ℕ, zero, suc, ◌+◌, ◌<◌, ◌≤◌, Bool, true, false, Option, Some, None, List, [], ◌∷◌, ◌++◌, length, map, refl, sym, ap, subst, ◌∙◌, arith, inl, inr, length-append}
-use Rattle.std.specs.Prelude.{All, IfSome, Contains, slice_get, ◌==◌}
+use Rattle.std.specs.Prelude.{All, Contains, slice_get, ◌==◌}
 use Rattle.std.proofs.lemmas.Bool.{cases_Bool, eqb-true, eq-eqb}
 use Rattle.std.proofs.lemmas.List.Elements.{Contains-push_cases}
-use Rattle.byte_formats.specs.Forms.{IsFour}
-use Rattle.tape_frames.specs.declared.label.LabelFields.{LabelFields}
-use Rattle.tape_frames.specs.Layouts.{FitsLabel}
 use Rattle.cell_core.specs.declared.stored.Taken.{Taken}
 use Rattle.vnode_model.specs.declared.listed.VolEntry.{VolEntry}
 use Rattle.cell_core.specs.Cells.{IsCell}
@@ -60,11 +57,11 @@ use Rattle.dump_commands.specs.Answers.{Contents, contents_with}
 use Rattle.dump_commands.specs.Running.{IsSettledFor}
 use Rattle.dump_commands.proofs.CourseLaws.{event_falls, course_more, course_last}
 use Rattle.dump_commands.proofs.SettledCourses.{event_settled, settled_over}
-use Rattle.dump_archives.proofs.Clones.{HasGoodPlaces, AreFirstClones, clones_more, next_clone, allowed_at}
+use Rattle.dump_archives.proofs.Clones.{HasGoodPlaces, AreFirstClones, clones_more, next_clone}
 use Rattle.dump_archives.proofs.Contents.{same_contents}
 use Rattle.dump_archives.proofs.Fairs.{fewer_fair, done_fair}
-use Rattle.dump_archives.proofs.Fields.{Same, event_same, event_label, IsStream, AllAllowed, event_stream, IsRunning, event_runs, event_cuts}
-use Rattle.dump_archives.proofs.Formed.{is_formed, label_fits}
+use Rattle.dump_archives.proofs.Fields.{Same, event_same, IsRunning, event_runs, event_cuts}
+use Rattle.dump_archives.proofs.Formed.{is_formed}
 use Rattle.dump_archives.proofs.Growing.{greatest_more}
 use Rattle.dump_archives.proofs.Heads.{StaysUpTo, event_up, stays_then}
 use Rattle.dump_archives.proofs.Lasts.{Finds, event_over}
@@ -126,7 +123,7 @@ few_at phase.PartEnd j forms run at = omega (arith, at.room, forms.capacity, for
 few_at phase.DumpEnd j forms run at = omega (arith, at, forms.capacity, forms.job.marks)
 few_at phase.Over j forms run at = absurd run
 
-module _ (once : ReadOnce) (s : Scene) (o : DumpOrder) (contents : Contents) (is_cell : IsCell s.cell) (stored : All IsStoredForm s.cell) (four : IsFour o.time) (good : HasGoodPlaces s.cell o.volumes) (made : NoneIsMadeAfter o.time s.cell) (named : NoSourceHasBackupName s.cell) where
+module _ (once : ReadOnce) (s : Scene) (o : DumpOrder) (contents : Contents) (is_cell : IsCell s.cell) (stored : All IsStoredForm s.cell) (good : HasGoodPlaces s.cell o.volumes) (made : NoneIsMadeAfter o.time s.cell) (named : NoSourceHasBackupName s.cell) where
   abbrev pub its : ℕ
   its = id_of o (database_in s)
 
@@ -151,8 +148,6 @@ module _ (once : ReadOnce) (s : Scene) (o : DumpOrder) (contents : Contents) (is
     pub runs : RunsIn p.state archive records p.job put
     pub running : IsRunning p.job.phase
     pub forms : HasForms p.job
-    pub stream : IfSome p.job.hand IsStream
-    pub label : IfSome p.job.label FitsLabel
     pub places : p.job.places ≡ o.volumes
     pub time : p.job.time ≡ o.time
     pub parent : p.job.parent ≡ record_of (database_in s).listed o.parent
@@ -204,9 +199,6 @@ module _ (once : ReadOnce) (s : Scene) (o : DumpOrder) (contents : Contents) (is
     good_here : HasGoodPlaces s.cell j.places
     good_here = subst (HasGoodPlaces s.cell) (sym u.places) good
 
-    four_here : IsFour j.time
-    four_here = subst IsFour (sym u.time) four
-
     fair_here : Fair s.cell (dumped_by a.contents u.records) j.time
     fair_here = subst (λ (n : ℕ). Fair s.cell (dumped_by a.contents u.records) n) (sym u.time) (subst (λ (c : Contents). Fair s.cell (dumped_by c u.records) o.time) (sym u.contents_are) u.fair)
 
@@ -215,7 +207,7 @@ module _ (once : ReadOnce) (s : Scene) (o : DumpOrder) (contents : Contents) (is
 
     asks_at : (ph : Phase) → j.phase ≡ ph → Before a j m ph → Asks a u.records (around s p) j ph
     asks_at phase.Tape at b = (let due = subst (λ (q : Phase). IsAt q j) at u.forms.job.at in due.room)
-    asks_at phase.Clone at b = (let due = subst (λ (q : Phase). IsAt q j) at u.forms.job.at in next_clone (around s p) is_cell stored a u.records j m good_here four_here u.forms.parent fair_here clones_here b.hand due.left)
+    asks_at phase.Clone at b = (let due = subst (λ (q : Phase). IsAt q j) at u.forms.job.at in next_clone (around s p) is_cell stored a u.records j m good_here u.forms fair_here clones_here b.hand due.left)
     asks_at phase.Head at b = tt
     asks_at phase.Piece at b = tt
     asks_at phase.VolumeEnd at b = tt
@@ -230,7 +222,7 @@ module _ (once : ReadOnce) (s : Scene) (o : DumpOrder) (contents : Contents) (is
     may = record {
       listed = ap (λ (l : List Change). (after l).listed) (sym u.log);
       slots = sym u.slots;
-      form = is_formed j u.forms u.stream u.label;
+      form = is_formed j u.forms;
       changes = forms_then.changes;
       asks = asks;
     }
@@ -443,18 +435,6 @@ module _ (once : ReadOnce) (s : Scene) (o : DumpOrder) (contents : Contents) (is
 
     -- ---- the dump behind it
 
-    allowed : AllAllowed s.cell j
-    allowed place x c entry clone = allowed_at s.cell is_cell place j.time j.parent four_here stored u.forms.parent x c entry clone
-
-    label_of : (ph : Phase) → e.job.phase ≡ ph → ph ≡ phase.Tape → IfSome e.job.label FitsLabel
-    label_of ph at is = label_fits z e.job kept.made forms_then.job.head (subst (Before z e.job kept.made) (at ∙ is) kept.runs.before)
-
-    label_then : IfSome e.job.label FitsLabel
-    label_then = elim (event_label (around s p) j) [
-      | inl stays ↦ subst (λ (x : Option LabelFields). IfSome x FitsLabel) (sym stays) u.label
-      | inr chosen ↦ label_of e.job.phase refl chosen
-    ]
-
     clones_then : AreFirstClones s.cell o.time o.volumes kept.made.clones
     clones_then =
         subst (AreFirstClones s.cell o.time o.volumes) (sym kept.clones_are)
@@ -472,8 +452,6 @@ module _ (once : ReadOnce) (s : Scene) (o : DumpOrder) (contents : Contents) (is
       runs = kept.runs;
       running = event_runs (around s p) j more;
       forms = forms_then.job;
-      stream = event_stream (around s p) j allowed u.stream;
-      label = label_then;
       places = same.places ∙ u.places;
       time = same.time ∙ u.time;
       parent = same.parent ∙ u.parent;

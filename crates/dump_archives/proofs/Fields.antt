@@ -1,18 +1,14 @@
 -- What each event of a dump leaves of its fields, and what its effects are.
-use Rattle.std.proofs.Common.{◌≡◌, ◌⊎◌, ℕ, zero, suc, ◌+◌, ◌<◌, ◌≤◌, Bool, true, false, Option, Some, None, List, [], ◌∷◌, ◌++◌, length, drop, refl, sym, subst, ◌∙◌, arith, inl, inr, length-drop}
-use Rattle.std.specs.Prelude.{All, IfSome, if◌then◌else◌, nat_lt, ◌==◌, slice_get}
-use Rattle.std.proofs.lemmas.List.Elements.{All-tail}
+use Rattle.std.proofs.Common.{◌≡◌, ℕ, ◌+◌, Bool, true, false, Option, Some, None, List, [], ◌∷◌, ◌++◌, length, refl, sym, ◌∙◌}
+use Rattle.std.specs.Prelude.{if◌then◌else◌, nat_lt, ◌==◌, slice_get}
 use Rattle.vnode_model.specs.declared.listed.VolEntry.{VolEntry}
-use Rattle.vnode_model.specs.Increments.{selected}
 use Rattle.cell_core.specs.declared.stored.Stored.{Stored}
 use Rattle.cell_core.specs.declared.stored.Taken.{Taken}
 use Rattle.cell_core.specs.Calls.{entry_at, clone_at}
-use Rattle.dump_stream.specs.Allowed.{Allowed}
 use Rattle.plant_core.specs.Effects.{Effect, commits, replaces, tells, puts, settles, cuts}
 use Rattle.tape_text.specs.Items.{Item, Says, Filemark, Nothing}
 use Rattle.tape_writer.specs.Puts.{put_on, puts_on}
 use Rattle.budb_changes.specs.declared.change.Change.{Change}
-use Rattle.budb_changes.specs.declared.records.Frag.{Frag}
 use Rattle.tape_choice.specs.declared.choosing.Chosen.{Chosen}
 use Rattle.dump_job.specs.declared.answer.StepAnswer.{StepAnswer}
 use Rattle.dump_job.specs.declared.fields.Hand.{Hand}
@@ -21,15 +17,13 @@ use Rattle.dump_job.specs.declared.fields.Phase.{Phase}
 use Rattle.dump_job.specs.declared.fields.Phase.TheVariants as phase
 use Rattle.dump_job.specs.Reels.{counts_on, has_room}
 use Rattle.dump_job.specs.Taping.{uses_for, tape_items, phase_begun}
-use Rattle.dump_job.specs.Cloning.{volumes_done, from_time, first_hand}
-use Rattle.dump_job.specs.Volumes.{head_items, next_used, piece_items, without_piece, end_items, volume_ended}
+use Rattle.dump_job.specs.Cloning.{volumes_done}
+use Rattle.dump_job.specs.Volumes.{head_items, piece_items, without_piece, end_items, volume_ended}
 use Rattle.dump_job.specs.Ending.{part_end_items}
-use Rattle.dump_job.specs.Passing.{next_choice, next_changes, next_frags, hand_with, part_passed, part_refused}
+use Rattle.dump_job.specs.Passing.{next_choice, next_changes, part_passed, part_refused}
 use Rattle.dump_job.specs.Closing.{committing, is_too_long, done_changes, dump_ended}
 use Rattle.dump_job.specs.Events.{Around, Event, putting, items_at, clone_by, clone_from, part_end_by, head_event, piece_event, hand_event, event_by, event}
-use Rattle.dump_job.proofs.Streams.{written_long}
 use Rattle.dump_commands.specs.Courses.{goes_on}
-use Rattle.dump_archives.proofs.StreamBytes.{written_bytes}
 
 -- ---- what stays
 
@@ -86,127 +80,6 @@ phase_same phase.Over a j = same_self j
 
 pub event_same : (a : Around) (j : JobFields) → Same j (event a j).job
 event_same a j = phase_same j.phase a j
-
--- ---- the label: it stays, or a tape is chosen anew
-
-abbrev pub LabelStays : JobFields → JobFields → Type 0
-LabelStays j k = (k.label ≡ j.label) ⊎ (k.phase ≡ phase.Tape)
-
-either_label : (long : Bool) (j k l : JobFields) → LabelStays j k → LabelStays j l → LabelStays j (if long then k else l)
-either_label true j k l a b = a
-either_label false j k l a b = b
-
-clone_by_label : (e : Option VolEntry) (c : Option Taken) (j : JobFields) → LabelStays j (clone_by e c j).job
-clone_by_label None c j = inl refl
-clone_by_label (Some e) None j = inl refl
-clone_by_label (Some e) (Some c) j = inl refl
-
-clone_label : (cell : List Stored) (o : Option ℕ) (j : JobFields) → LabelStays j (clone_from cell o j).job
-clone_label cell None j = inl refl
-clone_label cell (Some place) j = clone_by_label (entry_at cell place) (clone_at cell place j.time) j
-
-part_label : (cut : Bool) (o : Option Chosen) (size : ℕ) (j : JobFields) → LabelStays j (part_end_by cut o size j).job
-part_label cut None size j = inl refl
-part_label cut (Some c) size j = either_label (is_too_long size (next_changes (Some c))) j (part_refused j) (part_passed cut c j) (inl refl) (inr refl)
-
-hand_label : (step : Hand → Event) (hand : Option Hand) (j : JobFields) → ((h : Hand) → LabelStays j (step h).job) → LabelStays j (hand_event step hand j).job
-hand_label step None j each = inl refl
-hand_label step (Some h) j each = each h
-
-head_label : (room : Bool) (a : Around) (h : Hand) (j : JobFields) → has_room 4 2 (counts_on j.port j.reel) ≡ room → LabelStays j (head_event a h j).job
-head_label true a h j room = rw room (inl refl)
-head_label false a h j room = rw room (part_label false (next_choice a.listed a.slots j) a.log_size j)
-
-piece_label : (room : Bool) (h : Hand) (j : JobFields) → has_room 3 2 (counts_on j.port j.reel) ≡ room → LabelStays j (piece_event h j).job
-piece_label true h j room = rw room (inl refl)
-piece_label false h j room = rw room (inl refl)
-
-phase_label : (p : Phase) (a : Around) (j : JobFields) → LabelStays j (event_by p a j).job
-phase_label phase.Tape a j = inl refl
-phase_label phase.Clone a j = clone_label a.cell (slice_get j.places (length (volumes_done j))) j
-phase_label phase.Head a j = hand_label (λ h. head_event a h j) j.hand j (λ h. head_label (has_room 4 2 (counts_on j.port j.reel)) a h j refl)
-phase_label phase.Piece a j = hand_label (λ h. piece_event h j) j.hand j (λ h. piece_label (has_room 3 2 (counts_on j.port j.reel)) h j refl)
-phase_label phase.VolumeEnd a j = hand_label (λ h. putting (end_items 1 h) j (volume_ended h j)) j.hand j (λ h. inl refl)
-phase_label phase.PartEnd a j = part_label true (next_choice a.listed a.slots j) a.log_size j
-phase_label phase.DumpEnd a j = either_label (is_too_long a.log_size (done_changes j)) j (dump_ended j) (dump_ended j) (inl refl) (inl refl)
-phase_label phase.Over a j = inl refl
-
-pub event_label : (a : Around) (j : JobFields) → LabelStays j (event a j).job
-event_label a j = phase_label j.phase a j
-
--- ---- the stream of the volume in hand
-
--- what is left of it, and what the fragment has, are bytes of a stream, of which there are fewer than 2^30
-pub record IsStream (h : Hand) : Type 0 where
-  pub bytes : All (λ b. b < 256) h.stream
-  pub few : length h.stream + h.bytes < 1073741824
-
-either_stream : (long : Bool) (j k : JobFields) → IfSome j.hand IsStream → IfSome k.hand IsStream → IfSome (if long then j else k).hand IsStream
-either_stream true j k a b = a
-either_stream false j k a b = b
-
-all_drop : (n : ℕ) (xs : List ℕ) → All (λ b. b < 256) xs → All (λ b. b < 256) (drop n xs)
-all_drop zero xs all = all
-all_drop (suc n) [] all = all
-all_drop (suc n) (x ∷ xs) all = all_drop n xs (All-tail (λ (b : ℕ). b < 256) x xs all)
-
-first_stream : (e : VolEntry) (c : Taken) (j : JobFields) → Allowed (selected c.volume (from_time j e c) c.time) → IsStream (first_hand j e c)
-first_stream e c j allowed =
-    let long = written_long (selected c.volume (from_time j e c) c.time) allowed in
-    record { bytes = written_bytes (selected c.volume (from_time j e c) c.time) allowed; few = omega (arith, long) }
-
-piece_stream : (h : Hand) → IsStream h → IsStream (without_piece h)
-piece_stream h is =
-    let n : ℕ = next_used h in
-    let within : n ≤ length h.stream = omega arith in
-    record { bytes = all_drop n h.stream is.bytes; few = omega (arith, is.few, within, length-drop n h.stream) }
-
--- each clone that an event may take is allowed
-abbrev pub AllAllowed : List Stored → JobFields → Type 0
-AllAllowed cell j = (place : ℕ) (e : VolEntry) (c : Taken) → entry_at cell place ≡ Some e → clone_at cell place j.time ≡ Some c → Allowed (selected c.volume (from_time j e c) c.time)
-
-clone_by_stream : (cell : List Stored) (place : ℕ) (e : Option VolEntry) (c : Option Taken) (j : JobFields) → entry_at cell place ≡ e → clone_at cell place j.time ≡ c → AllAllowed cell j → IfSome j.hand IsStream → IfSome (clone_by e c j).job.hand IsStream
-clone_by_stream cell place None c j entry clone allowed is = is
-clone_by_stream cell place (Some e) None j entry clone allowed is = is
-clone_by_stream cell place (Some e) (Some c) j entry clone allowed is = first_stream e c j (allowed place e c entry clone)
-
-clone_stream : (cell : List Stored) (o : Option ℕ) (j : JobFields) → AllAllowed cell j → IfSome j.hand IsStream → IfSome (clone_from cell o j).job.hand IsStream
-clone_stream cell None j allowed is = is
-clone_stream cell (Some place) j allowed is = clone_by_stream cell place (entry_at cell place) (clone_at cell place j.time) j refl refl allowed is
-
-with_stream : (frags : Option (List Frag)) (hand : Option Hand) → IfSome hand IsStream → IfSome (hand_with frags hand) IsStream
-with_stream frags None is = tt
-with_stream None (Some h) is = is
-with_stream (Some frags) (Some h) is = record { bytes = is.bytes; few = is.few }
-
-part_stream : (cut : Bool) (o : Option Chosen) (size : ℕ) (j : JobFields) → IfSome j.hand IsStream → IfSome (part_end_by cut o size j).job.hand IsStream
-part_stream cut None size j is = is
-part_stream cut (Some c) size j is = either_stream (is_too_long size (next_changes (Some c))) (part_refused j) (part_passed cut c j) is (with_stream (next_frags cut j.head.tape j.hand) j.hand is)
-
-hand_stream : (step : Hand → Event) (hand : Option Hand) (j : JobFields) → j.hand ≡ hand → IfSome j.hand IsStream → ((h : Hand) → j.hand ≡ Some h → IsStream h → IfSome (step h).job.hand IsStream) → IfSome (hand_event step hand j).job.hand IsStream
-hand_stream step None j at is each = is
-hand_stream step (Some h) j at is each = each h at (subst (λ (o : Option Hand). IfSome o IsStream) at is)
-
-head_stream : (room : Bool) (a : Around) (h : Hand) (j : JobFields) → IfSome j.hand IsStream → IsStream h → has_room 4 2 (counts_on j.port j.reel) ≡ room → IfSome (head_event a h j).job.hand IsStream
-head_stream true a h j all is room = rw room (record { bytes = is.bytes; few = omega (arith, is.few) })
-head_stream false a h j all is room = rw room (part_stream false (next_choice a.listed a.slots j) a.log_size j all)
-
-piece_event_stream : (room : Bool) (h : Hand) (j : JobFields) → IfSome j.hand IsStream → IsStream h → has_room 3 2 (counts_on j.port j.reel) ≡ room → IfSome (piece_event h j).job.hand IsStream
-piece_event_stream true h j all is room = rw room (piece_stream h is)
-piece_event_stream false h j all is room = rw room all
-
-phase_stream : (p : Phase) (a : Around) (j : JobFields) → AllAllowed a.cell j → IfSome j.hand IsStream → IfSome (event_by p a j).job.hand IsStream
-phase_stream phase.Tape a j allowed is = is
-phase_stream phase.Clone a j allowed is = clone_stream a.cell (slice_get j.places (length (volumes_done j))) j allowed is
-phase_stream phase.Head a j allowed is = hand_stream (λ h. head_event a h j) j.hand j refl is (λ h at one. head_stream (has_room 4 2 (counts_on j.port j.reel)) a h j is one refl)
-phase_stream phase.Piece a j allowed is = hand_stream (λ h. piece_event h j) j.hand j refl is (λ h at one. piece_event_stream (has_room 3 2 (counts_on j.port j.reel)) h j is one refl)
-phase_stream phase.VolumeEnd a j allowed is = hand_stream (λ h. putting (end_items 1 h) j (volume_ended h j)) j.hand j refl is (λ h at one. is)
-phase_stream phase.PartEnd a j allowed is = part_stream true (next_choice a.listed a.slots j) a.log_size j is
-phase_stream phase.DumpEnd a j allowed is = either_stream (is_too_long a.log_size (done_changes j)) (dump_ended j) (dump_ended j) is is
-phase_stream phase.Over a j allowed is = is
-
-pub event_stream : (a : Around) (j : JobFields) → AllAllowed a.cell j → IfSome j.hand IsStream → IfSome (event a j).job.hand IsStream
-event_stream a j allowed is = phase_stream j.phase a j allowed is
 
 -- ---- a dump that goes on isn't over
 

@@ -1,8 +1,6 @@
 mod Slots
-mod TapeNames
 pub mod Keeping
 pub mod Staying
-mod StreamBytes
 pub mod Growing
 mod Clones
 mod Contents

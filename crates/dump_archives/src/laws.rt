@@ -7,6 +7,9 @@ ghost use Rattle.budb_changes.specs.declared.records.DumpRecordFields.{DumpRecor
 ghost use Rattle.archive_model.specs.Archives.{Archive, Refusal};
 ghost use Rattle.archive_model.specs.Settled.{HoldsSettled};
 ghost use Rattle.archive_model.specs.Turns.{with_contents};
+ghost use Rattle.dump_job.specs.declared.fields.JobFields.{JobFields};
+ghost use Rattle.dump_forms.specs.Forms.{HasForms};
+ghost use Rattle.dump_laws.specs.Keeping.{IsFormed};
 ghost use Rattle.dump_commands.specs.declared.command.DumpCommand.{DumpCommand as AnyCommand};
 ghost use Rattle.dump_commands.specs.Scenes.{Scene, database_in};
 ghost use Rattle.dump_commands.specs.Forms.{IsCommandForm};
@@ -15,6 +18,12 @@ ghost use Rattle.dump_archives.specs.Asking.{AsksOfScene};
 ghost use Rattle.dump_archives.specs.Keeping.{IsKnown, HoldsOnTheWay, EachKeepsListed, AsksBehind};
 
 use tape_answers::a_tape_is_read;
+
+/// A dump that has its forms, as a begun one has and each event leaves them, has those that its steps ask: its label fits, what is left of its stream is
+/// bytes, and four bytes count those that stand in the fragment.
+pub fn what_has_forms_is_formed()
+    ensures { (j : JobFields) → HasForms j → IsFormed j }
+{}
 
 /// An archive says nothing of contents under an id that none of its dumps has: with others there it is held as it was.
 pub fn contents_of_no_dump_are_free()

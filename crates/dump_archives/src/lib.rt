@@ -6,5 +6,5 @@ mod laws;
 
 pub use laws::{
     a_dump_keeps_the_archive, a_dump_leaves_known_contents, contents_of_no_dump_are_free,
-    what_a_dump_asks_is_so_behind_it,
+    what_a_dump_asks_is_so_behind_it, what_has_forms_is_formed,
 };

@@ -1,5 +1,5 @@
 -- A dump that is begun has its forms, and the changes that begin it can be written.
-use Rattle.std.proofs.Common.{◌≡◌, ℕ, zero, suc, ◌+◌, ◌*◌, ◌-◌, ◌≤◌, Bool, true, false, Option, Some, None, List, [], ◌∷◌, length, refl, ap, subst, arith, inl, inr}
+use Rattle.std.proofs.Common.{◌≡◌, ℕ, zero, suc, ◌+◌, ◌*◌, ◌-◌, ◌≤◌, Bool, true, false, Option, Some, None, List, [], ◌∷◌, length, refl, sym, ap, subst, arith, inl, inr}
 use Rattle.std.specs.Prelude.{All, IfSome, slice_get, nat_le, nat_lt, ◌==◌, ◌&&◌, if◌then◌else◌, take, Result, Ok, Err}
 use Rattle.std.specs.List.{count_by}
 use Rattle.std.proofs.lemmas.Bool.{leb-true, eqb-true, cases_Bool}
@@ -7,6 +7,7 @@ use Rattle.std.proofs.lemmas.List.Elements.{All-nil, All-cons, All-contains}
 use Rattle.bk_text.specs.Alphabets.{IsTapeName}
 use Rattle.byte_formats.specs.Forms.{IsFour, IsMaybe, IsBase, base_most}
 use Rattle.tape_config.specs.declared.port.PortFields.{PortFields}
+use Rattle.tape_frames.specs.declared.label.LabelFields.{LabelFields}
 use Rattle.tape_frames.specs.declared.frame.Frame.{Frame}
 use Rattle.tape_frames.specs.declared.frame.Frame.TheVariants as frames
 use Rattle.tape_frames.specs.Layouts.{FitsLabel}
@@ -40,8 +41,9 @@ use Rattle.dump_job.specs.Beginning.{new_id, are_spent, length_with, base_of, wa
 use Rattle.dump_forms.proofs.Choices.{and_left, and_right}
 use Rattle.dump_forms.proofs.AppendLaws.{found_behind}
 use Rattle.dump_forms.specs.Forms.{LabelsFit, HasForms}
-use Rattle.dump_forms.specs.Begins.{IsOrderForm, AllFit, IsTapeForm}
+use Rattle.dump_forms.specs.Begins.{IsOrderForm, AllFit, label_of, IsTapeForm}
 use Rattle.dump_forms.proofs.EventForms.{found_has, label_forms, IsChosenForm, chosen_form}
+use Rattle.dump_forms.proofs.TapeNames.{label_fits}
 use Rattle.dump_forms.proofs.BaseNames.{base_is_name, base_is_short}
 
 -- ---- what stands on tapes
@@ -155,6 +157,7 @@ taken_form port id initial base number c room first counted named form = record 
   tape = counted;
   base = named;
   permanent = form.permanent;
+  label = refl;
   uses = (omega arith, omega arith);
   marks = omega arith;
   few = omega arith;
@@ -222,6 +225,7 @@ behind_form port id p form within room = record {
   tape = form.tape;
   base = form.base;
   permanent = form.permanent;
+  label = tt;
   uses = form.uses;
   marks = form.marks;
   few = few_blocks p.blocks p.marks port.filemark port.capacity room;
@@ -276,6 +280,15 @@ first_form o db slots whole size t order records fit is =
 record_at : (listed : List DumpRecordFields) (id : ℕ) → All IsDumpRecord listed → IfSome (record_of listed id) IsDumpRecord
 record_at listed id records = found_has IsDumpRecord (λ d. d.id == id) listed records
 
+told_fits : (t : FirstTape) (o : Option LabelFields) → IfSome o (λ l. l ≡ label_of t) → FitsLabel (label_of t) → IfSome o FitsLabel
+told_fits t None is fits = tt
+told_fits t (Some label) is fits = subst FitsLabel (sym is) fits
+
+begun_label : (port : PortFields) (id : ℕ) (t : FirstTape) → IsFour id → IsTapeForm port id t → IfSome t.label FitsLabel
+begun_label port id t four form =
+    let first : IsFour t.initial = omega (arith, form.initial.1, four) in
+    told_fits t t.label form.label (label_fits t.initial t.base t.tape t.permanent (form.initial.0, first) form.tape form.base form.permanent)
+
 pub begun_form : (o : DumpOrder) (listed : List DumpRecordFields) (id : ℕ) (t : FirstTape) → IsFour id → IsOrderForm o → 1 ≤ length o.volumes → All IsDumpRecord listed → HasRoom 6 3 (fresh o.port) → IsTapeForm o.port id t → HasForms (begun_job o listed id t)
 begun_form o listed id t four order some records room form = record {
   job = record {
@@ -308,6 +321,7 @@ begun_form o listed id t four order some records room form = record {
     uses = form.uses.1;
     plain = λ none. absurd (omega (arith, none, form.uses.0));
   };
+  label = begun_label o.port id t four form;
   first = omega arith;
   filled = All-nil IsTapePart;
   hand = tt;

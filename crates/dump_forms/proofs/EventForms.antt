@@ -1,5 +1,5 @@
 -- Each event of a dump commits changes that can be written, and keeps the forms of the dump.
-use Rattle.std.proofs.Common.{◌≡◌, ℕ, zero, suc, ◌+◌, ◌*◌, ◌<◌, ◌≤◌, Bool, true, false, Option, Some, None, List, [], ◌∷◌, ◌++◌, length, map, refl, sym, subst, arith, inl, inr, length-append}
+use Rattle.std.proofs.Common.{◌≡◌, ℕ, zero, suc, ◌+◌, ◌*◌, ◌<◌, ◌≤◌, Bool, true, false, Option, Some, None, List, [], ◌∷◌, ◌++◌, length, drop, map, refl, sym, subst, arith, inl, inr, length-append, length-drop}
 use Rattle.std.specs.Prelude.{All, IsSome, IfSome, slice_get, nat_lt, ◌==◌, if◌then◌else◌, find}
 use Rattle.std.specs.List.{list_any}
 use Rattle.std.proofs.lemmas.Bool.{ltb-true, leb-true, cases_Bool}
@@ -10,6 +10,8 @@ use Rattle.byte_formats.specs.Forms.{IsFour, IsMaybe}
 use Rattle.vnode_model.specs.declared.listed.VolEntry.{VolEntry}
 use Rattle.vnode_model.specs.declared.volumes.VolumeFields.{VolumeFields}
 use Rattle.vnode_model.specs.Increments.{selected}
+use Rattle.dump_stream.specs.Forms.{IsBytes}
+use Rattle.dump_stream.specs.Allowed.{Allowed}
 use Rattle.dump_stream.proofs.AllowedLaws.{selected_allowed}
 use Rattle.cell_core.specs.declared.stored.Stored.{Stored}
 use Rattle.cell_core.specs.declared.stored.Image.{Image}
@@ -46,15 +48,17 @@ use Rattle.dump_job.specs.declared.fields.Phase.TheVariants as phase
 use Rattle.dump_job.specs.Reels.{records_on, counts_on, has_room}
 use Rattle.dump_job.specs.Taping.{uses_for, head_at}
 use Rattle.dump_job.specs.Cloning.{record_with, with_hand, volumes_done, from_time, first_head, first_hand, cloned}
-use Rattle.dump_job.specs.Volumes.{headed, pieced, end_items, volume_ended, volume_cut}
+use Rattle.dump_job.specs.Volumes.{headed, next_used, without_piece, pieced, end_items, volume_ended, volume_cut}
 use Rattle.dump_job.specs.Ending.{place_of_part, closed_part, part_end_items, done_record}
-use Rattle.dump_job.specs.Passing.{may_go_on, head_by, next_wanting, next_choice, next_hand, part_passed, part_refused}
+use Rattle.dump_job.specs.Passing.{may_go_on, label_by, head_by, next_wanting, next_choice, next_hand, part_passed, part_refused}
 use Rattle.dump_job.specs.Closing.{is_too_long, done_changes, dump_ended}
 use Rattle.dump_job.specs.Jobs.{IsAtTape, IsAt, IsInHand}
 use Rattle.dump_job.specs.Events.{Around, Event, idle, putting, items_at, tape_event, clone_by, clone_from, closing, part_end_by, dump_end_event, head_event, piece_event, hand_event, event_by, event}
 use Rattle.dump_job.proofs.Jobs.{taped_is_job, cloned_is_job, headed_is_job, pieced_is_job, cut_is_job, ended_is_job, refused_is_job, passed_is_job}
 use Rattle.dump_job.proofs.Streams.{written_long}
 use Rattle.dump_job.proofs.Turns.{few_all_parts, head_due, piece_due, end_due, part_due, last_due, few_done}
+use Rattle.dump_forms.proofs.StreamBytes.{written_bytes}
+use Rattle.dump_forms.proofs.TapeNames.{label_fits}
 use Rattle.dump_forms.proofs.Choices.{and_left, and_right, chosen_of, begun_room, head_fits}
 use Rattle.cell_core.specs.Forms.{IsVolumeForm, IsImageForm, IsStoredForm}
 use Rattle.dump_forms.specs.Forms.{LabelsFit, AroundHasForms, IsHandForm, HasForms, EventHasForms}
@@ -108,6 +112,7 @@ tape_form items j at form =
         time = form.time;
         parent = form.parent;
         head = head_fits j.head j.label items form.head;
+        label = form.label;
         first = first_at j j.label form tape.few;
         filled = form.filled;
         hand = form.hand;
@@ -195,12 +200,24 @@ first_head_form j e c form clone = record {
   partition = clone.partition;
 }
 
-clone_short : (j : JobFields) (e : VolEntry) (c : Taken) → HasForms j → IsCloneForm e c → length (first_hand j e c).stream < 1073741824
-clone_short j e c form clone =
+clone_allowed : (j : JobFields) (e : VolEntry) (c : Taken) → HasForms j → IsCloneForm e c → Allowed (selected c.volume (from_time j e c) c.time)
+clone_allowed j e c form clone =
     let from = from_form j.parent e.name c.born form.parent in
     let time = clone.time in
-    written_long (selected c.volume (from_time j e c) c.time)
-    (selected_allowed c.volume (from_time j e c) c.time (omega (arith, from)) (omega (arith, time)) clone.volume.header clone.volume.vnodes clone.volume.fit)
+    selected_allowed c.volume (from_time j e c) c.time (omega (arith, from)) (omega (arith, time)) clone.volume.header clone.volume.vnodes clone.volume.fit
+
+-- What is cloned at a place of a cell is a stream that the types allow.
+pub allowed_there : (cell : List Stored) (place : ℕ) (j : JobFields) (e : VolEntry) (c : Taken) → All IsStoredForm cell → HasForms j → entry_at cell place ≡ Some e → clone_at cell place j.time ≡ Some c → Allowed (selected c.volume (from_time j e c) c.time)
+allowed_there cell place j e c all form found taken = clone_allowed j e c form (clone_forms cell place j.time e c form.time all found taken)
+
+clone_short : (j : JobFields) (e : VolEntry) (c : Taken) → HasForms j → IsCloneForm e c → length (first_hand j e c).stream < 1073741824
+clone_short j e c form clone = written_long (selected c.volume (from_time j e c) c.time) (clone_allowed j e c form clone)
+
+first_hand_form : (j : JobFields) (e : VolEntry) (c : Taken) → HasForms j → IsCloneForm e c → IsHandForm (first_hand j e c)
+first_hand_form j e c form clone =
+    let allowed = clone_allowed j e c form clone in
+    let long = written_long (selected c.volume (from_time j e c) c.time) allowed in
+    record { head = first_head_form j e c form clone; each = All-nil IsFrag; at = omega arith; bytes = written_bytes (selected c.volume (from_time j e c) c.time) allowed; few = omega (arith, long) }
 
 clone_made : (e : VolEntry) (c : Taken) (j : JobFields) → j.phase ≡ phase.Clone → HasForms j → IsCloneForm e c → HasForms (cloned e c j)
 clone_made e c j at form clone = record {
@@ -209,9 +226,10 @@ clone_made e c j at form clone = record {
   time = form.time;
   parent = form.parent;
   head = form.head;
+  label = form.label;
   first = form.first;
   filled = form.filled;
-  hand = record { head = first_head_form j e c form clone; each = All-nil IsFrag; at = omega arith };
+  hand = first_hand_form j e c form clone;
   volumes = done_form j form;
 }
 
@@ -290,6 +308,8 @@ hand_form true tape (Some h) j four few there form = record {
   head = next_head h.head form.head (omega (arith, there.frags, there.fragment, few));
   each = All-append IsFrag h.frags (record { tape = tape; at = h.at } ∷ []) form.each (All-cons IsFrag (record { tape = tape; at = h.at }) [] (record { tape = four; at = form.at }) (All-nil IsFrag));
   at = form.at;
+  bytes = form.bytes;
+  few = form.few;
 }
 
 passed_head : (old : Option LabelFields) (j : JobFields) → HasForms j → j.head.tape < 4294967295 → IsMaybe IsTapeName (permanent_in old) → FitsDumpHead (head_by old j)
@@ -310,6 +330,12 @@ passed_head old j form more permanent = record {
   plain = λ none. absurd (omega (arith, none));
 }
 
+passed_label : (old : Option LabelFields) (j : JobFields) → HasForms j → j.head.tape < 4294967295 → IsMaybe IsTapeName (permanent_in old) → FitsLabel (label_by old j)
+passed_label old j form more permanent =
+    let first : IsFour j.head.initial = omega (arith, form.head.initial.1, form.head.id) in
+    let next : IsFour (j.head.tape + 1) = omega (arith, more) in
+    label_fits j.head.initial j.head.base (j.head.tape + 1) (permanent_in old) (form.head.initial.0, first) (omega arith, next) form.head.base permanent
+
 passed_form : (cut : Bool) (c : Chosen) (j : JobFields) → HasForms j → IsSome j.hand → HasRoom 1 1 (counts_on j.port j.reel) → length j.filled < 65534 → j.head.tape < 4294967295 → IsChosenForm c → HasForms (part_passed cut c j)
 passed_form cut c j form some room few more chosen = record {
   job = passed_is_job cut c j form.job some (omega (arith, few)) form.head.permanent;
@@ -317,6 +343,7 @@ passed_form cut c j form some room few more chosen = record {
   time = form.time;
   parent = form.parent;
   head = passed_head c.label j form more chosen.permanent;
+  label = passed_label c.label j form more chosen.permanent;
   first = form.first;
   filled = filled_with j.filled (record { slot = j.reel.slot; part = closed_part j }) form.filled (part_form j form room);
   hand = hand_form cut j.head.tape j.hand j form.head.tape.1 form.job.few_parts form.job.hand form.hand;
@@ -330,6 +357,7 @@ refused_form j form = record {
   time = form.time;
   parent = form.parent;
   head = form.head;
+  label = form.label;
   first = form.first;
   filled = form.filled;
   hand = form.hand;
@@ -404,9 +432,10 @@ headed_form h j is form due room =
       time = form.time;
       parent = form.parent;
       head = form.head;
+      label = form.label;
       first = form.first;
       filled = form.filled;
-      hand = record { head = hand.head; each = hand.each; at = omega (arith, few) };
+      hand = record { head = hand.head; each = hand.each; at = omega (arith, few); bytes = hand.bytes; few = omega (arith, hand.few) };
       volumes = form.volumes;
     }
 
@@ -418,6 +447,18 @@ head_form false a h j at is around form room =
     let due = head_due j at form.job in
     rw room (part_end_form false (next_choice a.listed a.slots j) a j around.labels form due.hand due.room refl)
 
+all_drop : (n : ℕ) (xs : List ℕ) → IsBytes xs → IsBytes (drop n xs)
+all_drop zero xs all = all
+all_drop (suc n) [] all = all
+all_drop (suc n) (x ∷ xs) all = all_drop n xs (All-tail (λ (b : ℕ). b < 256) x xs all)
+
+-- behind a piece as many bytes more stand in the fragment as fewer are left
+pieced_hand : (h : Hand) → IsHandForm h → IsHandForm (without_piece h)
+pieced_hand h form =
+    let n : ℕ = next_used h in
+    let within : n ≤ length h.stream = omega arith in
+    record { head = form.head; each = form.each; at = form.at; bytes = all_drop n h.stream form.bytes; few = omega (arith, form.few, within, length-drop n h.stream) }
+
 pieced_form : (h : Hand) (j : JobFields) → j.phase ≡ phase.Piece → j.hand ≡ Some h → HasForms j → HasRoom 3 2 (counts_on j.port j.reel) → HasForms (pieced h j)
 pieced_form h j at is form room =
     let hand = some_is IsHandForm j.hand h is form.hand in
@@ -427,9 +468,10 @@ pieced_form h j at is form room =
       time = form.time;
       parent = form.parent;
       head = form.head;
+      label = form.label;
       first = form.first;
       filled = form.filled;
-      hand = record { head = hand.head; each = hand.each; at = hand.at };
+      hand = pieced_hand h hand;
       volumes = form.volumes;
     }
 
@@ -440,6 +482,7 @@ cut_form h j is form room = record {
   time = form.time;
   parent = form.parent;
   head = form.head;
+  label = form.label;
   first = form.first;
   filled = form.filled;
   hand = form.hand;
@@ -457,6 +500,7 @@ ended_form h j at is form = record {
   time = form.time;
   parent = form.parent;
   head = form.head;
+  label = form.label;
   first = form.first;
   filled = form.filled;
   hand = form.hand;

@@ -1,4 +1,6 @@
 mod Choices
+mod StreamBytes
+mod TapeNames
 pub mod EventForms
 pub mod JournalLaws
 pub mod SlotForms

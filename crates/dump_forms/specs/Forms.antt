@@ -1,6 +1,7 @@
 -- The forms of what a dump has between two events, and of what stands around it: each number fits its bytes, and each text is one of its kind.
-use Rattle.std.specs.Prelude.{◌≡◌, ℕ, ◌≤◌, Some, IfSome, List, map, slice_get, All}
+use Rattle.std.specs.Prelude.{◌≡◌, ℕ, ◌+◌, ◌<◌, ◌≤◌, Some, IfSome, List, length, map, slice_get, All}
 use Rattle.byte_formats.specs.Forms.{IsFour}
+use Rattle.dump_stream.specs.Forms.{IsBytes}
 use Rattle.cell_core.specs.Forms.{IsStoredForm}
 use Rattle.tape_frames.specs.Layouts.{FitsLabel, FitsDumpHead, FitsVolHead}
 use Rattle.budb_changes.specs.Forms.{IsTapePart, IsFrag, IsVolRecord, IsDumpRecord, AreChanges}
@@ -24,11 +25,14 @@ pub record AroundHasForms (a : Around) : Type 0 where
 
 -- ---- a dump
 
--- the volume in hand: its head, and where its fragments begin
+-- The volume in hand: its head, where its fragments begin, and what is left of its stream. A stream has fewer than 2^30 bytes, so that four bytes
+-- count those that stand in a fragment.
 pub record IsHandForm (h : Hand) : Type 0 where
   pub head : FitsVolHead h.head
   pub each : All IsFrag h.frags
   pub at : IsFour h.at
+  pub bytes : IsBytes h.stream
+  pub few : length h.stream + h.bytes < 1073741824
 
 -- The tapes of a port take at most 4,000,000,000 bytes, by which all counts of records fit four bytes.
 pub record HasForms (j : JobFields) : Type 0 where
@@ -37,6 +41,7 @@ pub record HasForms (j : JobFields) : Type 0 where
   pub time : IsFour j.time
   pub parent : IfSome j.parent IsDumpRecord
   pub head : FitsDumpHead j.head
+  pub label : IfSome j.label FitsLabel
   pub first : IsFour j.first
   pub filled : All IsTapePart (map place_of_part j.filled)
   pub hand : IfSome j.hand IsHandForm

@@ -5,5 +5,6 @@
 mod laws;
 
 pub use laws::{
-    a_begun_dump_has_forms, each_event_has_forms, each_event_is_journaled, what_tapes_say_fits,
+    a_begun_dump_has_forms, each_clone_is_allowed, each_event_has_forms, each_event_is_journaled,
+    what_tapes_say_fits,
 };

@@ -1,5 +1,5 @@
--- The names of a dump's tapes are names of tapes.
-use Rattle.std.proofs.Common.{◌≡◌, ℕ, ◌^◌, ◌<◌, ◌≤◌, true, List, [], ◌∷◌, length, arith, length-append, leb, lit<}
+-- The names of a dump's tapes are names of tapes, and their labels fit.
+use Rattle.std.proofs.Common.{◌≡◌, ◌≢◌, ℕ, ◌^◌, ◌<◌, ◌≤◌, true, List, [], ◌∷◌, length, ap, arith, inl, inr, length-append, leb, lit<}
 use Rattle.std.specs.Prelude.{All}
 use Rattle.std.specs.Fmt.{decimal}
 use Rattle.std.specs.Str.{all_ascii_digits}
@@ -9,6 +9,8 @@ use Rattle.std.proofs.lemmas.Fmt.{decimal_is_IsNumeral, length-decimal-le}
 use Rattle.std.proofs.lemmas.List.Elements.{All-nil, All-cons, All-append}
 use Rattle.bk_text.specs.Alphabets.{IsNameByte, IsTapeName}
 use Rattle.bk_text.proofs.DigitLaws.{own}
+use Rattle.byte_formats.specs.Forms.{IsFour, IsMaybe, base_most}
+use Rattle.tape_frames.specs.Layouts.{FitsLabel}
 use Rattle.tape_frames.specs.TapeNames.{numbered}
 
 named_digit : (b : ℕ) → is_ascii_digit b ≡ true → IsNameByte b
@@ -42,4 +44,23 @@ numbered_is base n is room le =
       short = omega (arith, room, short n le, length-append base (46 ∷ ds));
       first = tt;
       each = All-append IsNameByte base (46 ∷ ds) is.each (All-cons IsNameByte 46 ds period (named_digits ds digits));
+    }
+
+-- ---- labels
+
+-- a name that is one of a tape isn't empty
+some_name : (name : List ℕ) → IsTapeName name → name ≢ []
+some_name name is none = (let long : 1 ≤ length name = is.some in let zero_long : length name ≡ 0 = ap length none in absurd (omega (arith, long, zero_long)))
+
+-- the new label of a tape of this number of a dump set fits
+pub label_fits : (initial : ℕ) (base : List ℕ) (number : ℕ) (permanent : List ℕ) → (1 ≤ initial) × IsFour initial → (1 ≤ number) × IsFour number → IsTapeName base × (length base ≤ base_most) → IsMaybe IsTapeName permanent
+    → FitsLabel (record { initial = initial; tape = number; afs = numbered base number; permanent = permanent })
+label_fits initial base number permanent first counted named kept =
+    let name : IsTapeName (numbered base number) = numbered_is base number named.0 named.1 counted.1 in
+    record {
+      initial = first.1;
+      tape = counted.1;
+      afs = inl name;
+      permanent = kept;
+      carries = inr ((λ none. absurd (omega (arith, none, first.0))), (λ none. absurd (omega (arith, none, counted.0))), some_name (numbered base number) name);
     }
