@@ -181,7 +181,9 @@ pub fn commands_have_forms(command: &Command)
         Command::Readlabel { .. } => {}
         Command::Scantape { .. } => {}
         Command::Dump {
-            volumeset, dump, ..
+            volumeset,
+            dump,
+            ..
         } => {
             set_is_formed(volumeset);
             level_is_formed(dump);
@@ -190,7 +192,9 @@ pub fn commands_have_forms(command: &Command)
         Command::Dumpinfo { .. } => {}
         Command::Volinfo { .. } => {}
         Command::Volrestore {
-            server, partition, ..
+            server,
+            partition,
+            ..
         } => {
             host_is_formed(server);
             part_is_formed(partition);

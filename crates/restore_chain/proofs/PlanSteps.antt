@@ -49,8 +49,8 @@ pub chained_one : (listed : List DumpRecordFields) (one : VolumeDump) (id : ℕ)
     → IfOk r (λ plan. (plan.name ≡ name) × (plan.dumps ≡ dumps)) → IfOk r (IsChained listed)
 chained_one listed one id name bytes dumps (Ok plan) same_id same_name is_name chain kept =
     let own : IsChain listed one.dump.id one.volume.name (Ok dumps) =
-        subst (λ (n : ℕ). IsChain listed n one.volume.name (Ok dumps)) same_id
-        (subst (λ (n : List ℕ). IsChain listed id n (Ok dumps)) (is_name ∙ same_name) chain) in
+    subst (λ (n : ℕ). IsChain listed n one.volume.name (Ok dumps)) same_id
+    (subst (λ (n : List ℕ). IsChain listed id n (Ok dumps)) (is_name ∙ same_name) chain) in
     record {
       one = one;
       name = kept.0 ∙ same_name;

@@ -111,5 +111,5 @@ clone_played stock a records holds name before one v found contents plan r plans
     let same : to.one ≡ one = one_there (latest (listed_of a) name before) to.one one to.latest_is found in
     let t = is_told (λ outcome. LooksUp a name before (refused_by outcome)) r failed memory (restored stock a records holds name before plan r plans plays) in
     let own : refused_by t.outcome ≡ a.contents to.one.dump.id to.one.volume.name =
-        looks_up_once a name before (refused_by t.outcome) (a.contents to.one.dump.id to.one.volume.name) t.is to.looked_up in
+    looks_up_once a name before (refused_by t.outcome) (a.contents to.one.dump.id to.one.volume.name) t.is to.looked_up in
     t.same ∙ ap told_of (contents_of t.outcome v (own ∙ ap (λ (o : VolumeDump). a.contents o.dump.id o.volume.name) same ∙ contents)) ∙ told_ok v
