@@ -1,11 +1,12 @@
 //! `scantape`: dumps that are found on tapes are told, and may be added.
 
-ghost use Rattle.std.specs.Prelude.{◌≡◌, ◌≢◌, ◌++◌, [], ◌∷◌, max, ℕ, Ok, Err, IfOk, OnOk, if◌then◌else◌};
+ghost use Rattle.std.specs.Prelude.{◌≡◌, ◌≢◌, ◌++◌, [], ◌∷◌, max, ℕ, Ok, Err, IfOk, OnOk, OnErr, if◌then◌else◌};
 ghost use Rattle.crash_moments.specs.Moments.{HasCauseAt};
 ghost use Rattle.plant_effects.specs.Runs.{Leaves, StaysQuiet};
 ghost use Rattle.tape_config.specs.declared.port.PortFields.{PortFields};
 ghost use Rattle.budb_changes.specs.declared.change.Change.TheVariants as change;
 ghost use Rattle.budb_fold.specs.Database.{after};
+ghost use Rattle.dump_commands.specs.Ahead.{LeftAhead};
 ghost use Rattle.backup_session.specs.Opening.{with_clones};
 ghost use Rattle.backup_session.specs.Worlds.{World};
 ghost use Rattle.backup_session.specs.Scanning.{port_of, slots_here, time_with, added, added_if, adding, dumps_turn, slots_turn, scan_turn, with_front};
@@ -55,9 +56,11 @@ impl Session {
     ) -> Result<bool, Stop>
         requires { P.sound plant.old }
         ensures sound { OnOk result (P.sound plant.new) }
+        ensures unfailed { result ≢ Err Stop.Plant → P.sound plant.new }
         ensures stepped { P.tells → (w : World) → FitsPlant P.Plant w plant.old self.old → OnOk result (Stepped P.Plant w (added w dump.now).turn plant.old plant.new self.new lines.old lines.new) }
         ensures full { P.tells → (w : World) → FitsPlant P.Plant w plant.old self.old → IfOk result (λ full. full ≡ (added w dump.now).full) }
         ensures leaves { P.tells → (w : World) → FitsPlant P.Plant w plant.old self.old → Leaves P.Plant (added w dump.now).turn.effects plant.old plant.new }
+        ensures stopped { P.tells → (w : World) → FitsPlant P.Plant w plant.old self.old → OnErr result (result ≢ Err Stop.Plant → LeftAhead P.Plant (added w dump.now).turn.effects plant.old plant.new) }
         ensures stays { StaysQuiet P.Plant plant.old plant.new }
         ensures cause { HasCauseAt Stop.Plant (P.view plant.old).faults (P.view plant.new).faults result }
         ensures never { result ≢ Err Stop.Cell }
@@ -91,9 +94,11 @@ impl Session {
     ) -> Result<bool, Stop>
         requires { P.sound plant.old }
         ensures sound { OnOk result (P.sound plant.new) }
+        ensures unfailed { result ≢ Err Stop.Plant → P.sound plant.new }
         ensures stepped { P.tells → (w : World) → FitsPlant P.Plant w plant.old self.old → OnOk result (Stepped P.Plant w (added_if w full dump.now).turn plant.old plant.new self.new lines.old lines.new) }
         ensures full { P.tells → (w : World) → FitsPlant P.Plant w plant.old self.old → IfOk result (λ now. now ≡ (added_if w full dump.now).full) }
         ensures leaves { P.tells → (w : World) → FitsPlant P.Plant w plant.old self.old → Leaves P.Plant (added_if w full dump.now).turn.effects plant.old plant.new }
+        ensures stopped { P.tells → (w : World) → FitsPlant P.Plant w plant.old self.old → OnErr result (result ≢ Err Stop.Plant → LeftAhead P.Plant (added_if w full dump.now).turn.effects plant.old plant.new) }
         ensures stays { StaysQuiet P.Plant plant.old plant.new }
         ensures cause { HasCauseAt Stop.Plant (P.view plant.old).faults (P.view plant.new).faults result }
         ensures never { result ≢ Err Stop.Cell }
@@ -124,8 +129,10 @@ impl Session {
     ) -> Result<(), Stop>
         requires { P.sound plant.old }
         ensures sound { OnOk result (P.sound plant.new) }
+        ensures unfailed { result ≢ Err Stop.Plant → P.sound plant.new }
         ensures stepped { P.tells → (w : World) → FitsPlant P.Plant w plant.old self.old → OnOk result (Stepped P.Plant w (adding w dumps.now).turn plant.old plant.new self.new lines.old lines.new) }
         ensures leaves { P.tells → (w : World) → FitsPlant P.Plant w plant.old self.old → Leaves P.Plant (adding w dumps.now).turn.effects plant.old plant.new }
+        ensures stopped { P.tells → (w : World) → FitsPlant P.Plant w plant.old self.old → OnErr result (result ≢ Err Stop.Plant → LeftAhead P.Plant (adding w dumps.now).turn.effects plant.old plant.new) }
         ensures stays { StaysQuiet P.Plant plant.old plant.new }
         ensures cause { HasCauseAt Stop.Plant (P.view plant.old).faults (P.view plant.new).faults result }
         ensures never { result ≢ Err Stop.Cell }
@@ -150,8 +157,10 @@ impl Session {
     ) -> Result<(), Stop>
         requires { P.sound plant.old }
         ensures sound { OnOk result (P.sound plant.new) }
+        ensures unfailed { result ≢ Err Stop.Plant → P.sound plant.new }
         ensures stepped { P.tells → (w : World) → FitsPlant P.Plant w plant.old self.old → OnOk result (Stepped P.Plant w (dumps_turn w dbadd dumps.now) plant.old plant.new self.new lines.old lines.new) }
         ensures leaves { P.tells → (w : World) → FitsPlant P.Plant w plant.old self.old → Leaves P.Plant (dumps_turn w dbadd dumps.now).effects plant.old plant.new }
+        ensures stopped { P.tells → (w : World) → FitsPlant P.Plant w plant.old self.old → OnErr result (result ≢ Err Stop.Plant → LeftAhead P.Plant (dumps_turn w dbadd dumps.now).effects plant.old plant.new) }
         ensures stays { StaysQuiet P.Plant plant.old plant.new }
         ensures cause { HasCauseAt Stop.Plant (P.view plant.old).faults (P.view plant.new).faults result }
         ensures never { result ≢ Err Stop.Cell }

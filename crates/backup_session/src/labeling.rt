@@ -1,6 +1,6 @@
 //! The commands on labels.
 
-ghost use Rattle.std.specs.Prelude.{◌≡◌, ◌≢◌, [], ◌∷◌, ℕ, Some, Ok, Err, MatchOption, IfOk, OnOk, IsTrue};
+ghost use Rattle.std.specs.Prelude.{◌≡◌, ◌≢◌, [], ◌∷◌, ℕ, false, Some, Ok, Err, MatchOption, IfOk, OnOk, OnErr, IsTrue};
 ghost use Rattle.std.specs.List.{list_any};
 ghost use Rattle.std.specs.Option.{unwrap_or};
 ghost use Rattle.bk_text.specs.Alphabets.{IsTapeName};
@@ -10,6 +10,8 @@ ghost use Rattle.plant_effects.specs.Runs.{Leaves, StaysQuiet};
 ghost use Rattle.budb_changes.specs.declared.change.Change.TheVariants.{Take};
 ghost use Rattle.budb_fold.specs.Database.{after, is_initial};
 ghost use Rattle.backup_replies.specs.Labels.{labeled_lines};
+ghost use Rattle.dump_commands.specs.Ahead.{LeftAhead};
+ghost use Rattle.backup_session.specs.Asks.{asks_scan};
 ghost use Rattle.backup_session.specs.Worlds.{World};
 ghost use Rattle.backup_session.specs.Tapes.{slot_of, permanent_of, new_label, taken, labeled, label_turn, read_turn, tape_turn};
 
@@ -136,8 +138,10 @@ impl Session {
         requires here { IsTrue ((P.view plant.old).present slot) }
         requires reply { done ≡ labeled_lines label.now.afs label.now.permanent slot }
         ensures sound { OnOk result (P.sound plant.new) }
+        ensures unfailed { result ≢ Err Stop.Plant → P.sound plant.new }
         ensures turned { P.tells → (w : World) → FitsPlant P.Plant w plant.old self.old → IfOk result (λ reply. TurnedPlant P.Plant w (labeled w slot label.now []) plant.old plant.new self.new reply) }
         ensures leaves { P.tells → (w : World) → FitsPlant P.Plant w plant.old self.old → Leaves P.Plant (labeled w slot label.now []).effects plant.old plant.new }
+        ensures stopped { P.tells → (w : World) → FitsPlant P.Plant w plant.old self.old → OnErr result (result ≢ Err Stop.Plant → LeftAhead P.Plant (labeled w slot label.now []).effects plant.old plant.new) }
         ensures stays { StaysQuiet P.Plant plant.old plant.new }
         ensures cause { HasCauseAt Stop.Plant (P.view plant.old).faults (P.view plant.new).faults result }
         ensures never { result ≢ Err Stop.Cell }
@@ -160,8 +164,10 @@ impl Session {
         requires here { IsTrue ((P.view plant.old).present slot) }
         requires reply { done ≡ labeled_lines label.now.afs label.now.permanent slot }
         ensures sound { OnOk result (P.sound plant.new) }
+        ensures unfailed { result ≢ Err Stop.Plant → P.sound plant.new }
         ensures turned { P.tells → (w : World) → FitsPlant P.Plant w plant.old self.old → IfOk result (λ reply. TurnedPlant P.Plant w (labeled w slot label.now (Take initial ∷ [])) plant.old plant.new self.new reply) }
         ensures leaves { P.tells → (w : World) → FitsPlant P.Plant w plant.old self.old → Leaves P.Plant (labeled w slot label.now (Take initial ∷ [])).effects plant.old plant.new }
+        ensures stopped { P.tells → (w : World) → FitsPlant P.Plant w plant.old self.old → OnErr result (result ≢ Err Stop.Plant → LeftAhead P.Plant (labeled w slot label.now (Take initial ∷ [])).effects plant.old plant.new) }
         ensures stays { StaysQuiet P.Plant plant.old plant.new }
         ensures cause { HasCauseAt Stop.Plant (P.view plant.old).faults (P.view plant.new).faults result }
         ensures never { result ≢ Err Stop.Cell }
@@ -192,8 +198,10 @@ impl Session {
         requires sound { P.sound plant.old }
         requires here { IsTrue ((P.view plant.old).present slot) }
         ensures sound { OnOk result (P.sound plant.new) }
+        ensures unfailed { result ≢ Err Stop.Plant → P.sound plant.new }
         ensures turned { P.tells → (w : World) → FitsPlant P.Plant w plant.old self.old → IfOk result (λ reply. TurnedPlant P.Plant w (label_turn w name.now pname.now (Ok slot)) plant.old plant.new self.new reply) }
         ensures leaves { P.tells → (w : World) → FitsPlant P.Plant w plant.old self.old → Leaves P.Plant (label_turn w name.now pname.now (Ok slot)).effects plant.old plant.new }
+        ensures stopped { P.tells → (w : World) → FitsPlant P.Plant w plant.old self.old → OnErr result (result ≢ Err Stop.Plant → LeftAhead P.Plant (label_turn w name.now pname.now (Ok slot)).effects plant.old plant.new) }
         ensures stays { StaysQuiet P.Plant plant.old plant.new }
         ensures cause { HasCauseAt Stop.Plant (P.view plant.old).faults (P.view plant.new).faults result }
         ensures never { result ≢ Err Stop.Cell }
@@ -225,8 +233,10 @@ impl Session {
     ) -> Result<Reply, Stop>
         requires { P.sound plant.old }
         ensures sound { OnOk result (P.sound plant.new) }
+        ensures unfailed { result ≢ Err Stop.Plant → P.sound plant.new }
         ensures turned { P.tells → (w : World) → FitsPlant P.Plant w plant.old self.old → IfOk result (λ reply. TurnedPlant P.Plant w (label_turn w name.now pname.now (slot_of w.setting (after w.log).hosts offset slot)) plant.old plant.new self.new reply) }
         ensures leaves { P.tells → (w : World) → FitsPlant P.Plant w plant.old self.old → Leaves P.Plant (label_turn w name.now pname.now (slot_of w.setting (after w.log).hosts offset slot)).effects plant.old plant.new }
+        ensures stopped { P.tells → (w : World) → FitsPlant P.Plant w plant.old self.old → OnErr result (result ≢ Err Stop.Plant → LeftAhead P.Plant (label_turn w name.now pname.now (slot_of w.setting (after w.log).hosts offset slot)).effects plant.old plant.new) }
         ensures stays { StaysQuiet P.Plant plant.old plant.new }
         ensures cause { HasCauseAt Stop.Plant (P.view plant.old).faults (P.view plant.new).faults result }
         ensures never { result ≢ Err Stop.Cell }
@@ -247,8 +257,10 @@ impl Session {
     ) -> Result<Reply, Stop>
         requires { P.sound plant.old }
         ensures sound { OnOk result (P.sound plant.new) }
+        ensures unfailed { result ≢ Err Stop.Plant → P.sound plant.new }
         ensures turned { P.tells → (w : World) → FitsPlant P.Plant w plant.old self.now → IfOk result (λ reply. TurnedPlant P.Plant w (read_turn w (slot_of w.setting (after w.log).hosts offset slot)) plant.old plant.new self.now reply) }
         ensures leaves { P.tells → (w : World) → FitsPlant P.Plant w plant.old self.now → Leaves P.Plant (read_turn w (slot_of w.setting (after w.log).hosts offset slot)).effects plant.old plant.new }
+        ensures stopped { P.tells → (w : World) → FitsPlant P.Plant w plant.old self.now → OnErr result (result ≢ Err Stop.Plant → LeftAhead P.Plant (read_turn w (slot_of w.setting (after w.log).hosts offset slot)).effects plant.old plant.new) }
         ensures stays { StaysQuiet P.Plant plant.old plant.new }
         ensures cause { HasCauseAt Stop.Plant (P.view plant.old).faults (P.view plant.new).faults result }
         ensures never { result ≢ Err Stop.Cell }
@@ -268,8 +280,10 @@ impl Session {
     ) -> Result<Reply, Stop>
         requires { P.sound plant.old }
         ensures sound { OnOk result (P.sound plant.new) }
+        ensures unfailed { asks_scan command.now ≡ false → result ≢ Err Stop.Plant → P.sound plant.new }
         ensures turned { P.tells → (w : World) → FitsPlant P.Plant w plant.old self.old → IfOk result (λ reply. TurnedPlant P.Plant w (tape_turn w command.now) plant.old plant.new self.new reply) }
         ensures leaves { P.tells → (w : World) → FitsPlant P.Plant w plant.old self.old → Leaves P.Plant (tape_turn w command.now).effects plant.old plant.new }
+        ensures stopped { P.tells → (w : World) → FitsPlant P.Plant w plant.old self.old → asks_scan command.now ≡ false → OnErr result (result ≢ Err Stop.Plant → LeftAhead P.Plant (tape_turn w command.now).effects plant.old plant.new) }
         ensures stays { StaysQuiet P.Plant plant.old plant.new }
         ensures cause { HasCauseAt Stop.Plant (P.view plant.old).faults (P.view plant.new).faults result }
         ensures never { result ≢ Err Stop.Cell }

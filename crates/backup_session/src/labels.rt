@@ -1,6 +1,6 @@
 //! The labels of tapes.
 
-ghost use Rattle.std.specs.Prelude.{◌≡◌, ◌≢◌, [], ℕ, Err, IfOk, OnOk, IsTrue};
+ghost use Rattle.std.specs.Prelude.{◌≡◌, ◌≢◌, [], ℕ, Err, IfOk, OnOk, OnErr, IsTrue};
 ghost use Rattle.crash_moments.specs.Moments.{HasCauseAt};
 ghost use Rattle.plant_effects.specs.Runs.{state_of, Done, Leaves, SameNumbers, StaysQuiet};
 ghost use Rattle.backup_session.specs.Labels.{label_from, label_in, label_of};
@@ -49,6 +49,7 @@ pub(crate) fn label_of<P: Plant>(
     requires here { IsTrue ((P.view plant.old).present slot) }
     ensures label { P.tells → IfOk result (λ label. label ≡ label_of ((state_of P.Plant plant.old).tape slot)) }
     ensures done { OnOk result (Done P.Plant [] plant.old plant.new) }
+    ensures stopped { OnErr result (result ≢ Err Stop.Plant → Done P.Plant [] plant.old plant.new) }
     ensures leaves { Leaves P.Plant [] plant.old plant.new }
     ensures numbers { OnOk result (SameNumbers P.Plant plant.old plant.new) }
     ensures stays { StaysQuiet P.Plant plant.old plant.new }

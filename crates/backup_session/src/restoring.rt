@@ -1,10 +1,11 @@
 //! Restores: each volume is looked up in what the tapes hold, and put into the cell.
 
-ghost use Rattle.std.specs.Prelude.{◌≡◌, ◌≢◌, [], Err, IfOk, OnOk};
+ghost use Rattle.std.specs.Prelude.{◌≡◌, ◌≢◌, [], Err, IfOk, OnOk, OnErr};
 ghost use Rattle.crash_moments.specs.Moments.{HasCauseAt};
 ghost use Rattle.plant_effects.specs.Runs.{Leaves, StaysQuiet};
 ghost use Rattle.tape_scan.specs.Looking.{Loads, LeavesLoads};
 ghost use Rattle.archive_model.specs.Archives.{Archive};
+ghost use Rattle.dump_commands.specs.Ahead.{LeftAhead};
 ghost use Rattle.restore_commands.specs.Leaving.{IsArchiveOf, IsAnswer, OnTheWay};
 ghost use Rattle.backup_session.specs.Worlds.{World};
 ghost use Rattle.backup_session.specs.Held.{HoldsArchive};
@@ -161,11 +162,13 @@ impl Session {
     ) -> Result<Reply, Stop>
         requires { P.sound plant.old }
         ensures sound { OnOk result (P.sound plant.new) }
+        ensures unfailed { result ≢ Err Stop.Plant → P.sound plant.new }
         ensures turned { P.tells → C.tells → (w : World) → Stands P.Plant C.Cell w plant.old cell.old self.now → HoldsArchive w → IfOk result (λ reply. TurnDone P.Plant C.Cell w (archive_turn w command.now) plant.old plant.new cell.new self.now reply) }
         ensures some_turn { P.tells → C.tells → (w : World) → Stands P.Plant C.Cell w plant.old cell.old self.now → IfOk result (λ reply. SomeTurnDone P.Plant C.Cell w plant.old plant.new cell.new self.now reply) }
         ensures some_restore { P.tells → C.tells → (w : World) → Stands P.Plant C.Cell w plant.old cell.old self.now → IfOk result (λ reply. SomeRestore P.Plant C.Cell w plant.old plant.new cell.new self.now reply) }
         ensures may { P.tells → C.tells → (w : World) → Stands P.Plant C.Cell w plant.old cell.old self.now → MayRestore (after w.log) w.time command.now w.cell (C.list cell.new) }
         ensures leaves { P.tells → C.tells → (w : World) → Stands P.Plant C.Cell w plant.old cell.old self.now → Leaves P.Plant [] plant.old plant.new }
+        ensures stopped { P.tells → C.tells → (w : World) → Stands P.Plant C.Cell w plant.old cell.old self.now → OnErr result (result ≢ Err Stop.Plant → LeftAhead P.Plant [] plant.old plant.new) }
         ensures cells { P.tells → C.tells → (w : World) → Stands P.Plant C.Cell w plant.old cell.old self.now → HoldsArchive w → OnTheWay w.cell (archive_turn w command.now).cells (C.list cell.new) }
         ensures stays { StaysQuiet P.Plant plant.old plant.new }
         ensures plant_cause { HasCauseAt Stop.Plant (P.view plant.old).faults (P.view plant.new).faults result }

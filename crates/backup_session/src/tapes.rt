@@ -1,6 +1,6 @@
 //! Where a tape is, and writing its label.
 
-ghost use Rattle.std.specs.Prelude.{◌≡◌, ◌≢◌, ◌&&◌, [], ◌∷◌, ◌++◌, ℕ, nat_le, Some, Ok, Err, IfOk, OnOk, IsTrue, IsSome};
+ghost use Rattle.std.specs.Prelude.{◌≡◌, ◌≢◌, ◌&&◌, [], ◌∷◌, ◌++◌, ℕ, nat_le, Some, Ok, Err, IfOk, OnOk, OnErr, IsTrue, IsSome};
 ghost use Rattle.crash_moments.specs.Moments.{HasCauseAt};
 ghost use Rattle.plant_core.specs.Effects.{puts, settles, cuts};
 ghost use Rattle.plant_core.specs.Records.{block_with, mark};
@@ -101,6 +101,7 @@ pub(crate) fn read_label<P: Plant>(alloc: Global, plant: &mut P, slot: u32) -> R
     requires here { IsTrue ((P.view plant.old).present slot) }
     ensures text { P.tells → IfOk result (λ reply. reply.text ≡ label_reply slot (label_of ((state_of P.Plant plant.old).tape slot))) }
     ensures done { OnOk result (Done P.Plant [] plant.old plant.new) }
+    ensures stopped { OnErr result (result ≢ Err Stop.Plant → Done P.Plant [] plant.old plant.new) }
     ensures leaves { Leaves P.Plant [] plant.old plant.new }
     ensures numbers { OnOk result (SameNumbers P.Plant plant.old plant.new) }
     ensures stays { StaysQuiet P.Plant plant.old plant.new }
@@ -118,6 +119,7 @@ fn put_label<P: Plant>(plant: &mut P, label: &Label) -> Result<(), Stop>
     requires blank { OnLoaded P.Plant IsBlank plant.old }
     ensures done { (k : ℕ) → loaded_of P.Plant plant.old ≡ Some k → OnOk result (Done P.Plant (puts k (block_with (spelling (LabelFrame label.now))) ∷ (puts k mark ∷ settles k ∷ [])) plant.old plant.new) }
     ensures leaves { (k : ℕ) → loaded_of P.Plant plant.old ≡ Some k → Leaves P.Plant (puts k (block_with (spelling (LabelFrame label.now))) ∷ (puts k mark ∷ settles k ∷ [])) plant.old plant.new }
+    ensures failed { OnErr result (result ≡ Err Stop.Plant) }
     ensures loaded { OnOk result (loaded_of P.Plant plant.new ≡ loaded_of P.Plant plant.old) }
     ensures stays { StaysQuiet P.Plant plant.old plant.new }
     ensures cause { HasCauseAt Stop.Plant (P.view plant.old).faults (P.view plant.new).faults result }
@@ -136,6 +138,7 @@ fn cut_and_put<P: Plant>(plant: &mut P, label: &Label) -> Result<(), Stop>
     requires loaded { IsSome (loaded_of P.Plant plant.old) }
     ensures done { (k : ℕ) → loaded_of P.Plant plant.old ≡ Some k → OnOk result (Done P.Plant (putting_label k label.now) plant.old plant.new) }
     ensures leaves { (k : ℕ) → loaded_of P.Plant plant.old ≡ Some k → Leaves P.Plant (putting_label k label.now) plant.old plant.new }
+    ensures failed { OnErr result (result ≡ Err Stop.Plant) }
     ensures loaded { OnOk result (loaded_of P.Plant plant.new ≡ loaded_of P.Plant plant.old) }
     ensures stays { StaysQuiet P.Plant plant.old plant.new }
     ensures cause { HasCauseAt Stop.Plant (P.view plant.old).faults (P.view plant.new).faults result }
@@ -152,6 +155,7 @@ pub(crate) fn write_label<P: Plant>(plant: &mut P, slot: u32, label: &Label) -> 
     ensures sound { OnOk result (P.sound plant.new) }
     ensures done { OnOk result (DoneAhead P.Plant (putting_label slot label.now) plant.old plant.new) }
     ensures leaves { Leaves P.Plant (putting_label slot label.now) plant.old plant.new }
+    ensures failed { OnErr result (result ≡ Err Stop.Plant) }
     ensures stays { StaysQuiet P.Plant plant.old plant.new }
     ensures cause { HasCauseAt Stop.Plant (P.view plant.old).faults (P.view plant.new).faults result }
     ensures never { result ≢ Err Stop.Cell }

@@ -1,5 +1,5 @@
 -- More may be settled of a plant's tapes than effects say, since a tape that is put away is settled.
-use Rattle.std.specs.Prelude.{◌≡◌, ℕ, ◌≤◌, List, length}
+use Rattle.std.specs.Prelude.{◌≡◌, ℕ, ◌≤◌, List, length, take}
 use Rattle.plant_core.specs.declared.plant.Plant.{Ghosts as Plant}
 use Rattle.plant_core.specs.Crashes.{State}
 use Rattle.plant_core.specs.Effects.{Effect, come}
@@ -19,3 +19,9 @@ pub record DoneAhead {D : Type 0} (P : Plant D) (effects : List Effect) (old new
   pub sound : P.sound new
   pub survives : P.tells → P.survives old → P.survives new
   pub state : P.tells → IsAhead (come effects (state_of P old)) (state_of P new)
+
+-- The first so many of these effects were done and no part of the next one, and more may be settled. Calls may be made on what is left.
+pub record LeftAhead {D : Type 0} (P : Plant D) (effects : List Effect) (old new : D) : Type 0 where
+  pub count : ℕ
+  pub few : count ≤ length effects
+  pub done : DoneAhead P (take count effects) old new

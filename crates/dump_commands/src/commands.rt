@@ -1,11 +1,12 @@
 //! The command `dump`.
 
-ghost use Rattle.std.specs.Prelude.{◌≡◌, ◌<◌, ◌≤◌, None, Ok, length, map, All, IfOk, OnOk};
+ghost use Rattle.std.specs.Prelude.{◌≡◌, ◌≢◌, ◌<◌, ◌≤◌, None, Ok, Err, length, map, All, IfOk, OnOk, OnErr};
 ghost use Rattle.bk_text.specs.Alphabets.{IsHost};
 ghost use Rattle.byte_formats.specs.Forms.{IsMaybe};
 ghost use Rattle.crash_moments.specs.Moments.{HasCauseAt};
 ghost use Rattle.plant_effects.specs.Runs.{Leaves, StaysQuiet};
 ghost use Rattle.cell_core.specs.Calls.{entry_of_stored};
+ghost use Rattle.dump_commands.specs.Ahead.{LeftAhead};
 ghost use Rattle.dump_commands.specs.Scenes.{Scene, IsScene, Finds};
 ghost use Rattle.dump_commands.specs.Orders.{asked_port};
 ghost use Rattle.dump_commands.specs.Answers.{order_answer, dump_answer, IsAnswered};
@@ -45,9 +46,11 @@ fn carry_out<P: Plant, C: Cell>(
     requires within { All (λ place. place < length entries.now) order.volumes }
     requires entries { C.tells → entries.now ≡ map entry_of_stored (C.list cell.old) }
     ensures sound { OnOk result (P.sound plant.new) }
+    ensures unfailed { result ≢ Err DumpStop.Plant → P.sound plant.new }
     ensures nothing { budb.new.prepared ≡ None }
     ensures answered { P.tells → C.tells → (s : Scene) → IsScene P.Plant C.Cell s budb.old plant.old cell.old → order.time ≡ s.time → IfOk result (IsAnswered P.Plant s (order_answer s command.now order) budb.new plant.old plant.new) }
     ensures leaves { P.tells → C.tells → (s : Scene) → IsScene P.Plant C.Cell s budb.old plant.old cell.old → Leaves P.Plant (order_answer s command.now order).effects plant.old plant.new }
+    ensures stopped { P.tells → C.tells → (s : Scene) → IsScene P.Plant C.Cell s budb.old plant.old cell.old → OnErr result (result ≢ Err DumpStop.Plant → LeftAhead P.Plant (order_answer s command.now order).effects plant.old plant.new) }
     ensures list { C.tells → C.list cell.new ≡ C.list cell.old }
     ensures stays { StaysQuiet P.Plant plant.old plant.new }
     ensures plant_cause { HasCauseAt DumpStop.Plant (P.view plant.old).faults (P.view plant.new).faults result }
@@ -76,9 +79,11 @@ fn dump_to<P: Plant, C: Cell>(
     requires nothing { budb.old.prepared ≡ None }
     requires port { asked_port config.now budb.old.database command.now ≡ Ok port }
     ensures sound { OnOk result (P.sound plant.new) }
+    ensures unfailed { result ≢ Err DumpStop.Plant → P.sound plant.new }
     ensures nothing { budb.new.prepared ≡ None }
     ensures answered { P.tells → C.tells → (s : Scene) → Finds P.Plant C.Cell s config.now budb.old plant.old cell.old time → IfOk result (IsAnswered P.Plant s (dump_answer s command.now) budb.new plant.old plant.new) }
     ensures leaves { P.tells → C.tells → (s : Scene) → Finds P.Plant C.Cell s config.now budb.old plant.old cell.old time → Leaves P.Plant (dump_answer s command.now).effects plant.old plant.new }
+    ensures stopped { P.tells → C.tells → (s : Scene) → Finds P.Plant C.Cell s config.now budb.old plant.old cell.old time → OnErr result (result ≢ Err DumpStop.Plant → LeftAhead P.Plant (dump_answer s command.now).effects plant.old plant.new) }
     ensures list { C.tells → C.list cell.new ≡ C.list cell.old }
     ensures stays { StaysQuiet P.Plant plant.old plant.new }
     ensures plant_cause { HasCauseAt DumpStop.Plant (P.view plant.old).faults (P.view plant.new).faults result }
@@ -92,7 +97,8 @@ fn dump_to<P: Plant, C: Cell>(
 
 /// `dump`: dumps the volumes of a set, as its definition says of the scene that the command finds, or tells what it is refused
 /// by; of a trial it tells what would be dumped, and changes nothing. `time` is the session's time, in seconds since 1970.
-/// Nothing is told to the plant: the text is handed back.
+/// Nothing is told to the plant: the text is handed back. A stop that isn't the plant's leaves a sound plant, with the first so
+/// many effects of the dump.
 pub fn dump<P: Plant, C: Cell>(
     alloc: Global,
     config: &Config,
@@ -105,9 +111,11 @@ pub fn dump<P: Plant, C: Cell>(
     requires sound { P.sound plant.old }
     requires nothing { budb.old.prepared ≡ None }
     ensures sound { OnOk result (P.sound plant.new) }
+    ensures unfailed { result ≢ Err DumpStop.Plant → P.sound plant.new }
     ensures nothing { budb.new.prepared ≡ None }
     ensures answered { P.tells → C.tells → (s : Scene) → Finds P.Plant C.Cell s config.now budb.old plant.old cell.old time → IfOk result (IsAnswered P.Plant s (dump_answer s command.now) budb.new plant.old plant.new) }
     ensures leaves { P.tells → C.tells → (s : Scene) → Finds P.Plant C.Cell s config.now budb.old plant.old cell.old time → Leaves P.Plant (dump_answer s command.now).effects plant.old plant.new }
+    ensures stopped { P.tells → C.tells → (s : Scene) → Finds P.Plant C.Cell s config.now budb.old plant.old cell.old time → OnErr result (result ≢ Err DumpStop.Plant → LeftAhead P.Plant (dump_answer s command.now).effects plant.old plant.new) }
     ensures list { C.tells → C.list cell.new ≡ C.list cell.old }
     ensures stays { StaysQuiet P.Plant plant.old plant.new }
     ensures plant_cause { HasCauseAt DumpStop.Plant (P.view plant.old).faults (P.view plant.new).faults result }

@@ -1,6 +1,6 @@
 //! What a dump is made of: the search for its first tape, its begin, all its steps, and its trial.
 
-ghost use Rattle.std.specs.Prelude.{◌≡◌, ◌≢◌, ◌<◌, ◌≤◌, ℕ, Bool, List as AnyList, None, Some, Ok, Err, length, map, All, IfOk, OnOk, IsOk};
+ghost use Rattle.std.specs.Prelude.{◌≡◌, ◌≢◌, ◌<◌, ◌≤◌, ℕ, Bool, List as AnyList, None, Some, Ok, Err, length, map, All, IfOk, OnOk, OnErr, IsOk};
 ghost use Rattle.bk_text.specs.Alphabets.{IsHost};
 ghost use Rattle.byte_formats.specs.Forms.{IsMaybe};
 ghost use Rattle.crash_moments.specs.Moments.{HasCauseAt};
@@ -13,6 +13,7 @@ ghost use Rattle.dump_job.specs.declared.first_tapes.FirstTape.{FirstTape};
 ghost use Rattle.dump_job.specs.Beginning.{id_of, first_tape, begin_effects, IsBegun};
 ghost use Rattle.dump_job.specs.Faults.{LeavesBehindLoads};
 ghost use Rattle.dump_job.specs.Jobs.{FitsJob, HasPlaces};
+ghost use Rattle.dump_commands.specs.Ahead.{LeftAhead};
 ghost use Rattle.dump_commands.specs.Scenes.{Scene, database_in};
 ghost use Rattle.dump_commands.specs.Courses.{Point, course};
 ghost use Rattle.dump_commands.specs.Running.{IsAtPoint};
@@ -58,6 +59,7 @@ pub(crate) fn checked<P: Plant>(
     requires { P.sound plant.old }
     ensures told { P.tells → (slots : AnyList Slot) (whole : ℕ → Bool) → HasSlots P.Plant slots plant.old → AreWhole P.Plant whole plant.old → IfOk result (λ fault. fault ≡ fault_of (first_tape budb.now.database slots whole order.now (P.view plant.old).log_size)) }
     ensures loads { OnOk result (Loads P.Plant plant.old plant.new) }
+    ensures stopped { OnErr result (result ≢ Err DumpStop.Plant → Loads P.Plant plant.old plant.new) }
     ensures leaves { LeavesLoads P.Plant plant.old plant.new }
     ensures stays { StaysQuiet P.Plant plant.old plant.new }
     ensures cause { HasCauseAt DumpStop.Plant (P.view plant.old).faults (P.view plant.new).faults result }
@@ -89,6 +91,7 @@ pub(crate) fn begin<P: Plant>(
     ensures never { P.tells → (slots : AnyList Slot) (whole : ℕ → Bool) (t : FirstTape) → HasSlots P.Plant slots plant.old → AreWhole P.Plant whole plant.old → first_tape budb.old.database slots whole order (P.view plant.old).log_size ≡ Ok t → IfOk result IsOk }
     ensures nothing { budb.new.prepared ≡ None }
     ensures leaves { P.tells → (slots : AnyList Slot) (whole : ℕ → Bool) → HasSlots P.Plant slots plant.old → AreWhole P.Plant whole plant.old → LeavesBehindLoads P.Plant (begin_effects (id_of order budb.old.database) (first_tape budb.old.database slots whole order (P.view plant.old).log_size)) plant.old plant.new }
+    ensures stopped { OnErr result (result ≢ Err DumpStop.Plant → Loads P.Plant plant.old plant.new) }
     ensures sound { OnOk result (P.sound plant.new) }
     ensures stays { StaysQuiet P.Plant plant.old plant.new }
     ensures cause { HasCauseAt DumpStop.Plant (P.view plant.old).faults (P.view plant.new).faults result }
@@ -118,9 +121,11 @@ pub(crate) fn finish<P: Plant, C: Cell>(
     requires nothing { budb.old.prepared ≡ None }
     requires places { HasPlaces C.Cell job.old.places cell.old }
     ensures fit { OnOk result (P.sound plant.new) }
+    ensures unfailed { result ≢ Err DumpStop.Plant → P.sound plant.new }
     ensures nothing { budb.new.prepared ≡ None }
     ensures finished { P.tells → C.tells → (s : Scene) (p : Point) → IsAtPoint P.Plant C.Cell s p budb.old plant.old cell.old job.old → IfOk result (λ text. IsFinished P.Plant s p set.now offset text budb.new plant.old plant.new) }
     ensures leaves { P.tells → C.tells → (s : Scene) (p : Point) → IsAtPoint P.Plant C.Cell s p budb.old plant.old cell.old job.old → Leaves P.Plant (course s p).effects plant.old plant.new }
+    ensures stopped { P.tells → C.tells → (s : Scene) (p : Point) → IsAtPoint P.Plant C.Cell s p budb.old plant.old cell.old job.old → OnErr result (result ≢ Err DumpStop.Plant → LeftAhead P.Plant (course s p).effects plant.old plant.new) }
     ensures list { C.tells → C.list cell.new ≡ C.list cell.old }
     ensures size { C.size cell.new ≡ C.size cell.old }
     ensures stays { StaysQuiet P.Plant plant.old plant.new }

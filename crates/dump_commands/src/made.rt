@@ -1,6 +1,6 @@
 //! A dump that isn't tried out: it is refused, or begun and brought to its end.
 
-ghost use Rattle.std.specs.Prelude.{◌≡◌, ◌≢◌, ◌<◌, ◌≤◌, None, Ok, Err, length, map, All, IfOk, OnOk, max};
+ghost use Rattle.std.specs.Prelude.{◌≡◌, ◌≢◌, ◌<◌, ◌≤◌, None, Ok, Err, length, map, All, IfOk, OnOk, OnErr, max};
 ghost use Rattle.bk_text.specs.Alphabets.{IsHost};
 ghost use Rattle.byte_formats.specs.Forms.{IsMaybe};
 ghost use Rattle.crash_moments.specs.Moments.{HasCauseAt};
@@ -8,6 +8,7 @@ ghost use Rattle.plant_effects.specs.Runs.{Leaves, StaysQuiet};
 ghost use Rattle.cell_core.specs.Calls.{entry_of_stored};
 ghost use Rattle.dump_job.specs.declared.first_tapes.FirstTape.{FirstTape};
 ghost use Rattle.dump_job.specs.Jobs.{FitsJob, HasPlaces};
+ghost use Rattle.dump_commands.specs.Ahead.{LeftAhead};
 ghost use Rattle.dump_commands.specs.Scenes.{Scene, IsScene};
 ghost use Rattle.dump_commands.specs.Courses.{Point, course};
 ghost use Rattle.dump_commands.specs.Running.{IsAtPoint};
@@ -60,10 +61,12 @@ fn run<P: Plant, C: Cell>(
     requires nothing { budb.old.prepared ≡ None }
     requires places { HasPlaces C.Cell job.old.places cell.old }
     ensures sound { OnOk result (P.sound plant.new) }
+    ensures unfailed { result ≢ Err DumpStop.Plant → P.sound plant.new }
     ensures nothing { budb.new.prepared ≡ None }
     ensures finished { P.tells → C.tells → (s : Scene) (p : Point) → IsAtPoint P.Plant C.Cell s p budb.old plant.old cell.old job.old → IfOk result (λ told. IsFinished P.Plant s p set.now offset told.text budb.new plant.old plant.new) }
     ensures time { IfOk result (λ told. told.time ≡ max time job.old.head.id) }
     ensures leaves { P.tells → C.tells → (s : Scene) (p : Point) → IsAtPoint P.Plant C.Cell s p budb.old plant.old cell.old job.old → Leaves P.Plant (course s p).effects plant.old plant.new }
+    ensures stopped { P.tells → C.tells → (s : Scene) (p : Point) → IsAtPoint P.Plant C.Cell s p budb.old plant.old cell.old job.old → OnErr result (result ≢ Err DumpStop.Plant → LeftAhead P.Plant (course s p).effects plant.old plant.new) }
     ensures list { C.tells → C.list cell.new ≡ C.list cell.old }
     ensures size { C.size cell.new ≡ C.size cell.old }
     ensures stays { StaysQuiet P.Plant plant.old plant.new }
@@ -92,9 +95,11 @@ fn make<P: Plant, C: Cell>(
     requires cell { IsMaybe IsHost order.cell }
     requires places { HasPlaces C.Cell order.volumes cell.old }
     ensures sound { OnOk result (P.sound plant.new) }
+    ensures unfailed { result ≢ Err DumpStop.Plant → P.sound plant.new }
     ensures nothing { budb.new.prepared ≡ None }
     ensures answered { P.tells → C.tells → (s : Scene) (t : FirstTape) → IsScene P.Plant C.Cell s budb.old plant.old cell.old → order.time ≡ s.time → tape_for s order ≡ Ok t → IfOk result (IsAnswered P.Plant s (begun s order t) budb.new plant.old plant.new) }
     ensures leaves { P.tells → C.tells → (s : Scene) (t : FirstTape) → IsScene P.Plant C.Cell s budb.old plant.old cell.old → tape_for s order ≡ Ok t → Leaves P.Plant (begun s order t).effects plant.old plant.new }
+    ensures stopped { P.tells → C.tells → (s : Scene) (t : FirstTape) → IsScene P.Plant C.Cell s budb.old plant.old cell.old → tape_for s order ≡ Ok t → OnErr result (result ≢ Err DumpStop.Plant → LeftAhead P.Plant (begun s order t).effects plant.old plant.new) }
     ensures list { C.tells → C.list cell.new ≡ C.list cell.old }
     ensures stays { StaysQuiet P.Plant plant.old plant.new }
     ensures plant_cause { HasCauseAt DumpStop.Plant (P.view plant.old).faults (P.view plant.new).faults result }
@@ -128,9 +133,11 @@ pub(crate) fn make_or_refuse<P: Plant, C: Cell>(
     requires within { All (λ place. place < length entries.now) order.volumes }
     requires entries { C.tells → entries.now ≡ map entry_of_stored (C.list cell.old) }
     ensures sound { OnOk result (P.sound plant.new) }
+    ensures unfailed { result ≢ Err DumpStop.Plant → P.sound plant.new }
     ensures nothing { budb.new.prepared ≡ None }
     ensures answered { P.tells → C.tells → (s : Scene) → IsScene P.Plant C.Cell s budb.old plant.old cell.old → order.time ≡ s.time → IfOk result (IsAnswered P.Plant s (real_answer s order) budb.new plant.old plant.new) }
     ensures leaves { P.tells → C.tells → (s : Scene) → IsScene P.Plant C.Cell s budb.old plant.old cell.old → Leaves P.Plant (real_answer s order).effects plant.old plant.new }
+    ensures stopped { P.tells → C.tells → (s : Scene) → IsScene P.Plant C.Cell s budb.old plant.old cell.old → OnErr result (result ≢ Err DumpStop.Plant → LeftAhead P.Plant (real_answer s order).effects plant.old plant.new) }
     ensures list { C.tells → C.list cell.new ≡ C.list cell.old }
     ensures stays { StaysQuiet P.Plant plant.old plant.new }
     ensures plant_cause { HasCauseAt DumpStop.Plant (P.view plant.old).faults (P.view plant.new).faults result }

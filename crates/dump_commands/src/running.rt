@@ -1,13 +1,14 @@
 //! The steps of a dump, one after the other.
 
-ghost use Rattle.std.specs.Prelude.{◌≡◌, ◌≢◌, ◌<◌, None, Ok, IfOk, OnOk};
+ghost use Rattle.std.specs.Prelude.{◌≡◌, ◌≢◌, ◌<◌, None, Ok, Err, IfOk, OnOk, OnErr};
 ghost use Rattle.crash_moments.specs.Moments.{HasCauseAt};
 ghost use Rattle.plant_effects.specs.Runs.{Leaves, StaysQuiet};
+ghost use Rattle.tape_scan.specs.Looking.{Loads};
 ghost use Rattle.dump_job.specs.Jobs.{FitsJob, HasPlaces};
 ghost use Rattle.dump_job.specs.Left.{left_of};
 ghost use Rattle.dump_commands.specs.Scenes.{Scene};
 ghost use Rattle.dump_commands.specs.Courses.{Point, next_event, course};
-ghost use Rattle.dump_commands.specs.Ahead.{DoneAhead};
+ghost use Rattle.dump_commands.specs.Ahead.{DoneAhead, LeftAhead};
 ghost use Rattle.dump_commands.specs.Running.{IsAtPoint, Moves, IsEnded};
 
 use crate::stop::DumpStop;
@@ -45,6 +46,7 @@ fn go_on<P: Plant, C: Cell>(
     ensures moves { P.tells → C.tells → (s : Scene) (p : Point) → IsAtPoint P.Plant C.Cell s p budb.old plant.old cell.old job.old → IfOk result (λ end. Moves P.Plant C.Cell s p (next_event s p) end budb.new plant.new cell.new job.new) }
     ensures done { P.tells → C.tells → (s : Scene) (p : Point) → IsAtPoint P.Plant C.Cell s p budb.old plant.old cell.old job.old → OnOk result (DoneAhead P.Plant (next_event s p).effects plant.old plant.new) }
     ensures leaves { P.tells → C.tells → (s : Scene) (p : Point) → IsAtPoint P.Plant C.Cell s p budb.old plant.old cell.old job.old → Leaves P.Plant (next_event s p).effects plant.old plant.new }
+    ensures stopped { OnErr result (result ≢ Err DumpStop.Plant → Loads P.Plant plant.old plant.new) }
     ensures list { C.tells → C.list cell.new ≡ C.list cell.old }
     ensures size { C.size cell.new ≡ C.size cell.old }
     ensures stays { StaysQuiet P.Plant plant.old plant.new }
@@ -74,9 +76,11 @@ pub(crate) fn run_steps<P: Plant, C: Cell>(
     requires nothing { budb.old.prepared ≡ None }
     requires places { HasPlaces C.Cell job.old.places cell.old }
     ensures fit { OnOk result (FitsJob P.Plant job.new plant.new) }
+    ensures unfailed { result ≢ Err DumpStop.Plant → P.sound plant.new }
     ensures nothing { budb.new.prepared ≡ None }
     ensures ended { P.tells → C.tells → (s : Scene) (p : Point) → IsAtPoint P.Plant C.Cell s p budb.old plant.old cell.old job.old → IfOk result (λ end. IsEnded P.Plant s p end budb.new plant.old plant.new) }
     ensures leaves { P.tells → C.tells → (s : Scene) (p : Point) → IsAtPoint P.Plant C.Cell s p budb.old plant.old cell.old job.old → Leaves P.Plant (course s p).effects plant.old plant.new }
+    ensures stopped { P.tells → C.tells → (s : Scene) (p : Point) → IsAtPoint P.Plant C.Cell s p budb.old plant.old cell.old job.old → OnErr result (result ≢ Err DumpStop.Plant → LeftAhead P.Plant (course s p).effects plant.old plant.new) }
     ensures list { C.tells → C.list cell.new ≡ C.list cell.old }
     ensures size { C.size cell.new ≡ C.size cell.old }
     ensures stays { StaysQuiet P.Plant plant.old plant.new }
