@@ -1,5 +1,6 @@
 pub mod ExpandingLaws
 pub mod Ahead
+pub mod Stopping
 pub mod Settling
 pub mod CourseLaws
 pub mod SettledCourses

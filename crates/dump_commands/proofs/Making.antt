@@ -1,6 +1,6 @@
 -- A dump that is made, from what its calls tell.
-use Rattle.std.proofs.Common.{◌≡◌, ◌≢◌, ℕ, List, [], length, map, refl, sym, ◌∙◌, ap, subst}
-use Rattle.std.specs.Prelude.{max, Bool, true, false, if◌then◌else◌, Option, Some, None, Result, Ok, Err, IfOk}
+use Rattle.std.proofs.Common.{◌≡◌, ◌≢◌, ℕ, List, [], ◌++◌, length, map, refl, sym, ◌∙◌, ap, subst}
+use Rattle.std.specs.Prelude.{max, Bool, true, false, if◌then◌else◌, Option, Some, None, Result, Ok, Err, IfOk, OnErr}
 use Rattle.vnode_model.specs.declared.listed.VolEntry.{VolEntry}
 use Rattle.plant_core.specs.declared.plant.Plant.{Ghosts as Plant}
 use Rattle.plant_effects.specs.Runs.{state_of, Leaves, StaysQuiet}
@@ -24,7 +24,9 @@ use Rattle.dump_job.specs.Faults.{LeavesBehindLoads}
 use Rattle.dump_job.specs.Beginning.{id_of, begin_effects, first_tape, IsBegun}
 use Rattle.dump_commands.specs.declared.command.DumpCommand.{DumpCommand}
 use Rattle.dump_commands.specs.declared.stop.DumpStop.{DumpStop}
+use Rattle.dump_commands.specs.declared.stop.DumpStop.TheVariants as stops
 use Rattle.dump_commands.specs.declared.told.Dumped.{Dumped}
+use Rattle.dump_commands.specs.Ahead.{LeftAhead}
 use Rattle.dump_commands.specs.Scenes.{Scene, database_in, slots_in, whole_in, entries_in, IsScene, Finds}
 use Rattle.dump_commands.specs.Refusals.{refusal_by, trial_refusal, fault_of}
 use Rattle.dump_commands.specs.Orders.{asked_port, order_of}
@@ -33,6 +35,7 @@ use Rattle.dump_commands.specs.Courses.{Point, course}
 use Rattle.dump_commands.specs.Running.{IsAtPoint}
 use Rattle.dump_commands.specs.Answers.{Answer, said, commit_of, begun_point, begun, tape_for, refused_or, begun_or, real_answer, trial_answer, order_answer, port_answer, dump_answer, IsAnswered, IsFinished}
 use Rattle.dump_commands.proofs.Ahead.{standing_ahead, loads_ahead, loads_leave, done_ahead_both, leaves_ahead}
+use Rattle.dump_commands.proofs.Stopping.{stopped_map, left_behind}
 use Rattle.dump_commands.proofs.Passing.{FoundTape, passes, found_tape}
 use Rattle.dump_commands.proofs.Ways.{SlotLaws}
 use Rattle.dump_commands.proofs.Steps.{IsReady}
@@ -71,6 +74,15 @@ module _ {D E : Type 0} (P : Plant D) (C : Cell E) (s : Scene) (o : DumpOrder) (
         leaves_ahead P (commit_of s o t) (course s (begun_point s o t)).effects [] old mid new
         (begun_done P C s o t budb old site ready.slots told ready.sound (ready.within told) (ready.log_told told) is found budb_after mid job first)
         (first_left mid left)
+        (runs (begun_point s o t) (begun_at P C s o t budb old site ready.slots told ready.sound (ready.within told) (ready.log_told told) is found budb_after mid job first stays))
+
+    -- it was stopped on the way
+    pub make_stopped : {T : Type 0} (r : Result T DumpStop) → ((p : Point) → IsAtPoint P C s p budb_after mid site job → OnErr r (r ≢ Err stops.Plant → LeftAhead P (course s p).effects mid new)) → OnErr r (r ≢ Err stops.Plant → LeftAhead P (begun s o t).effects old new)
+    unfolding begun
+    make_stopped r runs =
+        stopped_map stops.Plant r (LeftAhead P (course s (begun_point s o t)).effects mid new) (LeftAhead P (commit_of s o t ++ (course s (begun_point s o t)).effects) old new)
+        (left_behind P (commit_of s o t) (course s (begun_point s o t)).effects old mid new
+        (begun_done P C s o t budb old site ready.slots told ready.sound (ready.within told) (ready.log_told told) is found budb_after mid job first))
         (runs (begun_point s o t) (begun_at P C s o t budb old site ready.slots told ready.sound (ready.within told) (ready.log_told told) is found budb_after mid job first stays))
 
     pub make_time : o.time ≡ s.time → max o.time job.head.id ≡ (begun s o t).time
@@ -155,6 +167,14 @@ module _ {D E : Type 0} (P : Plant D) (C : Cell E) (s : Scene) (o : DumpOrder) (
         let found : FoundTape (tape_for s o) = passed_tape passed in
         subst (λ (a : Answer). Leaves P a.effects old new) (sym (real_begun found.tape found.is passed))
         (leaves_ahead P [] (begun s o found.tape).effects [] old mid new (loads_ahead P old mid s.state (λ _. is.state) loads) (loads_leave P old mid s.state (λ _. is.state) left) (makes found.tape (passed_scene loads stays) found.is))
+
+    pub passed_stopped : {T : Type 0} (r : Result T DumpStop) → refusal_by entries o fault ≡ None → Loads P old mid → StaysQuiet P old mid → (new : D)
+        → ((t : FirstTape) → IsScene P C s budb mid site → tape_for s o ≡ Ok t → OnErr r (r ≢ Err stops.Plant → LeftAhead P (begun s o t).effects mid new)) → OnErr r (r ≢ Err stops.Plant → LeftAhead P (real_answer s o).effects old new)
+    passed_stopped r passed loads stays new makes =
+        let found : FoundTape (tape_for s o) = passed_tape passed in
+        subst (λ (a : Answer). OnErr r (r ≢ Err stops.Plant → LeftAhead P a.effects old new)) (sym (real_begun found.tape found.is passed))
+        (stopped_map stops.Plant r (LeftAhead P (begun s o found.tape).effects mid new) (LeftAhead P (begun s o found.tape).effects old new)
+        (left_behind P [] (begun s o found.tape).effects old mid new (loads_ahead P old mid s.state (λ _. is.state) loads)) (makes found.tape (passed_scene loads stays) found.is))
 
 -- ---- an order, a trial or not
 

@@ -13,7 +13,7 @@ use Rattle.plant_effects.proofs.Joining.{Fits, nothing_left, leaves_more}
 use Rattle.cell_core.specs.declared.cell.Cell.{Ghosts as Cell}
 use Rattle.tape_text.specs.Items.{Read}
 use Rattle.tape_scan.specs.Slots.{Slot}
-use Rattle.tape_scan.specs.Looking.{HasSlots}
+use Rattle.tape_scan.specs.Looking.{HasSlots, Loads}
 use Rattle.tape_answers.specs.Slots.{slots_of}
 use Rattle.budb_fold.specs.declared.database.Database.{Database}
 use Rattle.budb.specs.Views.{BudbView}
@@ -27,9 +27,10 @@ use Rattle.dump_commands.specs.declared.running.End.{End}
 use Rattle.dump_commands.specs.declared.running.End.TheVariants.{Made, Refused}
 use Rattle.dump_commands.specs.Scenes.{Scene}
 use Rattle.dump_commands.specs.Courses.{Point, Course, goes_on, around, next_event, behind, last_event, course}
-use Rattle.dump_commands.specs.Ahead.{IsAhead, DoneAhead}
+use Rattle.dump_commands.specs.Ahead.{IsAhead, DoneAhead, LeftAhead}
 use Rattle.dump_commands.specs.Running.{IsAtPoint, IsOver, IsOnWay, IsEnded, answer_of}
 use Rattle.dump_commands.proofs.Ahead.{ahead_both, ahead_come, nothing_ahead, behind_loads, done_ahead_both, leaves_ahead}
+use Rattle.dump_commands.proofs.Stopping.{left_loads, left_behind}
 use Rattle.dump_commands.proofs.SettledCourses.{behind_settled_point, settled_over}
 use Rattle.dump_commands.proofs.CourseLaws.{course_more, course_last}
 
@@ -187,3 +188,9 @@ module _ {D E : Type 0} (P : Plant D) (C : Cell E) (s : Scene) where
     pub stop_way : (budb : BudbView) (mid : D) (site : E) (job : JobFields) (way : IsOnWay P C s p old budb mid site job) → Leaves P (course s p).effects old mid
     stop_way budb mid site job way =
         subst (λ (l : List Effect). Leaves P l old mid) (sym (ap (λ (c : Course). c.effects) way.rest)) (leaves_more P way.effects (course s way.now).effects old mid way.leaves)
+
+    -- no event more was done, but tapes may have been loaded
+    pub idle_way : (budb : BudbView) (mid new : D) (site : E) (job : JobFields) (way : IsOnWay P C s p old budb mid site job) → Loads P mid new → LeftAhead P (course s p).effects old new
+    idle_way budb mid new site job way loads =
+        subst (λ (l : List Effect). LeftAhead P l old new) (sym (ap (λ (c : Course). c.effects) way.rest))
+        (left_behind P way.effects (course s way.now).effects old mid new way.done (left_loads P (course s way.now).effects mid new way.now.state (λ _. way.at.state) loads))

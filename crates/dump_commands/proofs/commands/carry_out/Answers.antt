@@ -1,10 +1,13 @@
-use Rattle.std.proofs.Common.{sym, ◌∙◌, ap, subst}
-use Rattle.std.specs.Prelude.{IfOk}
+use Rattle.std.proofs.Common.{sym, ◌∙◌, ap, subst, ◌≢◌}
+use Rattle.std.specs.Prelude.{IfOk, Err, OnErr}
 use Rattle.plant_effects.specs.Runs.{Leaves}
 use Rattle.plant_effects.proofs.Joining.{nothing_left}
 use Rattle.budb_fold.specs.declared.database.Database.{Database}
 use Rattle.dump_commands.specs.Answers.{Answer, order_answer, IsAnswered}
 use Rattle.dump_commands.proofs.Making.{order_real, trial_told}
+use Rattle.dump_commands.specs.declared.stop.DumpStop.TheVariants as stop
+use Rattle.dump_commands.proofs.Stopping.{on_err, left_standing}
+use Rattle.dump_commands.specs.Ahead.{LeftAhead}
 use Rattle.dump_commands.proofs.commands.carry_out.Goals as goal
 
 pub returns-then-command-clause-answered : goal.returns-then-command-clause-answered
@@ -25,3 +28,12 @@ pub returns-else-command-clause-leaves : goal.returns-else-command-clause-leaves
 returns-else-command-clause-leaves g c = λ told told_cell s is.
     subst (λ (a : Answer). Leaves g.P.Plant a.effects c.args.plant.now c.make_or_refuse.new.plant)
     (sym (order_real s c.args.command.now c.args.order c.if-command.false)) (c.make_or_refuse.ensures.leaves told told_cell s is)
+
+pub returns-then-command-clause-stopped : goal.returns-then-command-clause-stopped
+returns-then-command-clause-stopped g c = λ told told_cell s is.
+    on_err c.try_out.result _ (λ other. left_standing g.P.Plant (order_answer s c.args.command.now c.args.order).effects c.args.plant.now s.state c.requires.sound (λ _. is.state))
+
+pub returns-else-command-clause-stopped : goal.returns-else-command-clause-stopped
+returns-else-command-clause-stopped g c = λ told told_cell s is.
+    subst (λ (a : Answer). OnErr c.make_or_refuse.result (c.make_or_refuse.result ≢ Err stop.Plant → LeftAhead g.P.Plant a.effects c.args.plant.now c.make_or_refuse.new.plant))
+    (sym (order_real s c.args.command.now c.args.order c.if-command.false)) (c.make_or_refuse.ensures.stopped told told_cell s is)

@@ -1,5 +1,7 @@
 use Rattle.dump_job.specs.Beginning.{first_tape}
 use Rattle.dump_commands.proofs.Checks.{told_none, told_some}
+use Rattle.tape_scan.specs.Looking.{Loads}
+use Rattle.dump_commands.proofs.Stopping.{search_stopped}
 use Rattle.dump_commands.proofs.dumping.checked.Goals as goal
 
 pub returns-in-Ok-clause-told : goal.returns-in-Ok-clause-told
@@ -9,3 +11,6 @@ returns-in-Ok-clause-told g c = λ told slots whole has are.
 pub returns-in-Ok-pass_on-clause-told : goal.returns-in-Ok-pass_on-clause-told
 returns-in-Ok-pass_on-clause-told g c = λ told slots whole has are.
     told_some (first_tape c.args.budb.now.database slots whole c.args.order.now (g.P.Plant.view c.args.plant.now).log_size) c.in-Err.fault c.in-Ok-pass_on.refusal c.in-Ok-pass_on.ensures (c.in-Err.ensures.told told slots whole has are)
+
+pub returns-in-Err-pass_on-clause-stopped : goal.returns-in-Err-pass_on-clause-stopped
+returns-in-Err-pass_on-clause-stopped g c = search_stopped (Loads g.P.Plant c.args.plant.now c.check.new.plant) c.in-Err.fault c.in-Err-pass_on.stop c.in-Err-pass_on.ensures c.in-Err.ensures.plant.loads

@@ -1,9 +1,14 @@
-use Rattle.std.proofs.Common.{refl, sym, ◌∙◌, subst}
-use Rattle.std.specs.Prelude.{◌<◌, ℕ, All}
+use Rattle.std.proofs.Common.{refl, sym, ◌∙◌, subst, ap}
+use Rattle.std.specs.Prelude.{◌<◌, ℕ, All, Err}
 use Rattle.dump_commands.proofs.Checks.{good_places}
 use Rattle.dump_commands.proofs.Passing.{passes}
 use Rattle.dump_commands.proofs.Ways.{SlotLaws}
-use Rattle.dump_commands.proofs.Making.{search_told, real_left, refused_answered, passed_told, passed_left}
+use Rattle.dump_commands.proofs.Making.{search_told, real_left, refused_answered, passed_told, passed_left, passed_stopped}
+use Rattle.std.proofs.lemmas.Result.{err_from_is_err_and}
+use Rattle.dump_commands.specs.declared.stop.DumpStop.TheVariants as stop
+use Rattle.dump_commands.proofs.Stopping.{on_err, handed, left_loads}
+use Rattle.tape_scan.specs.Looking.{Loads}
+use Rattle.dump_commands.specs.Answers.{real_answer}
 use Rattle.dump_commands.proofs.made.make_or_refuse.Goals as goal
 
 pub make-requires-clause-some : goal.make-requires-clause-some
@@ -55,3 +60,31 @@ returns-in_err-fault-clause-leaves g c = λ told told_cell s is.
 pub returns-in_err-text-clause-leaves : goal.returns-in_err-text-clause-leaves
 returns-in_err-text-clause-leaves g c = λ told told_cell s is.
     real_left g.P.Plant g.C.Cell s c.args.order c.args.budb.now c.args.plant.now c.args.cell.now told is c.checked.new.plant c.checked.ensures.leaves
+
+pub returns-in_err-fault-clause-unfailed : goal.returns-in_err-fault-clause-unfailed
+returns-in_err-fault-clause-unfailed g c = λ other.
+    let e = err_from_is_err_and c.from_residual.result c.from_residual.ensures.1 in
+    (handed stop.Plant _ c.from_residual.result (Loads g.P.Plant c.args.plant.now c.checked.new.plant) (e.1 ∙ ap Err e.2) c.in_err-fault.ensures.stopped other).done.sound
+
+pub returns-in_err-fault-clause-stopped : goal.returns-in_err-fault-clause-stopped
+returns-in_err-fault-clause-stopped g c = λ told told_cell s is.
+    let e = err_from_is_err_and c.from_residual.result c.from_residual.ensures.1 in
+    on_err c.from_residual.result _ (λ other. left_loads g.P.Plant (real_answer s c.args.order).effects c.args.plant.now c.checked.new.plant s.state (λ _. is.state)
+    (handed stop.Plant _ c.from_residual.result (Loads g.P.Plant c.args.plant.now c.checked.new.plant) (e.1 ∙ ap Err e.2) c.in_err-fault.ensures.stopped other))
+
+pub returns-in_err-text-clause-unfailed : goal.returns-in_err-text-clause-unfailed
+returns-in_err-text-clause-unfailed g c = λ other. c.in_ok-fault.ensures.loads.done.sound
+
+pub returns-in_err-text-clause-stopped : goal.returns-in_err-text-clause-stopped
+returns-in_err-text-clause-stopped g c = λ told told_cell s is.
+    on_err c.from_residual-in_err-text.result _ (λ other. left_loads g.P.Plant (real_answer s c.args.order).effects c.args.plant.now c.checked.new.plant s.state (λ _. is.state) c.in_ok-fault.ensures.loads)
+
+pub returns-in-None-clause-stopped : goal.returns-in-None-clause-stopped
+returns-in-None-clause-stopped g c = λ told told_cell s is.
+    let P = g.P.Plant in
+    let C = g.C.Cell in
+    let laws : SlotLaws = record { count = c.the_slots_are_read.ensures.count; here = c.the_slots_are_read.ensures.here; items = c.the_slots_are_read.ensures.items } in
+    let found = search_told P C s c.args.order c.args.budb.now c.args.plant.now c.args.cell.now told is laws (g.met.P.Plant.log_told c.args.plant.now told c.requires.sound) c.in_ok-fault.fault (c.in_ok-fault.ensures.told told) in
+    passed_stopped P C s c.args.order c.args.budb.now c.args.plant.now c.args.cell.now told is c.args.entries.now c.in_ok-fault.fault c.checked.new.plant (c.requires.entries told_cell) found
+    c.make.result (sym c.in_ok-text.ensures ∙ c.in-None.is) c.in_ok-fault.ensures.loads c.checked.ensures.stays c.make.new.plant
+    (λ t there tape. c.make.ensures.stopped told told_cell s t there tape)

@@ -122,3 +122,9 @@ returns-in-Memory-clause-leaves g c = λ told told_cell s p at.
       fits = λ tells survives image left. g.met.P.Plant.left c.args.plant.now image tells (fit_sound g.P.Plant c.args.job.now c.args.plant.now c.requires.fit) survives left;
       log_told = λ tells. g.met.P.Plant.log_told c.args.plant.now tells (fit_sound g.P.Plant c.args.job.now c.args.plant.now c.requires.fit);
     }) told told_cell s p at answer.Memory c.in-Memory.ensures.does
+
+pub returns-in-CellFailed-clause-stopped : goal.returns-in-CellFailed-clause-stopped
+returns-in-CellFailed-clause-stopped g c = λ other. c.in-CellFailed.ensures.steps.loads tt
+
+pub returns-in-Memory-clause-stopped : goal.returns-in-Memory-clause-stopped
+returns-in-Memory-clause-stopped g c = λ other. c.in-Memory.ensures.steps.loads tt

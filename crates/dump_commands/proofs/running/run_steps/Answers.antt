@@ -5,7 +5,10 @@ use Rattle.dump_commands.specs.declared.running.End.{End}
 use Rattle.dump_commands.specs.Courses.{next_event}
 use Rattle.dump_commands.specs.Running.{Moves}
 use Rattle.dump_commands.proofs.Steps.{fit_sound}
-use Rattle.dump_commands.proofs.Ways.{begin_way, more_way, end_way, leave_way}
+use Rattle.dump_commands.proofs.Ways.{begin_way, more_way, end_way, leave_way, idle_way}
+use Rattle.dump_commands.specs.declared.stop.DumpStop.TheVariants as stop
+use Rattle.dump_commands.proofs.Stopping.{handed}
+use Rattle.tape_scan.specs.Looking.{Loads}
 use Rattle.dump_commands.proofs.running.run_steps.Goals as goal
 
 pub steps-init : goal.steps-init
@@ -60,3 +63,15 @@ pub returns-in-Err-clause-leaves : goal.returns-in-Err-clause-leaves
 returns-in-Err-clause-leaves g c = λ told told_cell s p at.
     let way = c.steps.invariant.way told told_cell s p at in
     leave_way g.P.Plant g.C.Cell s p c.args.plant.now c.steps.budb c.steps.plant c.go_on.new.plant c.steps.cell c.steps.job way (c.go_on.ensures.leaves told told_cell s way.now way.at)
+
+pub returns-in-Ok-Some-clause-unfailed : goal.returns-in-Ok-Some-clause-unfailed
+returns-in-Ok-Some-clause-unfailed g c = λ other. fit_sound g.P.Plant c.go_on.new.job c.go_on.new.plant c.in-Ok-Some.ensures.fit
+
+pub returns-in-Err-clause-unfailed : goal.returns-in-Err-clause-unfailed
+returns-in-Err-clause-unfailed g c = λ other. (handed stop.Plant c.in-Err.stop _ (Loads g.P.Plant c.steps.plant c.go_on.new.plant) refl c.in-Err.ensures.stopped other).done.sound
+
+pub returns-in-Err-clause-stopped : goal.returns-in-Err-clause-stopped
+returns-in-Err-clause-stopped g c = λ told told_cell s p at other.
+    let way = c.steps.invariant.way told told_cell s p at in
+    idle_way g.P.Plant g.C.Cell s p c.args.plant.now c.steps.budb c.steps.plant c.go_on.new.plant c.steps.cell c.steps.job way
+    (handed stop.Plant c.in-Err.stop _ (Loads g.P.Plant c.steps.plant c.go_on.new.plant) refl c.in-Err.ensures.stopped other)
