@@ -81,6 +81,13 @@ module _ (w : World) (command : Command) where
   done_plant off out is = done_off_cell off out ∙ ap (λ (b : Bool). if b then dump_turn w command else on_plant w command) is
 
 -- a verdict leaves the cell alone
+-- a command on tapes, and another one
+pub plant_tape : (w : World) (command : Command) → asks_tape command ≡ true → on_plant w command ≡ tape_turn w command
+plant_tape w command is = ap (λ (b : Bool). if b then tape_turn w command else carried w (verdict (after w.log) command)) is
+
+pub plant_other : (w : World) (command : Command) → asks_tape command ≡ false → on_plant w command ≡ carried w (verdict (after w.log) command)
+plant_other w command is = ap (λ (b : Bool). if b then tape_turn w command else carried w (verdict (after w.log) command)) is
+
 pub carried_cells : (w : World) (v : Verdict) → (carried w v).cells ≡ []
 carried_cells w (Refuses text) = refl
 carried_cells w (Shows text) = refl

@@ -32,7 +32,8 @@ use Rattle.budb.specs.Kept.{Keeps}
 use Rattle.backup_replies.specs.declared.refusals.Refusal.TheVariants.{DumpKnown, WrongParent, LogFull}
 use Rattle.backup_replies.specs.Texts.{refused_number, refused_numbers, ok_line}
 use Rattle.backup_replies.specs.Scans.{found_line, added_line}
-use Rattle.dump_commands.specs.Ahead.{IsAhead, DoneAhead}
+use Rattle.dump_commands.specs.Ahead.{IsAhead, DoneAhead, LeftAhead}
+use Rattle.dump_commands.proofs.Stopping.{left_whole, left_more, left_behind}
 use Rattle.dump_commands.proofs.Ahead.{ahead_both, standing_ahead, loads_ahead, loads_leave as loads_leave_ahead, done_ahead_both, leaves_ahead}
 use Rattle.backup_session.specs.Views.{SessionView, ReplyView}
 use Rattle.backup_session.specs.Worlds.{World, Turn, before_reply}
@@ -213,6 +214,13 @@ module _ {D : Type 0} (P : Plant D) (w : World) (old : D) (session : SessionView
         settles = settled_commit (encoded (change.Found d ∷ [])) w.state;
       })
 
+  -- it was added, but that couldn't be told
+  pub added_stopped : (mid : D) → (268435456 < (P.view old).log_size + length (encoded (change.Found d ∷ [])) → ⊥) → Done P (commits (encoded (change.Found d ∷ [])) ∷ []) old mid → LeftAhead P (added w d).turn.effects old mid
+  unfolding full_step made_step
+  added_stopped mid never done =
+      let es = commits (encoded (change.Found d ∷ [])) ∷ [] in
+      subst (λ (s : Step). LeftAhead P s.turn.effects old mid) (sym (with_room (roomy never))) (left_whole P es old mid (done_ahead P es old mid w.state fits.state done))
+
 -- what is done of one dump
 module _ (w : World) (full : Bool) (d : DumpRecordFields) where
   pick : Bool → Bool → Bool → Step
@@ -304,11 +312,23 @@ module _ {D : Type 0} (P : Plant D) (w : World) where
         subst (λ (s : Step). Leaves P s.turn.effects old new) (adding_more w dumps i d more)
         (leaves_ahead P so_far.turn.effects (added_if here so_far.full d).turn.effects [] old mid new done first step)
 
+    pub next_stopped : (old mid new : D) → DoneAhead P (adding w (take i dumps)).turn.effects old mid → LeftAhead P (added_if (before_reply w (adding w (take i dumps)).turn) full d).turn.effects mid new → LeftAhead P (adding w (take (i + 1) dumps)).turn.effects old new
+    unfolding so_far here
+    next_stopped old mid new done second =
+        let step = subst (λ (s : Step). LeftAhead P s.turn.effects mid new) same second in
+        subst (λ (s : Step). LeftAhead P s.turn.effects old new) (adding_more w dumps i d more)
+        (left_behind P so_far.turn.effects (added_if here so_far.full d).turn.effects old mid new done step)
+
   -- the first of them alone
   pub front_leaves : (dumps : List DumpRecordFields) (n : ℕ) (old new : D) → Leaves P (adding w (take n dumps)).turn.effects old new → Leaves P (adding w dumps).turn.effects old new
   front_leaves dumps n old new leaves =
       let r = adding_rest w dumps n in
       subst (λ (es : List Effect). Leaves P es old new) r.1 (leaves_more P (adding w (take n dumps)).turn.effects r.0 old new leaves)
+
+  pub front_stopped : (dumps : List DumpRecordFields) (n : ℕ) (old new : D) → LeftAhead P (adding w (take n dumps)).turn.effects old new → LeftAhead P (adding w dumps).turn.effects old new
+  front_stopped dumps n old new left =
+      let r = adding_rest w dumps n in
+      subst (λ (es : List Effect). LeftAhead P es old new) r.1 (left_more P (adding w (take n dumps)).turn.effects r.0 old new left)
 
 -- ---- the command
 

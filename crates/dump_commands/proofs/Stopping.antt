@@ -1,6 +1,6 @@
 -- What a stop that isn't the plant's leaves, and how it is handed on.
 use Rattle.std.proofs.Common.{◌≡◌, ◌≢◌, ◌+◌, List, [], ◌++◌, length, take, sym, ◌∙◌, ap, subst, arith, length-append}
-use Rattle.std.specs.Prelude.{Result, Ok, Err, OnErr}
+use Rattle.std.specs.Prelude.{Result, Ok, Err, OnOk, OnErr}
 use Rattle.std.proofs.lemmas.List.{take_all, take-append-le}
 use Rattle.std.proofs.Math.Seq.{take-append-add}
 use Rattle.plant_core.specs.declared.plant.Plant.{Ghosts as Plant}
@@ -38,6 +38,11 @@ handed_as one e other f Q to next well = next (λ same. well (ap (λ (x : F). Er
 -- an error that is that one is no other
 pub only_that : {T U E : Type 0} (one e : E) (r : Result U E) (Q : Type 0) → r ≡ Err e → (let q : Result T E = Err e in q) ≡ Err one → r ≢ Err one → Q
 only_that one e r Q is that other = absurd (other (is ∙ ap (λ (x : E). Err x) (stop_is e one that)))
+
+-- at each other answer
+pub either : {T E : Type 0} (one : E) (r : Result T E) (Q : Type 0) → OnOk r Q → OnErr r (r ≢ Err one → Q) → r ≢ Err one → Q
+either one (Ok x) Q well ill other = well
+either one (Err e) Q well ill other = ill other
 
 -- more is so of it
 pub stopped_map : {T E : Type 0} (one : E) (r : Result T E) (Q R : Type 0) → (Q → R) → OnErr r (r ≢ Err one → Q) → OnErr r (r ≢ Err one → R)

@@ -4,9 +4,14 @@ use Rattle.plant_effects.specs.Runs.{Leaves}
 use Rattle.plant_effects.proofs.Joining.{nothing_left, nothing_quiet, quiet_both}
 use Rattle.budb_changes.specs.declared.records.DumpRecordFields.{DumpRecordFields}
 use Rattle.backup_session.specs.Worlds.{before_reply}
-use Rattle.backup_session.specs.Scanning.{adding}
+use Rattle.backup_session.specs.Scanning.{adding, added_if}
 use Rattle.backup_session.specs.Fitting.{Stepped}
-use Rattle.backup_session.proofs.ScanLaws.{start_stepped, start_full, next_stepped, next_full, next_leaves, front_leaves}
+use Rattle.backup_session.proofs.ScanLaws.{start_stepped, start_full, next_stepped, next_full, next_leaves, front_leaves, next_stopped, front_stopped}
+use Rattle.std.specs.Prelude.{Err}
+use Rattle.std.proofs.lemmas.Result.{err_from_is_err_and}
+use Rattle.backup_session.specs.declared.stops.Stop.TheVariants as stops
+use Rattle.dump_commands.specs.Ahead.{LeftAhead}
+use Rattle.dump_commands.proofs.Stopping.{on_err, handed, left_whole}
 use Rattle.backup_session.proofs.session.Session.add_all.Goals as goal
 
 pub loop-dump-init : goal.loop-dump-init
@@ -75,3 +80,30 @@ returns-clause-leaves g c = λ told w fits.
     let P = g.P.Plant in
     let i : ℕ = c.loop-dump.dump-index in
     subst (λ (l : List DumpRecordFields). Leaves P (adding w l).turn.effects c.args.plant.now c.loop-dump.plant) (take_all i c.args.dumps.now (omega (arith, c.loop-dump-test.false))) (c.loop-dump.invariant.leaves told w fits)
+
+pub returns-in_err-put_found-clause-stopped : goal.returns-in_err-put_found-clause-stopped
+returns-in_err-put_found-clause-stopped g c = λ told w fits.
+    let P = g.P.Plant in
+    let old = c.args.plant.now in
+    let mid = c.loop-dump.plant in
+    let dumps = c.args.dumps.now in
+    let i : ℕ = c.loop-dump.dump-index in
+    on_err _ _ (λ other. front_stopped P w dumps i old mid (left_whole P (adding w (take i dumps)).turn.effects old mid (c.loop-dump.invariant.stepped told w fits).done))
+
+pub returns-in_err-now-clause-stopped : goal.returns-in_err-now-clause-stopped
+returns-in_err-now-clause-stopped g c = λ told w fits.
+    let P = g.P.Plant in
+    let old = c.args.plant.now in
+    let mid = c.loop-dump.plant in
+    let dumps = c.args.dumps.now in
+    let i : ℕ = c.loop-dump.dump-index in
+    let so_far = c.loop-dump.invariant in
+    let within : i < length dumps = omega (arith, c.loop-dump-test.true) in
+    let new = c.add_if.new.plant in
+    let d = c.dump-item.result in
+    let more : take (i + 1) dumps ≡ take i dumps ++ d ∷ [] = take_more dumps i d within ∙ ap (λ (x : DumpRecordFields). take i dumps ++ x ∷ []) (sym c.dump-item.is) in
+    let here = before_reply w (adding w (take i dumps)).turn in
+    let e = err_from_is_err_and c.from_residual-in_err-now.result c.from_residual-in_err-now.ensures.1 in
+    on_err _ _ (λ other. front_stopped P w dumps (i + 1) old new
+    (next_stopped P w dumps i d more c.loop-dump.full (so_far.full told w fits) old mid new (so_far.stepped told w fits).done
+    (handed stops.Plant _ c.from_residual-in_err-now.result (LeftAhead P (added_if here c.loop-dump.full d).turn.effects mid new) (e.1 ∙ ap Err e.2) (c.in_err-now.ensures.stopped told here (so_far.stepped told w fits).fits) other)))

@@ -1,5 +1,5 @@
-use Rattle.std.proofs.Common.{◌≡◌, [], ◌++◌, true, false, sym, ◌∙◌, ap, subst}
-use Rattle.std.specs.Prelude.{OnOk, IfOk}
+use Rattle.std.proofs.Common.{◌≡◌, [], ◌++◌, true, false, sym, ◌∙◌, ap, subst, ◌≢◌}
+use Rattle.std.specs.Prelude.{OnOk, IfOk, Err, OnErr}
 use Rattle.std.proofs.lemmas.List.{append-nil}
 use Rattle.plant_effects.specs.Runs.{Leaves}
 use Rattle.plant_effects.proofs.Joining.{nothing_left}
@@ -12,6 +12,9 @@ use Rattle.backup_session.specs.Views.{SessionView}
 use Rattle.backup_session.specs.Scanning.{Step, added_if}
 use Rattle.backup_session.specs.Fitting.{Stepped}
 use Rattle.backup_session.proofs.ScanLaws.{said_stepped, known_is, wrong_is, over_is, free_is, listed_is}
+use Rattle.backup_session.specs.declared.stops.Stop.TheVariants as stops
+use Rattle.dump_commands.specs.Ahead.{LeftAhead}
+use Rattle.dump_commands.proofs.Stopping.{on_err, left_standing}
 use Rattle.backup_session.proofs.session.Session.add_if.Goals as goal
 
 pub returns-then-any_of_id-clause-leaves : goal.returns-then-any_of_id-clause-leaves
@@ -128,3 +131,19 @@ pub returns-in_err-put_refused_numbers-clause-leaves : goal.returns-in_err-put_r
 returns-in_err-put_refused_numbers-clause-leaves g c = λ told w fits.
     let old = c.args.plant.now in
     nothing_left g.P.Plant (added_if w c.args.full c.args.dump.now).turn.effects old (λ told survives image left. g.met.P.Plant.left old image told c.requires survives left)
+
+pub returns-in_err-put_refused_number-clause-stopped : goal.returns-in_err-put_refused_number-clause-stopped
+returns-in_err-put_refused_number-clause-stopped g c = λ told w fits. on_err _ _ (λ other. left_standing g.P.Plant _ c.args.plant.now w.state c.requires (λ _. fits.state))
+
+pub returns-in_err-put_refused_numbers-clause-stopped : goal.returns-in_err-put_refused_numbers-clause-stopped
+returns-in_err-put_refused_numbers-clause-stopped g c = λ told w fits. on_err _ _ (λ other. left_standing g.P.Plant _ c.args.plant.now w.state c.requires (λ _. fits.state))
+
+pub returns-clause-stopped : goal.returns-clause-stopped
+returns-clause-stopped g c = λ told w fits.
+    let P = g.P.Plant in
+    let old = c.args.plant.now in
+    let full = c.args.full in
+    let d = c.args.dump.now in
+    let listed = c.as_slice.ensures ∙ ap (λ (x : Database). x.listed) (c.database.ensures ∙ ap (λ (s : SessionView). s.budb.database) c.self.view_is) in
+    let is = free_is w full d (listed_is P w old c.args.self.now fits c.as_slice.result.now d.id c.any_of_id.result false listed (c.any_of_id.ensures ∙ ap (λ (x : DumpRecordFields). has_dump c.as_slice.result.now x.id) c.fields-fields.ensures.value) c.if-any_of_id.false) (sym c.has_wrong_parent.ensures ∙ c.if-has_wrong_parent.false) c.if-full.false in
+    subst (λ (s : Step). OnErr c.add.result (c.add.result ≢ Err stops.Plant → LeftAhead P s.turn.effects old c.add.new.plant)) (sym is) (c.add.ensures.stopped told w fits)

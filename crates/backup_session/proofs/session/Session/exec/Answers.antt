@@ -1,5 +1,5 @@
-use Rattle.std.proofs.Common.{◌≡◌, sym, ap, subst, arith, IfOk}
-use Rattle.std.specs.Prelude.{min, max}
+use Rattle.std.proofs.Common.{◌≡◌, sym, ap, subst, arith, IfOk, ◌≢◌}
+use Rattle.std.specs.Prelude.{min, max, Err, OnErr}
 use Rattle.backup_words.specs.declared.command.Command.{Command}
 use Rattle.plant_effects.specs.Runs.{Leaves}
 use Rattle.backup_session.specs.Views.{SessionView}
@@ -12,6 +12,8 @@ use Rattle.backup_session.specs.Fitting.{TurnDone, OnTheWay}
 use Rattle.backup_session.proofs.Carrying.{turn_done, stands_at, turned_at, some_at, in_ok, ok_anyway}
 use Rattle.backup_session.proofs.TapeBounds.{stands_tapes}
 use Rattle.backup_session.proofs.TurnLaws.{scan_lists, listed_again}
+use Rattle.backup_session.specs.declared.stops.Stop.TheVariants as stops
+use Rattle.dump_commands.specs.Ahead.{LeftAhead}
 use Rattle.backup_session.proofs.session.Session.exec.Goals as goal
 
 pub returns-clause-turned : goal.returns-clause-turned
@@ -96,3 +98,14 @@ returns-clause-may g c = λ told seen w fits is.
     let time : c.max-self-inside.result ≡ max c.args.self.now.time (min c.args.now 4294967295) = omega (arith, c.max-self-inside.ensures, c.min.ensures, was) in
     let here = stands_at P C w old c.args.cell.now c.args.self.now fits c.args.now later (ap (λ (s : SessionView). s.budb) c.self.view_is) (ap (λ (s : SessionView). s.config) c.self.view_is) time in
     c.run.ensures.may told seen (at_moment w c.args.now) here is
+
+pub returns-clause-stopped : goal.returns-clause-stopped
+returns-clause-stopped g c = λ told seen w fits scan.
+    let P = g.P.Plant in
+    let C = g.C.Cell in
+    let old = c.args.plant.now in
+    let later : SessionView = record { config = c.self.inside.config; budb = c.self.inside.budb; time = c.max-self-inside.result } in
+    let was = ap (λ (s : SessionView). s.time) c.self.view_is in
+    let time : c.max-self-inside.result ≡ max c.args.self.now.time (min c.args.now 4294967295) = omega (arith, c.max-self-inside.ensures, c.min.ensures, was) in
+    let here = stands_at P C w old c.args.cell.now c.args.self.now fits c.args.now later (ap (λ (s : SessionView). s.budb) c.self.view_is) (ap (λ (s : SessionView). s.config) c.self.view_is) time in
+    subst (λ (t : Turn). OnErr c.run.result (c.run.result ≢ Err stops.Plant → LeftAhead P t.effects old c.run.new.plant)) (sym (turn_done w c.args.now c.args.command.now)) (c.run.ensures.stopped told seen (at_moment w c.args.now) here scan)

@@ -1,7 +1,11 @@
-use Rattle.std.proofs.Common.{ap}
+use Rattle.std.proofs.Common.{ap, []}
 use Rattle.backup_session.specs.Views.{SessionView}
 use Rattle.backup_session.specs.Worlds.{archive_of}
 use Rattle.backup_session.proofs.RestoreLaws.{restore_leaves, some_restore, restored_somehow, archive_stands, restore_turned, may_here, restore_way}
+use Rattle.backup_session.specs.declared.stops.Stop.TheVariants as stops
+use Rattle.restore_commands.specs.declared.stops.RestoreStop.TheVariants as restore_stops
+use Rattle.tape_scan.specs.Looking.{Loads}
+use Rattle.dump_commands.proofs.Stopping.{handed_as, left_loads}
 use Rattle.backup_session.proofs.session.Session.on_archive.Goals as goal
 
 pub returns-in-Ok-clause-turned : goal.returns-in-Ok-clause-turned
@@ -67,3 +71,12 @@ pub returns-in-Err-clause-may : goal.returns-in-Err-clause-may
 returns-in-Err-clause-may g c = λ told ctold w fits.
     may_here g.P.Plant g.C.Cell w c.args.plant.now c.args.cell.now c.args.self.now fits c.self.inside.budb c.self.inside.time c.args.command.now (ap (λ (x : SessionView). x.budb) c.self.view_is) (ap (λ (x : SessionView). x.time) c.self.view_is)
     (g.C.Cell.list c.restored.new.cell) (c.restored.ensures.may ctold)
+
+pub returns-in-Err-clause-unfailed : goal.returns-in-Err-clause-unfailed
+returns-in-Err-clause-unfailed g c = λ other.
+    (handed_as restore_stops.Plant c.in-Err.stop stops.Plant c.stop_of.result (Loads g.P.Plant c.args.plant.now c.restored.new.plant) c.stop_of.ensures.only_plant c.in-Err.ensures.done other).done.sound
+
+pub returns-in-Err-clause-stopped : goal.returns-in-Err-clause-stopped
+returns-in-Err-clause-stopped g c = λ told ctold w fits other.
+    left_loads g.P.Plant [] c.args.plant.now c.restored.new.plant w.state (λ _. fits.state)
+    (handed_as restore_stops.Plant c.in-Err.stop stops.Plant c.stop_of.result (Loads g.P.Plant c.args.plant.now c.restored.new.plant) c.stop_of.ensures.only_plant c.in-Err.ensures.done other)

@@ -1,4 +1,4 @@
-use Rattle.std.proofs.Common.{◌≡◌, true, false, refl, sym, ◌∙◌, subst, IfOk}
+use Rattle.std.proofs.Common.{◌≡◌, true, false, refl, sym, ◌∙◌, subst, IfOk, ◌≢◌}
 use Rattle.plant_effects.specs.Runs.{Leaves}
 use Rattle.plant_effects.proofs.Joining.{nothing_left}
 use Rattle.backup_session.specs.Views.{SessionView}
@@ -10,6 +10,10 @@ use Rattle.backup_session.specs.Fitting.{Stands, TurnDone, OnTheWay}
 use Rattle.backup_session.proofs.Carrying.{done_cell, done_archive, done_dump, done_plant, plant_cells, fits_plant, list_stays, turned_by, turned_cell, cell_way, in_ok}
 use Rattle.backup_session.proofs.RestoreLaws.{held_archive, not_on_cell}
 use Rattle.backup_session.proofs.Silent.{plant_silent, dump_silent, somehow}
+use Rattle.std.specs.Prelude.{Err, OnErr}
+use Rattle.backup_session.specs.declared.stops.Stop.TheVariants as stops
+use Rattle.dump_commands.specs.Ahead.{LeftAhead}
+use Rattle.dump_commands.proofs.Stopping.{on_err, left_standing}
 use Rattle.backup_session.proofs.session.Session.run.Goals as goal
 
 pub returns-then-asks_cell-clause-turned : goal.returns-then-asks_cell-clause-turned
@@ -147,3 +151,22 @@ returns-then-asks_archive-clause-some_restore g c = λ told seen w fits is. c.on
 
 pub returns-then-asks_archive-clause-may : goal.returns-then-asks_archive-clause-may
 returns-then-asks_archive-clause-may g c = λ told seen w fits is. c.on_archive.ensures.may told seen w fits
+
+pub returns-then-asks_cell-clause-stopped : goal.returns-then-asks_cell-clause-stopped
+returns-then-asks_cell-clause-stopped g c = λ told seen w fits scan.
+    on_err c.on_cell.result _ (λ other. left_standing g.P.Plant (done w c.args.command.now).effects c.args.plant.now w.state c.requires (λ _. fits.state))
+
+pub returns-then-asks_archive-clause-stopped : goal.returns-then-asks_archive-clause-stopped
+returns-then-asks_archive-clause-stopped g c = λ told seen w fits scan.
+    let is = done_archive w c.args.command.now (sym c.asks_cell.ensures ∙ c.if-asks_cell.false) (sym c.asks_archive.ensures ∙ c.if-asks_archive.true) in
+    subst (λ (t : Turn). OnErr c.on_archive.result (c.on_archive.result ≢ Err stops.Plant → LeftAhead g.P.Plant t.effects c.args.plant.now c.on_archive.new.plant)) (sym is) (c.on_archive.ensures.stopped told seen w fits)
+
+pub returns-then-asks_dump-clause-stopped : goal.returns-then-asks_dump-clause-stopped
+returns-then-asks_dump-clause-stopped g c = λ told seen w fits scan.
+    let is = done_dump w c.args.command.now (sym c.asks_cell.ensures ∙ c.if-asks_cell.false) (sym c.asks_archive.ensures ∙ c.if-asks_archive.false) (sym c.asks_dump.ensures ∙ c.if-asks_dump.true) in
+    subst (λ (t : Turn). OnErr c.on_dump.result (c.on_dump.result ≢ Err stops.Plant → LeftAhead g.P.Plant t.effects c.args.plant.now c.on_dump.new.plant)) (sym is) (c.on_dump.ensures.stopped told seen w fits)
+
+pub returns-else-asks_dump-clause-stopped : goal.returns-else-asks_dump-clause-stopped
+returns-else-asks_dump-clause-stopped g c = λ told seen w fits scan.
+    let is = done_plant w c.args.command.now (sym c.asks_cell.ensures ∙ c.if-asks_cell.false) (sym c.asks_archive.ensures ∙ c.if-asks_archive.false) (sym c.asks_dump.ensures ∙ c.if-asks_dump.false) in
+    subst (λ (t : Turn). OnErr c.on_plant.result (c.on_plant.result ≢ Err stops.Plant → LeftAhead g.P.Plant t.effects c.args.plant.now c.on_plant.new.plant)) (sym is) (c.on_plant.ensures.stopped told w (fits_plant g.P.Plant g.C.Cell w c.args.plant.now c.args.cell.now c.args.self.now fits) scan)
