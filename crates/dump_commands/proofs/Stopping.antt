@@ -19,25 +19,25 @@ use Rattle.dump_commands.proofs.Ahead.{standing_ahead, loads_ahead, done_ahead_b
 
 -- ---- stops
 
--- at an error
-pub on_err : {T E : Type 0} (r : Result T E) (Q : Type 0) → Q → OnErr r Q
-on_err (Ok x) Q holds = tt
-on_err (Err e) Q holds = holds
+-- at an error that isn't this one
+pub on_stop : {T E : Type 0} (one : E) (r : Result T E) (Q : Type 0) → (r ≢ Err one → Q) → OnErr r (r ≢ Err one → Q)
+on_stop one (Ok x) Q holds = tt
+on_stop one (Err e) Q holds = holds
 
 pub stop_is : {T E : Type 0} (e f : E) → (let r : Result T E = Err e in r) ≡ Err f → e ≡ f
 stop_is e f is = cc
 
 -- what is so unless one error was told is so of an error that is handed on
 pub handed : {T U E : Type 0} (one e : E) (r : Result U E) (Q : Type 0) → r ≡ Err e → ((let q : Result T E = Err e in q) ≢ Err one → Q) → r ≢ Err one → Q
-handed one e r Q is next other = next (λ same. other (is ∙ ap (λ (x : E). Err x) (stop_is e one same)))
+handed {E = E} one e r Q is next other = next (λ same. other (is ∙ ap (λ (x : E). Err x) (stop_is e one same)))
 
 -- the same under another error
 pub handed_as : {T U E F : Type 0} (one e : E) (other f : F) (Q : Type 0) → (e ≡ one → f ≡ other) → ((let q : Result T E = Err e in q) ≢ Err one → Q) → (let r : Result U F = Err f in r) ≢ Err other → Q
-handed_as one e other f Q to next well = next (λ same. well (ap (λ (x : F). Err x) (to (stop_is e one same))))
+handed_as {F = F} one e other f Q to next well = next (λ same. well (ap (λ (x : F). Err x) (to (stop_is e one same))))
 
 -- an error that is that one is no other
 pub only_that : {T U E : Type 0} (one e : E) (r : Result U E) (Q : Type 0) → r ≡ Err e → (let q : Result T E = Err e in q) ≡ Err one → r ≢ Err one → Q
-only_that one e r Q is that other = absurd (other (is ∙ ap (λ (x : E). Err x) (stop_is e one that)))
+only_that {E = E} one e r Q is that other = absurd (other (is ∙ ap (λ (x : E). Err x) (stop_is e one that)))
 
 -- at each other answer
 pub either : {T E : Type 0} (one : E) (r : Result T E) (Q : Type 0) → OnOk r Q → OnErr r (r ≢ Err one → Q) → r ≢ Err one → Q
@@ -50,14 +50,14 @@ stopped_map one (Ok x) Q R on is = tt
 stopped_map one (Err e) Q R on is = λ other. on (is other)
 
 -- a search that was stopped otherwise than by the plant didn't fail
-pub search_stopped : {T U : Type 0} (X : Type 0) (f : JobFault) (s : DumpStop) → Err s ≡ passed_on f → UnlessFailed (let r : Result T JobFault = Err f in r) X → (let q : Result U DumpStop = Err s in q) ≢ Err stop.Plant → X
-search_stopped X NothingToAppend s is holds other = holds
-search_stopped X (NoTape name) s is holds other = holds
-search_stopped X CapacityTooSmall s is holds other = holds
-search_stopped X IdsSpent s is holds other = holds
-search_stopped X (LogFull size) s is holds other = holds
-search_stopped X Failed s is holds other = absurd (other (ap (λ (x : DumpStop). Err x) (stop_is s stop.Plant is)))
-search_stopped X Memory s is holds other = holds
+pub search_stopped : (T : Type 0) {U : Type 0} (X : Type 0) (f : JobFault) (s : DumpStop) → Err s ≡ passed_on f → UnlessFailed (let r : Result T JobFault = Err f in r) X → (let q : Result U DumpStop = Err s in q) ≢ Err stop.Plant → X
+search_stopped T X NothingToAppend s is holds other = holds
+search_stopped T X (NoTape name) s is holds other = holds
+search_stopped T X CapacityTooSmall s is holds other = holds
+search_stopped T X IdsSpent s is holds other = holds
+search_stopped T X (LogFull size) s is holds other = holds
+search_stopped T X Failed s is holds other = absurd (other (ap (λ (x : DumpStop). Err x) (stop_is s stop.Plant is)))
+search_stopped T X Memory s is holds other = holds
 
 -- ---- plants
 

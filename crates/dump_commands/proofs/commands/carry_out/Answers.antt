@@ -6,7 +6,7 @@ use Rattle.budb_fold.specs.declared.database.Database.{Database}
 use Rattle.dump_commands.specs.Answers.{Answer, order_answer, IsAnswered}
 use Rattle.dump_commands.proofs.Making.{order_real, trial_told}
 use Rattle.dump_commands.specs.declared.stop.DumpStop.TheVariants as stop
-use Rattle.dump_commands.proofs.Stopping.{on_err, left_standing}
+use Rattle.dump_commands.proofs.Stopping.{on_stop, left_standing}
 use Rattle.dump_commands.specs.Ahead.{LeftAhead}
 use Rattle.dump_commands.proofs.commands.carry_out.Goals as goal
 
@@ -31,7 +31,7 @@ returns-else-command-clause-leaves g c = λ told told_cell s is.
 
 pub returns-then-command-clause-stopped : goal.returns-then-command-clause-stopped
 returns-then-command-clause-stopped g c = λ told told_cell s is.
-    on_err c.try_out.result _ (λ other. left_standing g.P.Plant (order_answer s c.args.command.now c.args.order).effects c.args.plant.now s.state c.requires.sound (λ _. is.state))
+    on_stop stop.Plant c.try_out.result _ (λ other. left_standing g.P.Plant (order_answer s c.args.command.now c.args.order).effects c.args.plant.now s.state c.requires.sound (λ _. is.state))
 
 pub returns-else-command-clause-stopped : goal.returns-else-command-clause-stopped
 returns-else-command-clause-stopped g c = λ told told_cell s is.

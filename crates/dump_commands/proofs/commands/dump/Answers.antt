@@ -4,7 +4,8 @@ use Rattle.budb_fold.specs.declared.database.Database.{Database}
 use Rattle.dump_commands.specs.Orders.{asked_port}
 use Rattle.dump_commands.specs.Answers.{dump_answer}
 use Rattle.dump_commands.proofs.Making.{dump_refused}
-use Rattle.dump_commands.proofs.Stopping.{on_err, left_standing}
+use Rattle.dump_commands.proofs.Stopping.{on_stop, left_standing}
+use Rattle.dump_commands.specs.declared.stop.DumpStop.TheVariants as stop
 use Rattle.dump_commands.proofs.commands.dump.Goals as goal
 
 pub dump_to-requires-clause-port : goal.dump_to-requires-clause-port
@@ -25,4 +26,4 @@ returns-in_err-port-clause-leaves g c = λ told told_cell s finds.
 
 pub returns-in_err-port-clause-stopped : goal.returns-in_err-port-clause-stopped
 returns-in_err-port-clause-stopped g c = λ told told_cell s finds.
-    on_err c.from_residual.result _ (λ other. left_standing g.P.Plant (dump_answer s c.args.command.now).effects c.args.plant.now s.state c.requires.sound (λ _. finds.scene.state))
+    on_stop stop.Plant c.from_residual.result _ (λ other. left_standing g.P.Plant (dump_answer s c.args.command.now).effects c.args.plant.now s.state c.requires.sound (λ _. finds.scene.state))

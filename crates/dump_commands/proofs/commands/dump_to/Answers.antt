@@ -6,7 +6,7 @@ use Rattle.dump_job.specs.declared.order.DumpOrder.{DumpOrder}
 use Rattle.dump_commands.specs.Answers.{Answer, dump_answer, IsAnswered}
 use Rattle.dump_commands.proofs.Making.{dump_ordered, scene_read}
 use Rattle.dump_commands.specs.declared.stop.DumpStop.TheVariants as stop
-use Rattle.dump_commands.proofs.Stopping.{on_err, left_standing}
+use Rattle.dump_commands.proofs.Stopping.{on_stop, left_standing}
 use Rattle.dump_commands.specs.Ahead.{LeftAhead}
 use Rattle.dump_commands.proofs.commands.dump_to.Goals as goal
 
@@ -41,8 +41,8 @@ returns-clause-stopped g c = λ told told_cell s finds.
 
 pub returns-in_err-entries-clause-stopped : goal.returns-in_err-entries-clause-stopped
 returns-in_err-entries-clause-stopped g c = λ told told_cell s finds.
-    on_err c.from_residual.result _ (λ other. left_standing g.P.Plant (dump_answer s c.args.command.now).effects c.args.plant.now s.state c.requires.sound (λ _. finds.scene.state))
+    on_stop stop.Plant c.from_residual.result _ (λ other. left_standing g.P.Plant (dump_answer s c.args.command.now).effects c.args.plant.now s.state c.requires.sound (λ _. finds.scene.state))
 
 pub returns-in_err-order-clause-stopped : goal.returns-in_err-order-clause-stopped
 returns-in_err-order-clause-stopped g c = λ told told_cell s finds.
-    on_err c.from_residual-in_err-order.result _ (λ other. left_standing g.P.Plant (dump_answer s c.args.command.now).effects c.args.plant.now s.state c.requires.sound (λ _. finds.scene.state))
+    on_stop stop.Plant c.from_residual-in_err-order.result _ (λ other. left_standing g.P.Plant (dump_answer s c.args.command.now).effects c.args.plant.now s.state c.requires.sound (λ _. finds.scene.state))

@@ -9,7 +9,7 @@ use Rattle.dump_job.specs.Beginning.{IsBegun}
 use Rattle.dump_commands.specs.Answers.{begun, IsAnswered}
 use Rattle.dump_commands.proofs.Making.{begun_going, begun_places, make_left, make_never, make_leaves, make_told, make_stopped}
 use Rattle.dump_commands.specs.declared.stop.DumpStop.TheVariants as stop
-use Rattle.dump_commands.proofs.Stopping.{on_err, handed, left_loads}
+use Rattle.dump_commands.proofs.Stopping.{on_stop, handed, left_loads}
 use Rattle.tape_scan.specs.Looking.{Loads}
 use Rattle.dump_commands.specs.Ahead.{LeftAhead}
 use Rattle.dump_commands.proofs.made.make.Goals as goal
@@ -83,7 +83,7 @@ returns-in_err-job-clause-unfailed g c = λ other.
 pub returns-in_err-job-clause-stopped : goal.returns-in_err-job-clause-stopped
 returns-in_err-job-clause-stopped g c = λ told told_cell s t is found.
     let e = err_from_is_err_and c.from_residual.result c.from_residual.ensures.1 in
-    on_err c.from_residual.result _ (λ other. left_loads g.P.Plant (begun s c.args.order t).effects c.args.plant.now c.begin.new.plant s.state (λ _. is.state)
+    on_stop stop.Plant c.from_residual.result _ (λ other. left_loads g.P.Plant (begun s c.args.order t).effects c.args.plant.now c.begin.new.plant s.state (λ _. is.state)
     (handed stop.Plant _ c.from_residual.result (Loads g.P.Plant c.args.plant.now c.begin.new.plant) (e.1 ∙ ap Err e.2) c.in_err-job.ensures.stopped other))
 
 pub returns-in-Ok-clause-stopped : goal.returns-in-Ok-clause-stopped

@@ -6,7 +6,7 @@ use Rattle.dump_commands.proofs.Ways.{SlotLaws}
 use Rattle.dump_commands.proofs.Making.{search_told, real_left, refused_answered, passed_told, passed_left, passed_stopped}
 use Rattle.std.proofs.lemmas.Result.{err_from_is_err_and}
 use Rattle.dump_commands.specs.declared.stop.DumpStop.TheVariants as stop
-use Rattle.dump_commands.proofs.Stopping.{on_err, handed, left_loads}
+use Rattle.dump_commands.proofs.Stopping.{on_stop, handed, left_loads}
 use Rattle.tape_scan.specs.Looking.{Loads}
 use Rattle.dump_commands.specs.Answers.{real_answer}
 use Rattle.dump_commands.proofs.made.make_or_refuse.Goals as goal
@@ -69,7 +69,7 @@ returns-in_err-fault-clause-unfailed g c = λ other.
 pub returns-in_err-fault-clause-stopped : goal.returns-in_err-fault-clause-stopped
 returns-in_err-fault-clause-stopped g c = λ told told_cell s is.
     let e = err_from_is_err_and c.from_residual.result c.from_residual.ensures.1 in
-    on_err c.from_residual.result _ (λ other. left_loads g.P.Plant (real_answer s c.args.order).effects c.args.plant.now c.checked.new.plant s.state (λ _. is.state)
+    on_stop stop.Plant c.from_residual.result _ (λ other. left_loads g.P.Plant (real_answer s c.args.order).effects c.args.plant.now c.checked.new.plant s.state (λ _. is.state)
     (handed stop.Plant _ c.from_residual.result (Loads g.P.Plant c.args.plant.now c.checked.new.plant) (e.1 ∙ ap Err e.2) c.in_err-fault.ensures.stopped other))
 
 pub returns-in_err-text-clause-unfailed : goal.returns-in_err-text-clause-unfailed
@@ -77,7 +77,7 @@ returns-in_err-text-clause-unfailed g c = λ other. c.in_ok-fault.ensures.loads.
 
 pub returns-in_err-text-clause-stopped : goal.returns-in_err-text-clause-stopped
 returns-in_err-text-clause-stopped g c = λ told told_cell s is.
-    on_err c.from_residual-in_err-text.result _ (λ other. left_loads g.P.Plant (real_answer s c.args.order).effects c.args.plant.now c.checked.new.plant s.state (λ _. is.state) c.in_ok-fault.ensures.loads)
+    on_stop stop.Plant c.from_residual-in_err-text.result _ (λ other. left_loads g.P.Plant (real_answer s c.args.order).effects c.args.plant.now c.checked.new.plant s.state (λ _. is.state) c.in_ok-fault.ensures.loads)
 
 pub returns-in-None-clause-stopped : goal.returns-in-None-clause-stopped
 returns-in-None-clause-stopped g c = λ told told_cell s is.

@@ -16,7 +16,8 @@ use Rattle.backup_replies.specs.Texts.{refused_number}
 use Rattle.backup_session.specs.Views.{SessionView}
 use Rattle.backup_session.specs.Scanning.{time_with}
 use Rattle.backup_session.proofs.ScanLaws.{add_left, full_is, full_stepped, room_is, added_stepped, added_stopped}
-use Rattle.dump_commands.proofs.Stopping.{on_err, left_standing, left_same}
+use Rattle.dump_commands.proofs.Stopping.{on_stop, left_standing, left_same}
+use Rattle.backup_session.specs.declared.stops.Stop.TheVariants as stops
 use Rattle.backup_session.proofs.session.Session.add.Goals as goal
 
 pub returns-in_err-put_refused_number-in-Err-LogFull-clause-leaves : goal.returns-in_err-put_refused_number-in-Err-LogFull-clause-leaves
@@ -116,13 +117,13 @@ pub returns-in_err-changes-clause-leaves : goal.returns-in_err-changes-clause-le
 returns-in_err-changes-clause-leaves g c = λ told w fits. nothing_left g.P.Plant _ c.args.plant.now (λ told survives image left. g.met.P.Plant.left c.args.plant.now image told c.requires survives left)
 
 pub returns-in_err-changes-clause-stopped : goal.returns-in_err-changes-clause-stopped
-returns-in_err-changes-clause-stopped g c = λ told w fits. on_err _ _ (λ other. left_standing g.P.Plant _ c.args.plant.now w.state c.requires (λ _. fits.state))
+returns-in_err-changes-clause-stopped g c = λ told w fits. on_stop stops.Plant _ _ (λ other. left_standing g.P.Plant _ c.args.plant.now w.state c.requires (λ _. fits.state))
 
 pub returns-in_err-put_refused_number-in-Err-LogFull-clause-stopped : goal.returns-in_err-put_refused_number-in-Err-LogFull-clause-stopped
 returns-in_err-put_refused_number-in-Err-LogFull-clause-stopped g c = λ told w fits.
     let arm = c.in-Err-LogFull in
     let full = arm.ensures.full arm.length (ap (λ (f : CommitFault). Err f) arm.field-0-is) in
-    on_err _ _ (λ other. left_same g.P.Plant _ c.args.plant.now c.commit.new.plant w.state (c.commit.ensures.over_same (subst (λ (n : ℕ). 268435456 < n) full.1 full.0)) c.requires (λ _. fits.state))
+    on_stop stops.Plant _ _ (λ other. left_same g.P.Plant _ c.args.plant.now c.commit.new.plant w.state (c.commit.ensures.over_same (subst (λ (n : ℕ). 268435456 < n) full.1 full.0)) c.requires (λ _. fits.state))
 
 pub returns-clause-stopped : goal.returns-clause-stopped
 returns-clause-stopped g c = λ told w fits other.
@@ -136,5 +137,5 @@ returns-in_err-put_added-in-Ok-clause-stopped g c = λ told w fits.
     let e = c.in-Ok.ensures in
     let is : c.as_slice.result.now ≡ change.Found c.args.dump.now ∷ [] = c.as_slice.ensures ∙ c.in_ok-changes.ensures in
     let never : 268435456 < (P.view old).log_size + length (encoded (change.Found c.args.dump.now ∷ [])) → ⊥ = subst (λ (l : List Change). 268435456 < (P.view old).log_size + length (encoded l) → ⊥) is (λ over. ⊎_elim (λ f. cc) (λ f. cc) (e.only_full over)) in
-    on_err _ _ (λ other. added_stopped P w old c.args.self.now fits (g.met.P.Plant.log_told old told c.requires) c.args.dump.now mid never
+    on_stop stops.Plant _ _ (λ other. added_stopped P w old c.args.self.now fits (g.met.P.Plant.log_told old told c.requires) c.args.dump.now mid never
     (subst (λ (l : List Change). Done P (commits (encoded l) ∷ []) old mid) is e.done))

@@ -11,7 +11,7 @@ use Rattle.std.specs.Prelude.{Err}
 use Rattle.std.proofs.lemmas.Result.{err_from_is_err_and}
 use Rattle.backup_session.specs.declared.stops.Stop.TheVariants as stops
 use Rattle.dump_commands.specs.Ahead.{LeftAhead}
-use Rattle.dump_commands.proofs.Stopping.{on_err, handed, left_whole}
+use Rattle.dump_commands.proofs.Stopping.{on_stop, handed, left_whole}
 use Rattle.backup_session.proofs.session.Session.add_all.Goals as goal
 
 pub loop-dump-init : goal.loop-dump-init
@@ -88,7 +88,7 @@ returns-in_err-put_found-clause-stopped g c = λ told w fits.
     let mid = c.loop-dump.plant in
     let dumps = c.args.dumps.now in
     let i : ℕ = c.loop-dump.dump-index in
-    on_err _ _ (λ other. front_stopped P w dumps i old mid (left_whole P (adding w (take i dumps)).turn.effects old mid (c.loop-dump.invariant.stepped told w fits).done))
+    on_stop stops.Plant _ _ (λ other. front_stopped P w dumps i old mid (left_whole P (adding w (take i dumps)).turn.effects old mid (c.loop-dump.invariant.stepped told w fits).done))
 
 pub returns-in_err-now-clause-stopped : goal.returns-in_err-now-clause-stopped
 returns-in_err-now-clause-stopped g c = λ told w fits.
@@ -104,6 +104,6 @@ returns-in_err-now-clause-stopped g c = λ told w fits.
     let more : take (i + 1) dumps ≡ take i dumps ++ d ∷ [] = take_more dumps i d within ∙ ap (λ (x : DumpRecordFields). take i dumps ++ x ∷ []) (sym c.dump-item.is) in
     let here = before_reply w (adding w (take i dumps)).turn in
     let e = err_from_is_err_and c.from_residual-in_err-now.result c.from_residual-in_err-now.ensures.1 in
-    on_err _ _ (λ other. front_stopped P w dumps (i + 1) old new
+    on_stop stops.Plant _ _ (λ other. front_stopped P w dumps (i + 1) old new
     (next_stopped P w dumps i d more c.loop-dump.full (so_far.full told w fits) old mid new (so_far.stepped told w fits).done
     (handed stops.Plant _ c.from_residual-in_err-now.result (LeftAhead P (added_if here c.loop-dump.full d).turn.effects mid new) (e.1 ∙ ap Err e.2) (c.in_err-now.ensures.stopped told here (so_far.stepped told w fits).fits) other)))

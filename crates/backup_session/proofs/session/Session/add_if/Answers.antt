@@ -14,7 +14,7 @@ use Rattle.backup_session.specs.Fitting.{Stepped}
 use Rattle.backup_session.proofs.ScanLaws.{said_stepped, known_is, wrong_is, over_is, free_is, listed_is}
 use Rattle.backup_session.specs.declared.stops.Stop.TheVariants as stops
 use Rattle.dump_commands.specs.Ahead.{LeftAhead}
-use Rattle.dump_commands.proofs.Stopping.{on_err, left_standing}
+use Rattle.dump_commands.proofs.Stopping.{on_stop, left_standing}
 use Rattle.backup_session.proofs.session.Session.add_if.Goals as goal
 
 pub returns-then-any_of_id-clause-leaves : goal.returns-then-any_of_id-clause-leaves
@@ -133,10 +133,10 @@ returns-in_err-put_refused_numbers-clause-leaves g c = λ told w fits.
     nothing_left g.P.Plant (added_if w c.args.full c.args.dump.now).turn.effects old (λ told survives image left. g.met.P.Plant.left old image told c.requires survives left)
 
 pub returns-in_err-put_refused_number-clause-stopped : goal.returns-in_err-put_refused_number-clause-stopped
-returns-in_err-put_refused_number-clause-stopped g c = λ told w fits. on_err _ _ (λ other. left_standing g.P.Plant _ c.args.plant.now w.state c.requires (λ _. fits.state))
+returns-in_err-put_refused_number-clause-stopped g c = λ told w fits. on_stop stops.Plant _ _ (λ other. left_standing g.P.Plant _ c.args.plant.now w.state c.requires (λ _. fits.state))
 
 pub returns-in_err-put_refused_numbers-clause-stopped : goal.returns-in_err-put_refused_numbers-clause-stopped
-returns-in_err-put_refused_numbers-clause-stopped g c = λ told w fits. on_err _ _ (λ other. left_standing g.P.Plant _ c.args.plant.now w.state c.requires (λ _. fits.state))
+returns-in_err-put_refused_numbers-clause-stopped g c = λ told w fits. on_stop stops.Plant _ _ (λ other. left_standing g.P.Plant _ c.args.plant.now w.state c.requires (λ _. fits.state))
 
 pub returns-clause-stopped : goal.returns-clause-stopped
 returns-clause-stopped g c = λ told w fits.

@@ -6,7 +6,8 @@ use Rattle.backup_session.specs.Views.{SessionView}
 use Rattle.backup_session.specs.Tapes.{slot_of, label_turn}
 use Rattle.backup_session.specs.Fitting.{TurnedPlant}
 use Rattle.backup_session.proofs.Taking.{slot_is, only_said}
-use Rattle.dump_commands.proofs.Stopping.{on_err, left_standing}
+use Rattle.dump_commands.proofs.Stopping.{on_stop, left_standing}
+use Rattle.backup_session.specs.declared.stops.Stop.TheVariants as stops
 use Rattle.backup_session.proofs.session.Session.label.Goals as goal
 
 pub returns-in_err-slot-clause-leaves : goal.returns-in_err-slot-clause-leaves
@@ -28,4 +29,4 @@ returns-in-Err-clause-turned g c = λ told w fits.
     subst (λ (r : Result ℕ (List ℕ)). TurnedPlant P w (label_turn w c.args.name.now c.args.pname.now r) old old c.args.self.now c.new.result) is (only_said P w old c.args.self.now fits c.new.result c.in-Err.text c.requires c.new.ensures)
 
 pub returns-in_err-slot-clause-stopped : goal.returns-in_err-slot-clause-stopped
-returns-in_err-slot-clause-stopped g c = λ told w fits. on_err _ _ (λ other. left_standing g.P.Plant _ c.args.plant.now w.state c.requires (λ _. fits.state))
+returns-in_err-slot-clause-stopped g c = λ told w fits. on_stop stops.Plant _ _ (λ other. left_standing g.P.Plant _ c.args.plant.now w.state c.requires (λ _. fits.state))

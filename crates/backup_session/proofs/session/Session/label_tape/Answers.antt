@@ -14,7 +14,7 @@ use Rattle.std.proofs.lemmas.Result.{err_from_is_err_and}
 use Rattle.backup_session.specs.declared.stops.Stop.TheVariants as stops
 use Rattle.dump_commands.specs.Ahead.{LeftAhead}
 use Rattle.backup_session.proofs.Settling.{done_ahead}
-use Rattle.dump_commands.proofs.Stopping.{on_err, handed, stopped_map, left_none, left_behind}
+use Rattle.dump_commands.proofs.Stopping.{on_stop, handed, stopped_map, left_none, left_behind}
 use Rattle.backup_session.proofs.session.Session.label_tape.Goals as goal
 
 pub returns-in_err-label-clause-leaves : goal.returns-in_err-label-clause-leaves
@@ -85,14 +85,14 @@ returns-in_err-old-clause-unfailed g c = λ other.
 pub returns-in_err-old-clause-stopped : goal.returns-in_err-old-clause-stopped
 returns-in_err-old-clause-stopped g c = λ told w fits.
     let e = err_from_is_err_and c.from_residual.result c.from_residual.ensures.1 in
-    on_err _ _ (λ other. left_none g.P.Plant _ c.args.plant.now c.label_of.new.plant (done_ahead g.P.Plant [] c.args.plant.now c.label_of.new.plant w.state fits.state 
+    on_stop stops.Plant _ _ (λ other. left_none g.P.Plant _ c.args.plant.now c.label_of.new.plant (done_ahead g.P.Plant [] c.args.plant.now c.label_of.new.plant w.state fits.state
     (handed stops.Plant _ c.from_residual.result (Done g.P.Plant [] c.args.plant.now c.label_of.new.plant) (e.1 ∙ ap Err e.2) c.in_err-old.ensures.stopped other)))
 
 pub returns-in_err-label-clause-stopped : goal.returns-in_err-label-clause-stopped
-returns-in_err-label-clause-stopped g c = λ told w fits. on_err _ _ (λ other. left_none g.P.Plant _ c.args.plant.now c.label_of.new.plant (done_ahead g.P.Plant [] c.args.plant.now c.label_of.new.plant w.state fits.state c.in_ok-old.ensures.done))
+returns-in_err-label-clause-stopped g c = λ told w fits. on_stop stops.Plant _ _ (λ other. left_none g.P.Plant _ c.args.plant.now c.label_of.new.plant (done_ahead g.P.Plant [] c.args.plant.now c.label_of.new.plant w.state fits.state c.in_ok-old.ensures.done))
 
 pub returns-in_err-done-clause-stopped : goal.returns-in_err-done-clause-stopped
-returns-in_err-done-clause-stopped g c = λ told w fits. on_err _ _ (λ other. left_none g.P.Plant _ c.args.plant.now c.label_of.new.plant (done_ahead g.P.Plant [] c.args.plant.now c.label_of.new.plant w.state fits.state c.in_ok-old.ensures.done))
+returns-in_err-done-clause-stopped g c = λ told w fits. on_stop stops.Plant _ _ (λ other. left_none g.P.Plant _ c.args.plant.now c.label_of.new.plant (done_ahead g.P.Plant [] c.args.plant.now c.label_of.new.plant w.state fits.state c.in_ok-old.ensures.done))
 
 pub returns-in-None-clause-stopped : goal.returns-in-None-clause-stopped
 returns-in-None-clause-stopped g c = λ told w fits.

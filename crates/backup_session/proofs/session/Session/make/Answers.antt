@@ -2,7 +2,8 @@ use Rattle.backup_session.proofs.Carrying.{made_leaves}
 use Rattle.std.proofs.Common.{ℕ, ◌<◌, ap, subst}
 use Rattle.std.specs.Prelude.{Err}
 use Rattle.budb.specs.declared.fault.CommitFault.{CommitFault}
-use Rattle.dump_commands.proofs.Stopping.{on_err, left_same}
+use Rattle.dump_commands.proofs.Stopping.{on_stop, left_same}
+use Rattle.backup_session.specs.declared.stops.Stop.TheVariants as stops
 use Rattle.backup_session.proofs.session.Session.make.Goals as goal
 
 pub returns-in_err-refused_number-in-Err-LogFull-clause-leaves : goal.returns-in_err-refused_number-in-Err-LogFull-clause-leaves
@@ -24,7 +25,7 @@ pub returns-in_err-refused_number-in-Err-LogFull-clause-stopped : goal.returns-i
 returns-in_err-refused_number-in-Err-LogFull-clause-stopped g c = λ told w fits.
     let arm = c.in-Err-LogFull in
     let full = arm.ensures.full arm.length (ap (λ (f : CommitFault). Err f) arm.field-0-is) in
-    on_err _ _ (λ other. left_same g.P.Plant _ c.args.plant.now c.commit.new.plant w.state (c.commit.ensures.over_same (subst (λ (n : ℕ). 268435456 < n) full.1 full.0)) c.requires (λ _. fits.state))
+    on_stop stops.Plant _ _ (λ other. left_same g.P.Plant _ c.args.plant.now c.commit.new.plant w.state (c.commit.ensures.over_same (subst (λ (n : ℕ). 268435456 < n) full.1 full.0)) c.requires (λ _. fits.state))
 
 pub returns-clause-stopped : goal.returns-clause-stopped
 returns-clause-stopped g c = λ told w fits other.

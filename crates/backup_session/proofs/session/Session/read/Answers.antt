@@ -10,7 +10,7 @@ use Rattle.backup_session.specs.declared.stops.Stop.TheVariants as stops
 use Rattle.dump_commands.specs.Ahead.{LeftAhead}
 use Rattle.plant_effects.specs.Runs.{Done}
 use Rattle.backup_session.proofs.Settling.{done_ahead}
-use Rattle.dump_commands.proofs.Stopping.{on_err, stopped_map, either, left_none, left_standing}
+use Rattle.dump_commands.proofs.Stopping.{on_stop, stopped_map, either, left_none, left_standing}
 use Rattle.backup_session.proofs.session.Session.read.Goals as goal
 
 pub returns-in_err-slot-clause-leaves : goal.returns-in_err-slot-clause-leaves
@@ -32,7 +32,7 @@ returns-in-Err-clause-turned g c = λ told w fits.
     subst (λ (r : Result ℕ (List ℕ)). TurnedPlant P w (read_turn w r) old old c.args.self.now c.new.result) is (only_said P w old c.args.self.now fits c.new.result c.in-Err.text c.requires c.new.ensures)
 
 pub returns-in_err-slot-clause-stopped : goal.returns-in_err-slot-clause-stopped
-returns-in_err-slot-clause-stopped g c = λ told w fits. on_err _ _ (λ other. left_standing g.P.Plant _ c.args.plant.now w.state c.requires (λ _. fits.state))
+returns-in_err-slot-clause-stopped g c = λ told w fits. on_stop stops.Plant _ _ (λ other. left_standing g.P.Plant _ c.args.plant.now w.state c.requires (λ _. fits.state))
 
 pub returns-in-Ok-clause-unfailed : goal.returns-in-Ok-clause-unfailed
 returns-in-Ok-clause-unfailed g c = λ other.

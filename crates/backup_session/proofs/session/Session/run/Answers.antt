@@ -13,7 +13,7 @@ use Rattle.backup_session.proofs.Silent.{plant_silent, dump_silent, somehow}
 use Rattle.std.specs.Prelude.{Err, OnErr}
 use Rattle.backup_session.specs.declared.stops.Stop.TheVariants as stops
 use Rattle.dump_commands.specs.Ahead.{LeftAhead}
-use Rattle.dump_commands.proofs.Stopping.{on_err, left_standing}
+use Rattle.dump_commands.proofs.Stopping.{on_stop, left_standing}
 use Rattle.backup_session.proofs.session.Session.run.Goals as goal
 
 pub returns-then-asks_cell-clause-turned : goal.returns-then-asks_cell-clause-turned
@@ -154,7 +154,7 @@ returns-then-asks_archive-clause-may g c = λ told seen w fits is. c.on_archive.
 
 pub returns-then-asks_cell-clause-stopped : goal.returns-then-asks_cell-clause-stopped
 returns-then-asks_cell-clause-stopped g c = λ told seen w fits scan.
-    on_err c.on_cell.result _ (λ other. left_standing g.P.Plant (done w c.args.command.now).effects c.args.plant.now w.state c.requires (λ _. fits.state))
+    on_stop stops.Plant c.on_cell.result _ (λ other. left_standing g.P.Plant (done w c.args.command.now).effects c.args.plant.now w.state c.requires (λ _. fits.state))
 
 pub returns-then-asks_archive-clause-stopped : goal.returns-then-asks_archive-clause-stopped
 returns-then-asks_archive-clause-stopped g c = λ told seen w fits scan.

@@ -5,7 +5,8 @@ use Rattle.backup_session.specs.Fitting.{FitsPlant}
 use Rattle.backup_session.proofs.Shortening.{short_leaves}
 use Rattle.std.specs.Prelude.{Err}
 use Rattle.budb.specs.declared.fault.CommitFault.{CommitFault}
-use Rattle.dump_commands.proofs.Stopping.{on_err, left_standing, left_same}
+use Rattle.dump_commands.proofs.Stopping.{on_stop, left_standing, left_same}
+use Rattle.backup_session.specs.declared.stops.Stop.TheVariants as stops
 use Rattle.backup_session.proofs.session.Session.shorten.Goals as goal
 
 pub returns-in_err-refused_number-in-Err-LogFull-clause-leaves : goal.returns-in_err-refused_number-in-Err-LogFull-clause-leaves
@@ -36,13 +37,13 @@ pub returns-in_err-done-clause-leaves : goal.returns-in_err-done-clause-leaves
 returns-in_err-done-clause-leaves g c = λ told w fits. nothing_left g.P.Plant _ c.args.plant.now (λ told survives image left. g.met.P.Plant.left c.args.plant.now image told c.requires survives left)
 
 pub returns-in_err-done-clause-stopped : goal.returns-in_err-done-clause-stopped
-returns-in_err-done-clause-stopped g c = λ told w fits. on_err _ _ (λ other. left_standing g.P.Plant _ c.args.plant.now w.state c.requires (λ _. fits.state))
+returns-in_err-done-clause-stopped g c = λ told w fits. on_stop stops.Plant _ _ (λ other. left_standing g.P.Plant _ c.args.plant.now w.state c.requires (λ _. fits.state))
 
 pub returns-in_err-refused_number-in-Err-LogFull-clause-stopped : goal.returns-in_err-refused_number-in-Err-LogFull-clause-stopped
 returns-in_err-refused_number-in-Err-LogFull-clause-stopped g c = λ told w fits.
     let arm = c.in-Err-LogFull in
     let full = arm.ensures.full arm.length (ap (λ (f : CommitFault). Err f) arm.field-0-is) in
-    on_err _ _ (λ other. left_same g.P.Plant _ c.args.plant.now c.checkpoint.new.plant w.state (c.checkpoint.ensures.over_same (subst (λ (n : ℕ). 268435456 < n) full.1 full.0)) c.requires (λ _. fits.state))
+    on_stop stops.Plant _ _ (λ other. left_same g.P.Plant _ c.args.plant.now c.checkpoint.new.plant w.state (c.checkpoint.ensures.over_same (subst (λ (n : ℕ). 268435456 < n) full.1 full.0)) c.requires (λ _. fits.state))
 
 pub returns-clause-stopped : goal.returns-clause-stopped
 returns-clause-stopped g c = λ told w fits other.

@@ -14,7 +14,7 @@ use Rattle.backup_replies.specs.Texts.{refused_number}
 use Rattle.backup_session.specs.Views.{SessionView}
 use Rattle.backup_session.specs.Tapes.{labeled}
 use Rattle.backup_session.proofs.Taking.{commit_leaves, full_turned, both_leave, both_turned}
-use Rattle.dump_commands.proofs.Stopping.{on_err, left_standing, left_same, only_that}
+use Rattle.dump_commands.proofs.Stopping.{on_stop, left_standing, left_same, only_that}
 use Rattle.std.proofs.lemmas.Result.{err_from_is_err_and}
 use Rattle.backup_session.specs.declared.stops.Stop.TheVariants as stops
 use Rattle.backup_session.proofs.session.Session.take_and_label.Goals as goal
@@ -125,13 +125,13 @@ returns-in_err-changes-clause-leaves g c = λ told w fits.
     nothing_left P (labeled w c.args.slot c.args.label.now (Take c.args.initial ∷ [])).effects old (λ told survives image left. g.met.P.Plant.left old image told c.requires.sound survives left)
 
 pub returns-in_err-changes-clause-stopped : goal.returns-in_err-changes-clause-stopped
-returns-in_err-changes-clause-stopped g c = λ told w fits. on_err _ _ (λ other. left_standing g.P.Plant _ c.args.plant.now w.state c.requires.sound (λ _. fits.state))
+returns-in_err-changes-clause-stopped g c = λ told w fits. on_stop stops.Plant _ _ (λ other. left_standing g.P.Plant _ c.args.plant.now w.state c.requires.sound (λ _. fits.state))
 
 pub returns-in_err-refused_number-in-Err-LogFull-clause-stopped : goal.returns-in_err-refused_number-in-Err-LogFull-clause-stopped
 returns-in_err-refused_number-in-Err-LogFull-clause-stopped g c = λ told w fits.
     let arm = c.in-Err-LogFull in
     let full = arm.ensures.full arm.length (ap (λ (f : CommitFault). Err f) arm.field-0-is) in
-    on_err _ _ (λ other. left_same g.P.Plant _ c.args.plant.now c.commit.new.plant w.state (c.commit.ensures.over_same (subst (λ (n : ℕ). 268435456 < n) full.1 full.0)) c.requires.sound (λ _. fits.state))
+    on_stop stops.Plant _ _ (λ other. left_same g.P.Plant _ c.args.plant.now c.commit.new.plant w.state (c.commit.ensures.over_same (subst (λ (n : ℕ). 268435456 < n) full.1 full.0)) c.requires.sound (λ _. fits.state))
 
 pub returns-clause-stopped : goal.returns-clause-stopped
 returns-clause-stopped g c = λ told w fits other.
@@ -145,4 +145,4 @@ returns-in_err-write_label-in-Ok-clause-unfailed g c =
 pub returns-in_err-write_label-in-Ok-clause-stopped : goal.returns-in_err-write_label-in-Ok-clause-stopped
 returns-in_err-write_label-in-Ok-clause-stopped g c = λ told w fits.
     let e = err_from_is_err_and c.from_residual-in_err-write_label-in-Ok.result c.from_residual-in_err-write_label-in-Ok.ensures.1 in
-    on_err _ _ (only_that stops.Plant _ c.from_residual-in_err-write_label-in-Ok.result _ (e.1 ∙ ap Err e.2) (c.in_err-write_label-in-Ok.ensures.failed))
+    on_stop stops.Plant _ _ (only_that stops.Plant _ c.from_residual-in_err-write_label-in-Ok.result _ (e.1 ∙ ap Err e.2) (c.in_err-write_label-in-Ok.ensures.failed))

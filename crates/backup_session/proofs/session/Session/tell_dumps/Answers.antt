@@ -9,7 +9,7 @@ use Rattle.backup_session.specs.Fitting.{Stepped}
 use Rattle.backup_session.proofs.ScanLaws.{said_stepped}
 use Rattle.backup_session.specs.declared.stops.Stop.TheVariants as stops
 use Rattle.dump_commands.specs.Ahead.{LeftAhead}
-use Rattle.dump_commands.proofs.Stopping.{on_err, left_standing}
+use Rattle.dump_commands.proofs.Stopping.{on_stop, left_standing}
 use Rattle.backup_session.proofs.session.Session.tell_dumps.Goals as goal
 
 pub returns-then-dbadd-clause-stepped : goal.returns-then-dbadd-clause-stepped
@@ -42,4 +42,4 @@ returns-then-dbadd-clause-stopped g c = λ told w fits.
     subst (λ (b : Bool). OnErr c.add_all.result (c.add_all.result ≢ Err stops.Plant → LeftAhead g.P.Plant (dumps_turn w b c.args.dumps.now).effects c.args.plant.now c.add_all.new.plant)) (sym c.if-dbadd.true) (c.add_all.ensures.stopped told w fits)
 
 pub returns-in_err-put_dumps-clause-stopped : goal.returns-in_err-put_dumps-clause-stopped
-returns-in_err-put_dumps-clause-stopped g c = λ told w fits. on_err _ _ (λ other. left_standing g.P.Plant _ c.args.plant.now w.state c.requires (λ _. fits.state))
+returns-in_err-put_dumps-clause-stopped g c = λ told w fits. on_stop stops.Plant _ _ (λ other. left_standing g.P.Plant _ c.args.plant.now w.state c.requires (λ _. fits.state))
