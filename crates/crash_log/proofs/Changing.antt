@@ -26,7 +26,7 @@ span_in a m at n file le =
 
 -- where there are bytes to read, the file has them
 pub fits_long : {D : Type 0} (needs : Needs) (moments : Moments D Image) (seen : D → Image) (log : LogState) (media : D) → FitsAs needs moments seen log media → 0 < log.size + log.more → log.start + (log.size + log.more) ≤ length ((seen media).file log.file)
-fits_long Nothing moments seen log media fits some = fits.put
+fits_long Nothing moments seen log media fits some = fits.ready.put
 fits_long Blank moments seen log media fits some = let none : log.size + log.more ≡ 0 = ap (λ (l : LogState). l.size + l.more) fits.empty in absurd (omega (arith, none, some))
 fits_long (Damaged first second) moments seen log media fits some = let none : log.size + log.more ≡ 0 = ap (λ (l : LogState). l.size + l.more) fits.empty in absurd (omega (arith, none, some))
 fits_long Stale moments seen log media fits some = omega (arith, fits.stands.within, fits.none)
@@ -43,13 +43,16 @@ module _ {D : Type 0} (moments : Moments D Image) (seen : D → Image) (log : Lo
   -- what leaves the file alone keeps the fit
   pub fits_kept_as : (needs : Needs) → FitsAs needs moments seen log old → FitsAs needs moments seen log new
   fits_kept_as Nothing fits = record {
-    fine = fits.fine;
-    put = moved_file (λ (l : List ℕ). log.start + (log.size + log.more) ≤ length l) fits.put;
-    stands = λ c left. let step = now c left in
-        moved_file (λ (l : List ℕ). Stands (base_of log) (place_in log) (settled_bytes log l) (c.file log.file))
-        (subst (λ (l : List ℕ). Stands (base_of log) (place_in log) (settled_bytes log ((seen old).file log.file)) l) (sym (alone step.from c step.step)) (fits.stands step.from step.was));
-    other = λ c left. let step = now c left in
-        subst (λ (l : List ℕ). Other log.other_open (other_of log) log.turn l) (sym (alone step.from c step.step)) (fits.other step.from step.was);
+    ready = record {
+      fine = fits.ready.fine;
+      put = moved_file (λ (l : List ℕ). log.start + (log.size + log.more) ≤ length l) fits.ready.put;
+      stands = λ c left. let step = now c left in
+          moved_file (λ (l : List ℕ). Stands (base_of log) (place_in log) (settled_bytes log l) (c.file log.file))
+          (subst (λ (l : List ℕ). Stands (base_of log) (place_in log) (settled_bytes log ((seen old).file log.file)) l) (sym (alone step.from c step.step)) (fits.ready.stands step.from step.was));
+      other = λ c left. let step = now c left in
+          subst (λ (l : List ℕ). Other log.other_open (other_of log) log.turn l) (sym (alone step.from c step.step)) (fits.ready.other step.from step.was);
+    };
+    quiet = λ none. still_kept (fits.quiet none);
   }
   fits_kept_as Blank fits = record { still = still_kept fits.still; short = moved_file (λ (l : List ℕ). length l < 8192) fits.short; empty = fits.empty }
   fits_kept_as (Damaged first second) fits = record {
@@ -78,7 +81,7 @@ fits_kept moments seen log old new R fits now alone same = fits_kept_as moments 
 -- each image has the settled log
 pub fits_has_log : {D : Type 0} (needs : Needs) (moments : Moments D Image) (seen : D → Image) (log : LogState) (media : D) → FitsAs needs moments seen log media → (a : Image) → moments.may_leave media a
     → log_of (a.file log.file) ≡ settled_bytes log ((seen media).file log.file)
-fits_has_log Nothing moments seen log media fits a was = ready_log moments seen log media fits a was
+fits_has_log Nothing moments seen log media fits a was = ready_log moments seen log media fits.ready a was
 fits_has_log Blank moments seen log media fits a was = ap log_of (fits.still a was) ∙ blank_log ((seen media).file log.file) fits.short ∙ sym (empty_settled log Blank ((seen media).file log.file) fits.empty)
 fits_has_log (Damaged first second) moments seen log media fits a was =
     ap log_of (fits.still a was) ∙ none_good ((seen media).file log.file) fits.first_bad fits.second_bad ∙ sym (empty_settled log (Damaged first second) ((seen media).file log.file) fits.empty)

@@ -20,7 +20,7 @@ use Rattle.crash_log.proofs.Slots.{stands_whole, short_whole}
 
 whole_as : {D : Type 0} (needs : Needs) (moments : Moments D Image) (seen : D → Image) (log : LogState) (media : D) → FitsAs needs moments seen log media → needs_mending needs ≡ false
     → (c : Image) → moments.may_leave media c → is_damaged (c.file log.file) ≡ false
-whole_as Nothing moments seen log media fits whole c left = ready_whole moments seen log media fits c left
+whole_as Nothing moments seen log media fits whole c left = ready_whole moments seen log media fits.ready c left
 whole_as Blank moments seen log media fits whole c left = ap is_damaged (fits.still c left) ∙ short_whole ((seen media).file log.file) fits.short
 whole_as (Damaged first second) moments seen log media fits whole c left = absurd (cc)
 whole_as Stale moments seen log media fits whole c left =
@@ -38,6 +38,12 @@ damaged_as Nothing moments seen log media fits damaged = absurd (cc)
 damaged_as Blank moments seen log media fits damaged = absurd (cc)
 damaged_as (Damaged first second) moments seen log media fits damaged = none_damaged ((seen media).file log.file) fits.long fits.first_bad fits.second_bad
 damaged_as Stale moments seen log media fits damaged = absurd (cc)
+
+quiet_as : {D : Type 0} (needs : Needs) (moments : Moments D Image) (seen : D → Image) (log : LogState) (media : D) → FitsAs needs moments seen log media → log.more ≡ 0 → IsStill moments seen log.file media
+quiet_as Nothing moments seen log media fits none = fits.quiet none
+quiet_as Blank moments seen log media fits none = fits.still
+quiet_as (Damaged first second) moments seen log media fits none = fits.still
+quiet_as Stale moments seen log media fits none = fits.still
 
 long_span : (at n : ℕ) (file : List ℕ) → (0 < n → at + n ≤ length file) → length (take n (drop at file)) ≡ n
 long_span at n file within = elim (cases_lt 0 n) [
@@ -69,6 +75,10 @@ module _ {D : Type 0} (moments : Moments D Image) (seen : D → Image) (log : Cr
   -- to a damaged one nothing was written
   pub still_damaged : damaged_of log ≡ true → IsStill moments seen (file_of log) media
   still_damaged damaged = still_as log.state.needs moments seen log.state media fits damaged
+
+  -- of one of which all is settled no write waits for a sync
+  pub still_settled : settled_of log ≡ length_of log → IsStill moments seen (file_of log) media
+  still_settled all = quiet_as log.state.needs moments seen log.state media fits (omega (arith, all))
 
   pub damaged_is : damaged_of log ≡ true → is_damaged ((seen media).file (file_of log)) ≡ true
   damaged_is damaged = damaged_as log.state.needs moments seen log.state media fits damaged

@@ -120,7 +120,7 @@ module _ {D : Type 0} (moments : Moments D Image) (seen : D → Image) (media : 
     -- both slots are good, and the other one yields
     pub opened_two : is_damaged file ≡ false → Yields other current.turn file → IsOpened moments seen f media (at_slot current is_second true Nothing f limit)
     opened_two sound yields = record {
-      fits = ready true yields;
+      fits = record { ready = ready true yields; quiet = λ none. still };
       bytes = more_none ∙ sym (names (inr yields));
       settled = sym (names (inr yields));
       damaged = sym sound;
@@ -143,7 +143,7 @@ module _ {D : Type 0} (moments : Moments D Image) (seen : D → Image) (media : 
       damaged = sym sound;
     }
     opened_one sound bad false is = record {
-      fits = ready false (λ is_one. let no : false ≡ true = sym is ∙ there.gate.1 is_one in absurd (cc));
+      fits = record { ready = ready false (λ is_one. let no : false ≡ true = sym is ∙ there.gate.1 is_one in absurd (cc)); quiet = λ none. still };
       bytes = more_none ∙ sym (names (inl bad));
       settled = sym (names (inl bad));
       damaged = sym sound;

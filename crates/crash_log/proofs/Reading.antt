@@ -4,7 +4,7 @@ use Rattle.crash_moments.specs.Moments.{Moments, Stepped}
 use Rattle.media_core.specs.Media.{Image}
 use Rattle.crash_log.specs.State.{base_of, other_of, place_in, settled_bytes}
 use Rattle.crash_log.specs.Log.{Place, gate_at}
-use Rattle.crash_log.specs.Fit.{Stands, Other, IsReady, IsStill, Fits, FitsAs, as_read}
+use Rattle.crash_log.specs.Fit.{Stands, Other, IsReady, IsSound, IsStill, Fits, FitsAs, as_read}
 use Rattle.crash_log.specs.Format.{Has}
 use Rattle.crash_log.specs.Turn.{IsNamed}
 use Rattle.crash_log.specs.declared.state.LogState.{LogState}
@@ -38,6 +38,9 @@ module _ {D : Type 0} (moments : Moments D Image) (seen : D → Image) (log : Lo
     other = λ c left. subst (λ (l : List ℕ). Other log.other_open (other_of log) log.turn l) (sym (still c left)) (ready.other (seen media) refl);
   }
 
+  pub sound_still : IsReady (as_read seen) seen log media → IsSound moments seen log media
+  sound_still ready = record { ready = ready_still ready; quiet = λ none. still }
+
   pub named_still : (p : Place) → IsNamed (as_read seen) seen log p media → IsNamed moments seen log p media
   named_still p named = record {
     closed = record {
@@ -51,7 +54,7 @@ module _ {D : Type 0} (moments : Moments D Image) (seen : D → Image) (log : Lo
   }
 
   fits_still_as : (needs : Needs) → FitsAs needs (as_read seen) seen log media → FitsAs needs moments seen log media
-  fits_still_as Nothing fits = ready_still fits
+  fits_still_as Nothing fits = sound_still fits.ready
   fits_still_as Blank fits = record { still = still; short = fits.short; empty = fits.empty }
   fits_still_as (Damaged first second) fits = record {
     still = still;

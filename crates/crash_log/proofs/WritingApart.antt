@@ -7,10 +7,10 @@ use Rattle.media_core.specs.Media.{Image, Torn, AtFile, Holds, written}
 use Rattle.media_core.specs.Laws.{written_torn}
 use Rattle.crash_log.specs.Log.{span, Place, place_of, gate_at, place_at, HasLog}
 use Rattle.crash_log.specs.State.{base_of, other_of, place_in, settled_bytes, with_more}
-use Rattle.crash_log.specs.Fit.{Stands, Other, IsReady, as_read}
+use Rattle.crash_log.specs.Fit.{Stands, Other, IsReady, IsSound, IsStill, as_read}
 use Rattle.crash_log.specs.declared.state.LogState.{LogState}
 use Rattle.crash_log.proofs.Reading.{step_read}
-use Rattle.crash_log.proofs.Spans.{torn_span, written_span}
+use Rattle.crash_log.proofs.Spans.{torn_span, torn_none, written_span}
 use Rattle.crash_log.proofs.Slots.{stands_log, stands_whole, yields_still}
 use Rattle.crash_log.proofs.Closing.{apart, other_low, is_other}
 
@@ -92,6 +92,13 @@ module _ {D : Type 0} (moments : Moments D Image) (seen : D → Image) (log : Lo
       other = λ c left. let step = now c left in other_then (step.from.file log.file) (c.file log.file) step.step.here (ready.other step.from step.was);
     }
 
+-- where there are no bytes, still no write waits for a sync
+pub wrote_none : {D : Type 0} (moments : Moments D Image) (seen : D → Image) (f : ℕ) (old mid : D) (at n : ℕ) → n ≡ 0 → Torn at n ((seen old).file f) ((seen mid).file f)
+    → ((c : Image) → moments.may_leave mid c → Stepped moments old (AtFile f (Torn at n)) c) → IsStill moments seen f old → IsStill moments seen f mid
+wrote_none moments seen f old mid at n none torn now still c left =
+    let step = now c left in
+    torn_none at n (step.from.file f) (c.file f) none step.step.here ∙ still step.from step.was ∙ sym (torn_none at n ((seen old).file f) ((seen mid).file f) none torn)
+
 -- as reads give it
 module _ {D : Type 0} (seen : D → Image) (log : LogState) (old mid : D) (at n : ℕ) (high : 8192 ≤ at) (clear : (at + n ≤ log.start) ⊎ (log.start + log.size ≤ at)) (ready : IsReady (as_read seen) seen log old) where
   pub wrote_reads : (bytes : List ℕ) (size : length bytes ≡ n) (within : at ≤ length ((seen old).file log.file)) → AtFile log.file (Holds at bytes) (seen old) (seen mid) → IsReady (as_read seen) seen log mid
@@ -101,5 +108,9 @@ module _ {D : Type 0} (seen : D → Image) (log : LogState) (old mid : D) (at n 
       (step_read seen old mid (AtFile log.file (Torn at n)) (record { here = here; others = written.others; told = written.told }))
 
 -- more was put
-pub more_ready : {D : Type 0} (moments : Moments D Image) (seen : D → Image) (log : LogState) (media : D) (n : ℕ) → IsReady moments seen log media → log.start + (log.size + log.more) + n ≤ length ((seen media).file log.file) → IsReady moments seen (with_more log n) media
+more_ready : {D : Type 0} (moments : Moments D Image) (seen : D → Image) (log : LogState) (media : D) (n : ℕ) → IsReady moments seen log media → log.start + (log.size + log.more) + n ≤ length ((seen media).file log.file) → IsReady moments seen (with_more log n) media
 more_ready moments seen log media n ready long = record { fine = ready.fine; put = omega (arith, long); stands = ready.stands; other = ready.other }
+
+pub more_sound : {D : Type 0} (moments : Moments D Image) (seen : D → Image) (log : LogState) (media : D) (n : ℕ) → IsReady moments seen log media → log.start + (log.size + log.more) + n ≤ length ((seen media).file log.file)
+    → (log.more + n ≡ 0 → IsStill moments seen log.file media) → IsSound moments seen (with_more log n) media
+more_sound moments seen log media n ready long still = record { ready = more_ready moments seen log media n ready long; quiet = still }

@@ -41,7 +41,8 @@ settled_log log file = settled_bytes log.state file
 abbrev pub FitsIts : {D : Type 0} → (D → Image) → CrashLog → D → Type 0
 FitsIts seen log media = Fits (as_read seen) seen log.state media
 
--- It survives a crash: each image that a crash may leave has its settled log.
+-- It survives a crash: each image that a crash may leave has its settled log. Where all of it is settled no write to its file
+-- waits for a sync.
 abbrev pub Survives : {D : Type 0} → Moments D Image → (D → Image) → CrashLog → D → Type 0
 Survives moments seen log media = Fits moments seen log.state media
 

@@ -45,6 +45,11 @@ pub record IsReady {D : Type 0} (moments : Moments D Image) (seen : D → Image)
   pub stands : (c : Image) → moments.may_leave media c → Stands (base_of log) (place_in log) (settled_bytes log ((seen media).file log.file)) (c.file log.file)
   pub other : (c : Image) → moments.may_leave media c → Other log.other_open (other_of log) log.turn (c.file log.file)
 
+-- the same, and where nothing was put no write to the file waits for a sync
+pub record IsSound {D : Type 0} (moments : Moments D Image) (seen : D → Image) (log : LogState) (media : D) : Type 0 where
+  pub ready : IsReady moments seen log media
+  pub quiet : log.more ≡ 0 → IsStill moments seen log.file media
+
 -- the file is blank
 pub record IsBlank {D : Type 0} (moments : Moments D Image) (seen : D → Image) (log : LogState) (media : D) : Type 0 where
   pub still : IsStill moments seen log.file media
@@ -72,12 +77,13 @@ pub record IsStale {D : Type 0} (moments : Moments D Image) (seen : D → Image)
   pub other_bad : is_good (other_of log) ((seen media).file log.file) ≡ false
 
 abbrev pub FitsAs : {D : Type 0} → Needs → Moments D Image → (D → Image) → LogState → D → Type 0
-FitsAs Nothing moments seen log media = IsReady moments seen log media
+FitsAs Nothing moments seen log media = IsSound moments seen log media
 FitsAs Blank moments seen log media = IsBlank moments seen log media
 FitsAs (Damaged first second) moments seen log media = IsBad moments seen first second log media
 FitsAs Stale moments seen log media = IsStale moments seen log media
 
--- Each image that these moments may leave has the settled log, and reads give it with what was put.
+-- Each image that these moments may leave has the settled log, and reads give it with what was put. Where nothing was put no
+-- write to the file waits for a sync.
 abbrev pub Fits : {D : Type 0} → Moments D Image → (D → Image) → LogState → D → Type 0
 Fits moments seen log media = FitsAs log.needs moments seen log media
 

@@ -4,7 +4,7 @@ ghost use Rattle.crash_moments.specs.Moments.{Leads, HasCause};
 ghost use Rattle.media_core.specs.Media.{Image, AtFile};
 ghost use Rattle.crash_log.specs.Log.{span, HasLog, Any};
 ghost use Rattle.crash_log.specs.State.{settled_bytes};
-ghost use Rattle.crash_log.specs.Fit.{IsReady, as_read};
+ghost use Rattle.crash_log.specs.Fit.{IsReady, IsStill, as_read};
 
 use crate::state::{LogState, SLOTS};
 use media_core::{Failed, Media};
@@ -24,6 +24,7 @@ pub fn write_apart<M: Media>(
     requires within { M.tells → at ≤ length ((M.seen media.old).file log.now.file) }
     ensures ready { M.tells → OnOk result (IsReady (as_read M.seen) M.seen log.now media.new) }
     ensures survives { M.tells → IsReady M.time M.seen log.now media.old → OnOk result (IsReady M.time M.seen log.now media.new) }
+    ensures quiet { M.tells → IsStill M.time M.seen log.now.file media.old → length bytes.now ≡ 0 → OnOk result (IsStill M.time M.seen log.now.file media.new) }
     ensures bytes { M.tells → OnOk result (span at (length bytes.now) ((M.seen media.new).file log.now.file) ≡ bytes.now) }
     ensures long { M.tells → OnOk result (at + length bytes.now ≤ length ((M.seen media.new).file log.now.file)) }
     ensures before { M.tells → OnOk result ((a n : ℕ) → a + n ≤ at → span a n ((M.seen media.new).file log.now.file) ≡ span a n ((M.seen media.old).file log.now.file)) }

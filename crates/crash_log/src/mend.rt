@@ -4,7 +4,7 @@ ghost use Rattle.crash_moments.specs.Moments.{Leads, HasCause};
 ghost use Rattle.media_core.specs.Media.{Image, AtFile};
 ghost use Rattle.crash_log.specs.Log.{span, HasLog, Any};
 ghost use Rattle.crash_log.specs.State.{settled_bytes};
-ghost use Rattle.crash_log.specs.Fit.{Fits, IsBlank, IsBad, IsStale, IsReady, IsStill, SameLog, as_read};
+ghost use Rattle.crash_log.specs.Fit.{Fits, IsBlank, IsBad, IsStale, IsReady, IsSound, IsStill, SameLog, as_read};
 
 use crate::format::{format_blank, format_damaged};
 use crate::settle::settle;
@@ -35,7 +35,7 @@ pub fn mend<M: Media>(log: &LogState, media: &mut M) -> Result<(), Failed>
     requires here { IsTrue (M.present media.old log.now.file) }
     requires fits { M.tells → Fits (as_read M.seen) M.seen log.now media.old }
     ensures ready { M.tells → OnOk result (IsReady (as_read M.seen) M.seen log.now media.new) }
-    ensures survives { M.tells → Fits M.time M.seen log.now media.old → OnOk result (IsReady M.time M.seen log.now media.new) }
+    ensures survives { M.tells → Fits M.time M.seen log.now media.old → OnOk result (IsSound M.time M.seen log.now media.new) }
     ensures same { M.tells → OnOk result (SameLog log.now ((M.seen media.old).file log.now.file) ((M.seen media.new).file log.now.file)) }
     ensures frame { M.tells → OnOk result (AtFile log.now.file Any (M.seen media.old) (M.seen media.new)) }
     ensures told { M.tells → (M.seen media.new).told ≡ (M.seen media.old).told }

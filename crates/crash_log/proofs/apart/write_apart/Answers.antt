@@ -1,6 +1,6 @@
 use Rattle.std.proofs.Common.{length, refl}
 use Rattle.crash_log.specs.Fit.{as_read}
-use Rattle.crash_log.proofs.WritingApart.{writing, wrote_ready, wrote_reads, wrote_bytes, wrote_long, wrote_before, wrote_settled}
+use Rattle.crash_log.proofs.WritingApart.{writing, torn, wrote_ready, wrote_none, wrote_reads, wrote_bytes, wrote_long, wrote_before, wrote_settled}
 use Rattle.crash_log.proofs.apart.write_apart.Goals as goal
 
 pub returns-in_err-write-clause-crash : goal.returns-in_err-write-clause-crash
@@ -22,6 +22,13 @@ pub returns-clause-survives : goal.returns-clause-survives
 returns-clause-survives g c = λ told ready.
     let m = g.M.Media in
     wrote_ready m.time m.seen c.args.log.now c.args.media.now c.write.new.self c.args.at (length c.args.bytes.now) c.requires.low c.requires.apart ready c.args.bytes.now refl (c.requires.within told) (c.in_ok-write.ensures.written told).here (c.write.ensures.crash told).now
+
+pub returns-clause-quiet : goal.returns-clause-quiet
+returns-clause-quiet g c = λ told still none.
+    let m = g.M.Media in
+    wrote_none m.time m.seen c.args.log.now.file c.args.media.now c.write.new.self c.args.at (length c.args.bytes.now) none
+    (torn (as_read m.seen) m.seen c.args.log.now c.args.media.now c.write.new.self c.args.at (length c.args.bytes.now) c.requires.low c.requires.apart (c.requires.ready told) c.args.bytes.now refl (c.requires.within told) (c.in_ok-write.ensures.written told).here)
+    (c.write.ensures.crash told).now still
 
 pub returns-clause-bytes : goal.returns-clause-bytes
 returns-clause-bytes g c = λ told.

@@ -1,11 +1,11 @@
 use Rattle.std.proofs.Common.{subst}
-use Rattle.crash_log.specs.Fit.{FitsAs, IsBlank, IsBad, as_read}
+use Rattle.crash_log.specs.Fit.{FitsAs, IsSound, IsBlank, IsBad, as_read}
 use Rattle.crash_log.specs.Format.{IsFormatted}
 use Rattle.crash_log.specs.declared.state.Needs.{Needs}
 use Rattle.crash_log.specs.declared.state.Needs.TheVariants.{Blank, Damaged}
 use Rattle.crash_log.proofs.Closing.{idle}
 use Rattle.crash_log.proofs.Formatting.{formatted_ready, empty_same, empty_settled, as_settled}
-use Rattle.crash_log.proofs.Reading.{has_still, ready_still}
+use Rattle.crash_log.proofs.Reading.{has_still, sound_still}
 use Rattle.crash_log.proofs.mend.mend.Goals as goal
 
 pub format_damaged-requires-clause-bad : goal.format_damaged-requires-clause-bad
@@ -29,7 +29,14 @@ format_damaged-requires-clause-second g c = λ told.
 pub returns-in-Nothing-clause-crash : goal.returns-in-Nothing-clause-crash
 returns-in-Nothing-clause-crash g c = λ told fits.
     let m = g.M.Media in
-    idle m.time m.seen c.args.log.now c.args.media.now (subst (λ (n : Needs). FitsAs n m.time m.seen c.args.log.now c.args.media.now) c.in-Nothing.is fits)
+    let sound : IsSound m.time m.seen c.args.log.now c.args.media.now = subst (λ (n : Needs). FitsAs n m.time m.seen c.args.log.now c.args.media.now) c.in-Nothing.is fits in
+    idle m.time m.seen c.args.log.now c.args.media.now sound.ready
+
+pub returns-in-Nothing-clause-ready : goal.returns-in-Nothing-clause-ready
+returns-in-Nothing-clause-ready g c = λ told.
+    let m = g.M.Media in
+    let sound : IsSound (as_read m.seen) m.seen c.args.log.now c.args.media.now = subst (λ (n : Needs). FitsAs n (as_read m.seen) m.seen c.args.log.now c.args.media.now) c.in-Nothing.is (c.requires.fits told) in
+    sound.ready
 
 pub returns-in_err-format_blank-in-Blank-clause-crash : goal.returns-in_err-format_blank-in-Blank-clause-crash
 returns-in_err-format_blank-in-Blank-clause-crash g c = λ told fits.
@@ -86,7 +93,7 @@ returns-in_ok-format_blank-in-Blank-clause-survives g c = λ told fits.
     let now = c.format_blank.new.media in
     let blank : IsBlank m.time m.seen log c.args.media.now = subst (λ (n : Needs). FitsAs n m.time m.seen log c.args.media.now) c.in-Blank.is fits in
     let done = c.in_ok-format_blank-in-Blank.ensures in
-    formatted_ready m.time m.seen log Blank now blank.empty (has_still m.time m.seen IsFormatted log.file now (done.still told) (done.formatted told))
+    record { ready = formatted_ready m.time m.seen log Blank now blank.empty (has_still m.time m.seen IsFormatted log.file now (done.still told) (done.formatted told)); quiet = λ none. done.still told }
 
 pub returns-in_ok-format_damaged-in-Damaged-clause-survives : goal.returns-in_ok-format_damaged-in-Damaged-clause-survives
 returns-in_ok-format_damaged-in-Damaged-clause-survives g c = λ told fits.
@@ -97,10 +104,10 @@ returns-in_ok-format_damaged-in-Damaged-clause-survives g c = λ told fits.
     let second = c.in-Damaged.second_open in
     let bad : IsBad m.time m.seen first second log c.args.media.now = subst (λ (n : Needs). FitsAs n m.time m.seen log c.args.media.now) c.in-Damaged.is fits in
     let done = c.in_ok-format_damaged-in-Damaged.ensures in
-    formatted_ready m.time m.seen log (Damaged first second) now bad.empty (has_still m.time m.seen IsFormatted log.file now (done.still told) (done.formatted told))
+    record { ready = formatted_ready m.time m.seen log (Damaged first second) now bad.empty (has_still m.time m.seen IsFormatted log.file now (done.still told) (done.formatted told)); quiet = λ none. done.still told }
 
 pub returns-in_ok-close_stale-in-Stale-clause-survives : goal.returns-in_ok-close_stale-in-Stale-clause-survives
 returns-in_ok-close_stale-in-Stale-clause-survives g c = λ told fits.
     let m = g.M.Media in
     let done = c.in_ok-close_stale-in-Stale.ensures in
-    ready_still m.time m.seen c.args.log.now c.close_stale.new.media (done.still told) (done.ready told)
+    sound_still m.time m.seen c.args.log.now c.close_stale.new.media (done.still told) (done.ready told)
