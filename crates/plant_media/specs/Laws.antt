@@ -1,12 +1,14 @@
 -- The laws of a plant, of one over a media.
 use Rattle.std.proofs.Common.{◌≡◌, ◌≢◌, inl, inr, ℕ, ◌+◌, ◌-◌, ◌^◌, ◌<◌, ◌≤◌, Bool, List, length, take, Option, Some, IsTrue, sym, ◌∙◌, ap, subst, arith}
+use Rattle.std.proofs.lemmas.Bool.{cases_lt}
 use Rattle.crash_moments.specs.Moments.{Moments}
 use Rattle.media_core.specs.Media.{Image}
+use Rattle.media_core.specs.Still.{IsStill, AreStill}
 use Rattle.crash_moments.specs.Telling.{IsFront}
 use Rattle.crash_log.specs.CrashLog.{file_of, length_of, log_bytes, settled_of}
 use Rattle.crash_log.specs.declared.log.CrashLog.{CrashLog}
-use Rattle.crash_log.proofs.Fitting.{settled_front, settled_within, log_left, whole_left, bytes_long}
-use Rattle.plant_core.specs.Crashes.{State, IsTorn, IsWithin, LeftIn, settled_part}
+use Rattle.crash_log.proofs.Fitting.{settled_front, settled_within, log_left, whole_left, still_settled, bytes_long}
+use Rattle.plant_core.specs.Crashes.{State, IsTorn, IsSettled, IsWithin, LeftIn, settled_part}
 use Rattle.plant_core.specs.Stock.{Stock}
 use Rattle.plant_media.specs.Stock.{tape_of, journal_of, stock_of}
 use Rattle.plant_media.specs.Loaded.{TapeSuits, tape_in}
@@ -17,7 +19,7 @@ use Rattle.plant_media.specs.declared.tape.Tape.{Tape}
 use Rattle.plant_media.specs.Shown.{journal_whole}
 use Rattle.plant_media.specs.Slotting as slotting
 use Rattle.plant_media.specs.Counts.{few_in, few_loaded}
-use Rattle.plant_media.specs.Slotting.{at_loaded, shown_tape, shown_log, shown_told, shown_settled, shown_kept, one_stock, which, of_loaded, at_other, settled_other, loaded_counted, torn_left, settled_read}
+use Rattle.plant_media.specs.Slotting.{at_loaded, shown_tape, shown_log, shown_told, shown_settled, shown_kept, one_stock, which, of_loaded, at_other, settled_loaded, settled_other, loaded_counted, torn_left, settled_read}
 
 pub few : (n : ℕ) → n ≤ 65536 → n - 1 ≤ 65535
 few n le = omega arith
@@ -70,6 +72,32 @@ module _ {D : Type 0} (tells : Type 0) (moments : Moments D Image) (seen : D →
 
     pub others_whole : (k : ℕ) → loaded_of plant ≢ Some k → state.settled k ≡ length (state.tape k)
     others_whole k other = shown_settled plant.journal plant.tape image k ∙ settled_other plant.tape image k other ∙ ap length (sym (shown_tape plant.journal plant.tape image k ∙ at_other plant.tape image k other))
+
+    -- once all is settled, no write to a file waits for a sync
+    module _ (all : IsSettled state) where
+      journal_still : IsStill moments seen 0 plant.media
+      journal_still = subst (λ (f : ℕ). IsStill moments seen f plant.media) suits.journal.file
+          (still_settled moments seen plant.journal plant.media (suits.journal.fits told) (sym (shown_kept plant.journal plant.tape image) ∙ all.log ∙ sym log_counted))
+
+      tape_still : (k : ℕ) → IsStill moments seen (k + 1) plant.media
+      tape_still k = elim (which plant.tape k) [
+        | inl (t, is, slot) ↦
+            let suit : TapeSuits tells moments seen present t plant.media = of_loaded (λ t. TapeSuits tells moments seen present t plant.media) plant.tape t is suits.loaded in
+            let size : state.settled k ≡ t.settled = shown_settled plant.journal plant.tape image k ∙ ap (λ (o : Option Tape). settled_in o image k) is ∙ settled_loaded t image k (sym slot) in
+            let one : state.tape k ≡ tape_in t image = shown_tape plant.journal plant.tape image k ∙ ap (λ (o : Option Tape). tape_at o image k) is ∙ at_loaded t image k (sym slot) in
+            subst (λ (n : ℕ). IsStill moments seen (n + 1) plant.media) slot (suit.still told (sym size ∙ all.tapes k ∙ ap length one ∙ sym (suit.counted told)))
+        | inr other ↦ suits.others told k other
+      ]
+
+      pub files_still : AreStill moments seen plant.media
+      files_still f = elim (cases_lt 0 f) [
+        | inl some ↦
+            let next : (f - 1) + 1 ≡ f = omega (arith, some) in
+            subst (λ (n : ℕ). IsStill moments seen n plant.media) next (tape_still (f - 1))
+        | inr none ↦
+            let first : 0 ≡ f = omega (arith, none) in
+            subst (λ (n : ℕ). IsStill moments seen n plant.media) first journal_still
+      ]
 
     log_front : (c : Image) → moments.may_leave plant.media c → journal_of (c.file 0) ≡ Some (take state.log_settled state.log)
     log_front c left =
