@@ -2,6 +2,7 @@ mod TellLaws
 mod InputLaws
 pub mod ImageLaws
 mod Lowering
+mod StillLaws
 mod TapeCounts
 mod ArchiveLaws
 mod CourseLaws

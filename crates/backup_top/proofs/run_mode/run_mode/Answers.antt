@@ -1,14 +1,17 @@
 use Rattle.std.proofs.Common.{[], refl, sym, subst}
 use Rattle.std.specs.Str.Lines.{lines}
 use Rattle.crash_moments.proofs.Joining.{stays}
+use Rattle.media_core.specs.Still.{AreStill}
 use Rattle.plant_media.specs.Stock.{stock_of}
 use Rattle.tape_config.specs.Configs.{Settings}
 use Rattle.budb_changes.specs.Bytes.{encoded}
 use Rattle.backup_script.specs.Scripts.{between}
 use Rattle.backup_script.proofs.StageLaws.{stage_front}
+use Rattle.session_archives.specs.Held.{HoldsWorld}
 use Rattle.backup_top.specs.declared.status.Status.{Status}
-use Rattle.backup_top.specs.Courses.{Course, course, course_of, FindsHeld, Runs, TellsLines, TakesBy, CellAtStage, EndsAt, LeavesImages, outcome}
+use Rattle.backup_top.specs.Courses.{Course, course, course_of, FindsHeld, FindsFit, Runs, TellsLines, TakesBy, CellAtStage, EndsAt, LeavesImages, outcome}
 use Rattle.backup_top.proofs.Lowering.{still_left, nothing_since, nothing_same, untold_to}
+use Rattle.backup_top.proofs.StillLaws.{IsWhole, not_configured}
 use Rattle.backup_top.proofs.TapeCounts.{has_tapes}
 use Rattle.backup_top.proofs.CourseLaws.{OpenedForms, has_forms, settings_same, config_lines, takes_config, journaled, images_of, ends_front, runs_front}
 use Rattle.backup_top.proofs.run_mode.run_mode.Goals as goal
@@ -93,3 +96,16 @@ returns-in-Err-clause-same_files g c = record { same_count = refl; same_present 
 
 pub returns-in-Err-clause-refused_log_images : goal.returns-in-Err-clause-refused_log_images
 returns-in-Err-clause-refused_log_images g c = λ told none. nothing_same g.M.Media.time g.M.Media.seen c.args.media [] c.args.media (stays g.M.Media.time c.args.media)
+
+pub returns-in-Ok-clause-still : goal.returns-in-Ok-clause-still
+returns-in-Ok-clause-still g c = λ told tells_cell tells_clock source still entry contents.
+    let M = g.M.Media in
+    let n = c.run_media.new in
+    subst (λ (s : Settings). let k : Course = course M.seen M.count M.present s entry.journal.log contents c.args.media c.run_media.result.1 (g.C.Cell.list c.args.cell.now) (g.C.Cell.list n.cell) (g.K.Clock.moments c.args.clock.now) (g.K.Clock.moments n.clock) (g.S.Source.left c.args.source.now) (g.S.Source.left n.source) in
+    FindsHeld k → HoldsWorld k.world → FindsFit k → IsWhole c.run_media.result.0 → AreStill M.time M.seen c.run_media.result.1)
+    (settings_same c.args.config.now c.in-Ok.config entry.settings c.in-Ok.ensures entry.says)
+    (c.run_media.ensures.still told tells_cell tells_clock source still c.args.config.now c.in-Ok.ensures entry.journal contents)
+
+pub returns-in-Err-clause-still : goal.returns-in-Err-clause-still
+returns-in-Err-clause-still g c = λ told tells_cell tells_clock source still entry contents held at_entry asked whole.
+    absurd (not_configured c.in-Err.fault (subst IsWhole c.of_config.ensures whole))

@@ -10,6 +10,7 @@ use Rattle.budb_changes.specs.Bytes.{encoded}
 use Rattle.budb_changes.specs.Forms.{IsLog}
 use Rattle.backup_session.specs.Worlds.{World}
 use Rattle.backup_session.specs.Opening.{opened}
+use Rattle.backup_session.proofs.Settling.{settled_alike}
 use Rattle.backup_script.specs.Scripts.{between, script, IsStage}
 use Rattle.backup_script.specs.Held.{IsHeldThroughout}
 use Rattle.backup_script.proofs.StageLaws.{stage_front}
@@ -19,6 +20,7 @@ use Rattle.backup_top.specs.declared.status.Status.{Status}
 use Rattle.backup_top.specs.declared.status.Status.TheVariants.{MediaFault}
 use Rattle.backup_top.specs.Courses.{Course, course, outcome, at_rest, Runs, TellsLines, TakesBy, RefusesJournal, HasCauseAs}
 use Rattle.backup_top.proofs.Lowering.{opened_rests, shown_log, journal_damaged, still_left, nothing_since, images_left, reads_past, none_some, same_files, shown_told, told_to, untold_to, nothing_same, images_same}
+use Rattle.backup_top.proofs.StillLaws.{IsWhole, not_opened, whole_ends}
 use Rattle.backup_top.proofs.TapeCounts.{has_tapes}
 use Rattle.backup_top.proofs.CourseLaws.{OpenedForms, has_forms, ready_for, AbsentStay, leaves_media, runs_of, runs_not_opened, journal_of_log, told_lines, opening_lines, takes_run, takes_opening, opening_later, bad_log_answer, cell_answer, plant_answer, refuses_journal, opening_bad, opening_cause, bad_journal, damaged_journal, journaled, images_of, ends_past, ends_front, runs_in, runs_front, left_whole}
 use Rattle.backup_top.proofs.running.run_media.Goals as goal
@@ -288,3 +290,35 @@ returns-in-Err-clause-cell_at_end g c = λ told tells_cell tells_clock source jo
     let back = c.in-Err.unopened.media in
     let k : Course = course M.seen M.count M.present c.args.config journal.log contents media back (g.C.Cell.list c.args.cell.now) (g.C.Cell.list c.args.cell.now) (g.K.Clock.moments c.args.clock.now) (g.K.Clock.moments c.args.clock.now) (g.S.Source.left c.args.source.now) (g.S.Source.left c.args.source.now) in
     record { stage = between [] k.world k.moments; on_the_way = stage_front [] k.world k.moments (lines k.input); is = refl; clock = refl; run = runs_front k refl; told = untold_to (stock_of (M.seen media)).told (stock_of (M.seen back)).told (ap (λ (image : Image). image.told) (c.in-Err.ensures.seen told)) }
+
+pub returns-in-Ok-clause-still : goal.returns-in-Ok-clause-still
+returns-in-Ok-clause-still g c = λ told tells_cell tells_clock source still named says journal contents held at_entry asked whole.
+    let M = g.M.Media in
+    let media = c.args.media in
+    let plant = c.in-Ok.plant in
+    let n = c.run_on-answer.new in
+    let r = c.run_on-answer.ensures in
+    let e = c.in-Ok.ensures in
+    let bytes = encoded journal.log in
+    let stock = stock_of (M.seen media) in
+    let shown = shown_of M.seen plant in
+    let log_is : shown.log ≡ bytes = shown_log bytes stock shown (e.stock told) journal.is in
+    let rests : at_rest bytes stock ≡ shown = opened_rests bytes stock shown (e.stock told) journal.is (e.settled told) in
+    let k : Course = course M.seen M.count M.present c.args.config journal.log contents media c.into_media.result (g.C.Cell.list c.args.cell.now) (g.C.Cell.list n.cell) (g.K.Clock.moments c.args.clock.now) (g.K.Clock.moments n.clock) (g.S.Source.left c.args.source.now) (g.S.Source.left n.source) in
+    let has = has_tapes k.world (M.present media) (M.seen media) (M.count media) refl refl (g.met.M.Media.here_below media) (g.met.M.Media.few_files media) in
+    let laws : OpenedForms = record { lines = c.opened_worlds_have_their_forms.ensures.lines; ready = c.opened_worlds_have_their_forms.ensures.ready; fit = c.opened_worlds_have_their_forms.ensures.fit } in
+    let forms = has_forms laws k named says has journal.form (g.met.C.Cell.is_cell c.args.cell.now tells_cell) (c.listed_is_allowed.ensures tells_cell) refl in
+    let same : opened (record { config = c.args.config; slots = M.count plant.media - 1; present = slots_here (M.present plant.media) }) journal.log (g.C.Cell.list c.args.cell.now) contents shown ≡ k.world
+    = λ i. opened (record { config = c.args.config; slots = e.count i - 1; present = slots_here (e.present i) }) journal.log (g.C.Cell.list c.args.cell.now) contents (sym rests i) in
+    let found = subst (λ (w : World). IsHeldThroughout w k.moments (lines k.input)) (sym same) held in
+    let first = opened (record { config = c.args.config; slots = M.count plant.media - 1; present = slots_here (M.present plant.media) }) journal.log (g.C.Cell.list c.args.cell.now) contents shown in
+    let done = script first k.moments (lines k.input) in
+    let ends = whole_ends _ g.C.Cell done plant n.plant n.cell k.left c.run_on-answer.result (subst IsWhole c.of_run.ensures whole)
+    (r.ran told tells_cell tells_clock source (e.settled told) journal.log journal.form log_is contents found) in
+    let behind : HoldsWorld done.world = c.scripts_keep_the_archive.ensures.behind first k.moments (lines k.input) (subst HoldsWorld (sym same) at_entry)
+    (subst (λ (w : World). IsReadyFor w k.moments (lines k.input)) (sym same) (ready_for k forms (lines k.input) asked)) in
+    c.into_media.ensures.still told (ends.done.survives told (e.survives told still)) (settled_alike done.world.state (shown_of M.seen n.plant) ends.state behind.settled)
+
+pub returns-in-Err-clause-still : goal.returns-in-Err-clause-still
+returns-in-Err-clause-still g c = λ told tells_cell tells_clock source still named says journal contents held at_entry asked whole.
+    absurd (not_opened c.in-Err.unopened.fault (subst IsWhole c.of_opening.ensures whole))

@@ -8,6 +8,7 @@ use Rattle.backup_script.proofs.StageLaws.{stage_front}
 use Rattle.backup_top.specs.Courses.{Course, course_of, outcome}
 use Rattle.backup_top.proofs.Lowering.{still_left, nothing_since, nothing_same, untold_to}
 use Rattle.plant_media.specs.Laws.{below}
+use Rattle.backup_top.proofs.StillLaws.{not_begun}
 use Rattle.backup_top.proofs.TapeCounts.{has_tapes}
 use Rattle.backup_top.proofs.ArchiveLaws.{holds_world}
 use Rattle.backup_top.proofs.CourseLaws.{OpenedForms, has_forms, ready_for, takes_nothing, journaled, images_of, ends_front, runs_front, never_refused, never_bad_log, complete_by}
@@ -113,3 +114,6 @@ returns-in-Ok-Run-clause-restores g c = λ runs entry contents. c.restores_look_
 
 pub returns-in-Ok-Run-clause-scans : goal.returns-in-Ok-Run-clause-scans
 returns-in-Ok-Run-clause-scans g c = λ runs entry contents. c.scans_list_what_is_whole.ensures _ _ _
+
+pub returns-in-Err-clause-still : goal.returns-in-Err-clause-still
+returns-in-Err-clause-still g c = λ runs told tells_cell tells_clock source still entry contents held at_entry asked whole. absurd (not_begun whole)
