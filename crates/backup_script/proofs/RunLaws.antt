@@ -48,6 +48,7 @@ module _ {D E : Type 0} (P : Plant D) (C : Cell E) where
     went_ends s session left went = record {
       done = done_both P [] s.effects old mid new first went.done;
       state = went.fits.state;
+      settled = went.fits.settled;
       form = went.fits.keeps.form;
       log = went.fits.keeps.is;
       cell = went.fits.cell;

@@ -2,7 +2,7 @@
 use Rattle.std.specs.Prelude.{◌≡◌, ◌⊎◌, ℕ, List, Result, Ok, Err, Bool}
 use Rattle.std.specs.Str.Lines.{lines}
 use Rattle.plant_core.specs.declared.plant.Plant.{Ghosts as Plant}
-use Rattle.plant_core.specs.Crashes.{Alike}
+use Rattle.plant_core.specs.Crashes.{Alike, IsSettled}
 use Rattle.plant_effects.specs.Runs.{state_of, Done}
 use Rattle.cell_core.specs.declared.cell.Cell.{Ghosts as Cell}
 use Rattle.tape_config.specs.Configs.{Settings}
@@ -21,10 +21,11 @@ use Rattle.backup_script.specs.Running.{Took, TookAll, TookToQuit, TookTooMany, 
 abbrev pub world_on : {D E : Type 0} → Plant D → Cell E → Settings → List Change → Contents → D → E → World
 world_on P C config log contents plant site = opened (record { config = config; slots = (P.view plant).slots; present = (P.view plant).present }) log (C.list site) contents (state_of P plant)
 
--- All of this was done, and plant, cell and clock are as they are behind it.
+-- All of this was done, plant, cell and clock are as they are behind it, and all that was put is settled.
 pub record Ends {D E : Type 0} (P : Plant D) (C : Cell E) (s : Outcome) (old new : D) (site : E) (left : List ℕ) : Type 0 where
   pub done : Done P s.effects old new
   pub state : Alike s.world.state (state_of P new)
+  pub settled : IsSettled s.world.state
   pub form : AreChanges s.world.log
   pub log : s.world.state.log ≡ encoded s.world.log
   pub cell : C.list site ≡ s.world.cell

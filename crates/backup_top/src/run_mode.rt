@@ -9,8 +9,7 @@ ghost use Rattle.tape_config.specs.declared.fault.ConfigFault.{ConfigFault as An
 ghost use Rattle.backup_top.specs.declared.status.Status.TheVariants.{Done, SomeRefused, Usage, ReadFault, MediaFault, CellFault, OutputFault, BadConfig, BadLog, Memory};
 ghost use Rattle.backup_top.specs.Answers.{config_status};
 ghost use Rattle.backup_session.specs.Worlds.{Contents};
-ghost use Rattle.session_archives.specs.Held.{HoldsWorld};
-ghost use Rattle.backup_top.specs.Courses.{course_of, Entry, Journal, IsBadLog, SameStock, IsRefusedAt, RefusesJournal, Runs, TellsLines, SameFiles, TakesBy, CellAtStage, EndsAt, LeavesImages, FindsHeld, FindsFit, outcome, HasCauseAs};
+ghost use Rattle.backup_top.specs.Courses.{course_of, Entry, Journal, IsBadLog, SameStock, IsRefusedAt, RefusesJournal, Runs, TellsLines, SameFiles, TakesBy, CellAtStage, EndsAt, LeavesImages, FindsHeld, outcome, HasCauseAs};
 
 use crate::running::run_media;
 use crate::status::Status;
@@ -45,7 +44,7 @@ pub fn run_mode<M: Media, C: Cell, K: Clock, S: Source>(
         FindsHeld c → EndsAt M.time M.seen media result.1 c }
     ensures still { M.tells → C.tells → K.tells → S.tells → AreStill M.time M.seen media → (entry : Entry config.now (stock_of (M.seen media))) → (contents : Contents)
         → let c = course_of M.seen M.count M.present contents media entry result.1 (C.list cell.old) (C.list cell.new) (K.moments clock.old) (K.moments clock.new) (S.left source.old) (S.left source.new) in
-        FindsHeld c → HoldsWorld c.world → FindsFit c → (result.0 ≡ Done) ⊎ (result.0 ≡ SomeRefused) → AreStill M.time M.seen result.1 }
+        FindsHeld c → (result.0 ≡ Done) ⊎ (result.0 ≡ SomeRefused) → AreStill M.time M.seen result.1 }
     ensures told_lines { M.tells → C.tells → TellsLines (stock_of (M.seen media)).told (stock_of (M.seen result.1)).told result.0 }
     ensures takes { S.tells → TakesBy (S.left source.old) (S.left source.new) result.0 }
     ensures bad_config { (line : ℕ) → result.0 ≡ BadConfig line → IsRefusedAt config.now line }

@@ -7,8 +7,7 @@ ghost use Rattle.plant_media.specs.Stock.{stock_of};
 ghost use Rattle.tape_config.specs.Configs.{config_of};
 ghost use Rattle.backup_top.specs.declared.status.Status.TheVariants.{Done, SomeRefused, ReadFault, MediaFault, CellFault, OutputFault, BadLog};
 ghost use Rattle.backup_session.specs.Worlds.{Contents};
-ghost use Rattle.session_archives.specs.Held.{HoldsWorld};
-ghost use Rattle.backup_top.specs.Courses.{course, Journal, IsBadLog, SameStock, IsRunStatus, RefusesJournal, Runs, TellsLines, SameFiles, TakesBy, CellAtStage, EndsAt, LeavesImages, FindsHeld, FindsFit, outcome, HasCauseAs};
+ghost use Rattle.backup_top.specs.Courses.{course, Journal, IsBadLog, SameStock, IsRunStatus, RefusesJournal, Runs, TellsLines, SameFiles, TakesBy, CellAtStage, EndsAt, LeavesImages, FindsHeld, outcome, HasCauseAs};
 
 use crate::status::Status;
 use crate::statuses::{of_opening, of_run};
@@ -44,7 +43,7 @@ pub fn run_media<M: Media, C: Cell, K: Clock, S: Source>(
         FindsHeld c → EndsAt M.time M.seen media result.1 c }
     ensures still { M.tells → C.tells → K.tells → S.tells → AreStill M.time M.seen media → (bytes : List ℕ) → config_of bytes ≡ Ok config → (journal : Journal (stock_of (M.seen media))) → (contents : Contents)
         → let c = course M.seen M.count M.present config journal.log contents media result.1 (C.list cell.old) (C.list cell.new) (K.moments clock.old) (K.moments clock.new) (S.left source.old) (S.left source.new) in
-        FindsHeld c → HoldsWorld c.world → FindsFit c → (result.0 ≡ Done) ⊎ (result.0 ≡ SomeRefused) → AreStill M.time M.seen result.1 }
+        FindsHeld c → (result.0 ≡ Done) ⊎ (result.0 ≡ SomeRefused) → AreStill M.time M.seen result.1 }
     ensures told_lines { M.tells → C.tells → TellsLines (stock_of (M.seen media)).told (stock_of (M.seen result.1)).told result.0 }
     ensures takes { S.tells → TakesBy (S.left source.old) (S.left source.new) result.0 }
     ensures bad_log { M.tells → (at : ℕ) → result.0 ≡ BadLog at → IsBadLog (stock_of (M.seen media)).log at }

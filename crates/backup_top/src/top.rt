@@ -220,11 +220,10 @@ pub fn run<M: Media, C: Cell, K: Clock, S: Source>(
         → let c = course_of M.seen M.count M.present contents media entry result.1 (C.list cell.old) (C.list cell.new) (K.moments clock.old) (K.moments clock.new) (S.left source.old) (S.left source.new) in
         FindsHeld c → EndsAt M.time M.seen media result.1 c }
     // Behind a script that was run to its end no write waits for a sync on the media that are handed back, where none waited at the entry: so a
-    // next run on them finds what `images` and `ends` ask. The media held the archive at the entry, and a script that dumps found a world that
-    // is fit for it.
+    // next run on them finds what `images` and `ends` ask.
     ensures still { asked words.now.items ≡ Run → M.tells → C.tells → K.tells → S.tells → AreStill M.time M.seen media → (entry : Entry config.now (stock_of (M.seen media))) → (contents : Contents)
         → let c = course_of M.seen M.count M.present contents media entry result.1 (C.list cell.old) (C.list cell.new) (K.moments clock.old) (K.moments clock.new) (S.left source.old) (S.left source.new) in
-        FindsHeld c → HoldsWorld c.world → FindsFit c → (result.0 ≡ Done) ⊎ (result.0 ≡ SomeRefused) → AreStill M.time M.seen result.1 }
+        FindsHeld c → (result.0 ≡ Done) ⊎ (result.0 ≡ SomeRefused) → AreStill M.time M.seen result.1 }
     // Also where a write waited for a sync at the entry, the cell has the list of a stage of the script, the clock has its moments left, and no
     // more was told than the effects of this stage tell: so the cell has the changes of each command whose reply was told.
     ensures cell_at_end { asked words.now.items ≡ Run → M.tells → C.tells → K.tells → S.tells → (entry : Entry config.now (stock_of (M.seen media))) → (contents : Contents)

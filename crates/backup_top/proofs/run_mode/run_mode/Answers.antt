@@ -7,9 +7,8 @@ use Rattle.tape_config.specs.Configs.{Settings}
 use Rattle.budb_changes.specs.Bytes.{encoded}
 use Rattle.backup_script.specs.Scripts.{between}
 use Rattle.backup_script.proofs.StageLaws.{stage_front}
-use Rattle.session_archives.specs.Held.{HoldsWorld}
 use Rattle.backup_top.specs.declared.status.Status.{Status}
-use Rattle.backup_top.specs.Courses.{Course, course, course_of, FindsHeld, FindsFit, Runs, TellsLines, TakesBy, CellAtStage, EndsAt, LeavesImages, outcome}
+use Rattle.backup_top.specs.Courses.{Course, course, course_of, FindsHeld, Runs, TellsLines, TakesBy, CellAtStage, EndsAt, LeavesImages, outcome}
 use Rattle.backup_top.proofs.Lowering.{still_left, nothing_since, nothing_same, untold_to}
 use Rattle.backup_top.proofs.StillLaws.{IsWhole, not_configured}
 use Rattle.backup_top.proofs.TapeCounts.{has_tapes}
@@ -102,10 +101,10 @@ returns-in-Ok-clause-still g c = λ told tells_cell tells_clock source still ent
     let M = g.M.Media in
     let n = c.run_media.new in
     subst (λ (s : Settings). let k : Course = course M.seen M.count M.present s entry.journal.log contents c.args.media c.run_media.result.1 (g.C.Cell.list c.args.cell.now) (g.C.Cell.list n.cell) (g.K.Clock.moments c.args.clock.now) (g.K.Clock.moments n.clock) (g.S.Source.left c.args.source.now) (g.S.Source.left n.source) in
-    FindsHeld k → HoldsWorld k.world → FindsFit k → IsWhole c.run_media.result.0 → AreStill M.time M.seen c.run_media.result.1)
+    FindsHeld k → IsWhole c.run_media.result.0 → AreStill M.time M.seen c.run_media.result.1)
     (settings_same c.args.config.now c.in-Ok.config entry.settings c.in-Ok.ensures entry.says)
     (c.run_media.ensures.still told tells_cell tells_clock source still c.args.config.now c.in-Ok.ensures entry.journal contents)
 
 pub returns-in-Err-clause-still : goal.returns-in-Err-clause-still
-returns-in-Err-clause-still g c = λ told tells_cell tells_clock source still entry contents held at_entry asked whole.
+returns-in-Err-clause-still g c = λ told tells_cell tells_clock source still entry contents held whole.
     absurd (not_configured c.in-Err.fault (subst IsWhole c.of_config.ensures whole))

@@ -292,7 +292,7 @@ returns-in-Err-clause-cell_at_end g c = λ told tells_cell tells_clock source jo
     record { stage = between [] k.world k.moments; on_the_way = stage_front [] k.world k.moments (lines k.input); is = refl; clock = refl; run = runs_front k refl; told = untold_to (stock_of (M.seen media)).told (stock_of (M.seen back)).told (ap (λ (image : Image). image.told) (c.in-Err.ensures.seen told)) }
 
 pub returns-in-Ok-clause-still : goal.returns-in-Ok-clause-still
-returns-in-Ok-clause-still g c = λ told tells_cell tells_clock source still named says journal contents held at_entry asked whole.
+returns-in-Ok-clause-still g c = λ told tells_cell tells_clock source still named says journal contents held whole.
     let M = g.M.Media in
     let media = c.args.media in
     let plant = c.in-Ok.plant in
@@ -305,9 +305,6 @@ returns-in-Ok-clause-still g c = λ told tells_cell tells_clock source still nam
     let log_is : shown.log ≡ bytes = shown_log bytes stock shown (e.stock told) journal.is in
     let rests : at_rest bytes stock ≡ shown = opened_rests bytes stock shown (e.stock told) journal.is (e.settled told) in
     let k : Course = course M.seen M.count M.present c.args.config journal.log contents media c.into_media.result (g.C.Cell.list c.args.cell.now) (g.C.Cell.list n.cell) (g.K.Clock.moments c.args.clock.now) (g.K.Clock.moments n.clock) (g.S.Source.left c.args.source.now) (g.S.Source.left n.source) in
-    let has = has_tapes k.world (M.present media) (M.seen media) (M.count media) refl refl (g.met.M.Media.here_below media) (g.met.M.Media.few_files media) in
-    let laws : OpenedForms = record { lines = c.opened_worlds_have_their_forms.ensures.lines; ready = c.opened_worlds_have_their_forms.ensures.ready; fit = c.opened_worlds_have_their_forms.ensures.fit } in
-    let forms = has_forms laws k named says has journal.form (g.met.C.Cell.is_cell c.args.cell.now tells_cell) (c.listed_is_allowed.ensures tells_cell) refl in
     let same : opened (record { config = c.args.config; slots = M.count plant.media - 1; present = slots_here (M.present plant.media) }) journal.log (g.C.Cell.list c.args.cell.now) contents shown ≡ k.world
     = λ i. opened (record { config = c.args.config; slots = e.count i - 1; present = slots_here (e.present i) }) journal.log (g.C.Cell.list c.args.cell.now) contents (sym rests i) in
     let found = subst (λ (w : World). IsHeldThroughout w k.moments (lines k.input)) (sym same) held in
@@ -315,10 +312,8 @@ returns-in-Ok-clause-still g c = λ told tells_cell tells_clock source still nam
     let done = script first k.moments (lines k.input) in
     let ends = whole_ends _ g.C.Cell done plant n.plant n.cell k.left c.run_on-answer.result (subst IsWhole c.of_run.ensures whole)
     (r.ran told tells_cell tells_clock source (e.settled told) journal.log journal.form log_is contents found) in
-    let behind : HoldsWorld done.world = c.scripts_keep_the_archive.ensures.behind first k.moments (lines k.input) (subst HoldsWorld (sym same) at_entry)
-    (subst (λ (w : World). IsReadyFor w k.moments (lines k.input)) (sym same) (ready_for k forms (lines k.input) asked)) in
-    c.into_media.ensures.still told (ends.done.survives told (e.survives told still)) (settled_alike done.world.state (shown_of M.seen n.plant) ends.state behind.settled)
+    c.into_media.ensures.still told (ends.done.survives told (e.survives told still)) (settled_alike done.world.state (shown_of M.seen n.plant) ends.state ends.settled)
 
 pub returns-in-Err-clause-still : goal.returns-in-Err-clause-still
-returns-in-Err-clause-still g c = λ told tells_cell tells_clock source still named says journal contents held at_entry asked whole.
+returns-in-Err-clause-still g c = λ told tells_cell tells_clock source still named says journal contents held whole.
     absurd (not_opened c.in-Err.unopened.fault (subst IsWhole c.of_opening.ensures whole))

@@ -116,4 +116,4 @@ pub returns-in-Ok-Run-clause-scans : goal.returns-in-Ok-Run-clause-scans
 returns-in-Ok-Run-clause-scans g c = λ runs entry contents. c.scans_list_what_is_whole.ensures _ _ _
 
 pub returns-in-Err-clause-still : goal.returns-in-Err-clause-still
-returns-in-Err-clause-still g c = λ runs told tells_cell tells_clock source still entry contents held at_entry asked whole. absurd (not_begun whole)
+returns-in-Err-clause-still g c = λ runs told tells_cell tells_clock source still entry contents held whole. absurd (not_begun whole)
