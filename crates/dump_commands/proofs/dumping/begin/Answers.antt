@@ -1,4 +1,5 @@
 use Rattle.dump_job.specs.Beginning.{first_tape}
+use Rattle.dump_job.specs.declared.fields.JobFields.{JobFields}
 use Rattle.dump_commands.proofs.Checks.{told_not}
 use Rattle.tape_scan.specs.Looking.{Loads}
 use Rattle.dump_commands.proofs.Stopping.{search_stopped}
@@ -9,4 +10,4 @@ returns-in-Ok-pass_on-clause-never g c = λ told slots whole t has are found.
     absurd (told_not (first_tape c.args.budb.now.database slots whole c.args.order (g.P.Plant.view c.args.plant.now).log_size) t c.in-Err.fault c.in-Ok-pass_on.refusal found c.in-Ok-pass_on.ensures (c.in-Err.ensures.refused told slots whole has are))
 
 pub returns-in-Err-pass_on-clause-stopped : goal.returns-in-Err-pass_on-clause-stopped
-returns-in-Err-pass_on-clause-stopped g c = search_stopped _ (Loads g.P.Plant c.args.plant.now c.begin.new.plant) c.in-Err.fault c.in-Err-pass_on.stop c.in-Err-pass_on.ensures c.in-Err.ensures.loads
+returns-in-Err-pass_on-clause-stopped g c = search_stopped JobFields (Loads g.P.Plant c.args.plant.now c.begin.new.plant) c.in-Err.fault c.in-Err-pass_on.stop c.in-Err-pass_on.ensures c.in-Err.ensures.loads
