@@ -1,5 +1,5 @@
 -- A stop of a script's lines as the stop of its run.
-use Rattle.std.proofs.Common.{◌≡◌, ◌≢◌, ℕ, Bool, List, refl, ap, subst, Result, Err}
+use Rattle.std.proofs.Common.{◌≡◌, ◌≢◌, ℕ, Bool, List, [], refl, ap, subst, arith, Result, Err}
 use Rattle.crash_moments.specs.Moments.{HasCauseAt}
 use Rattle.backup_script.specs.declared.running.RunStop.{RunStop}
 use Rattle.backup_script.specs.declared.running.RunStop.TheVariants as runs
@@ -43,3 +43,16 @@ takes_told old new e runs.Plant on back never takes = took old new e (λ is. abs
 takes_told old new e runs.Cell on back never takes = took old new e (λ is. absurd (let x : runs.Cell ≡ runs.TooLong = back is in cc)) takes
 takes_told old new e runs.Output on back never takes = took old new e (λ is. absurd (let x : runs.Output ≡ runs.TooLong = back is in cc)) takes
 takes_told old new e runs.Memory on back never takes = took old new e (λ is. absurd (let x : runs.Memory ≡ runs.TooLong = back is in cc)) takes
+
+-- nothing was taken
+pub takes_nothing : (input : List ℕ) → TookToFault input input
+takes_nothing input = record { took = record { taken = []; is = refl; few = omega arith }; no_quit = refl }
+
+pub takes_none : (input : List ℕ) (f : RunStop) → f ≢ runs.TooLong → TakesBytes input input (Err f)
+takes_none input runs.TooLong short = absurd (short refl)
+takes_none input (runs.BadLog at) short = refl
+takes_none input runs.Read short = takes_nothing input
+takes_none input runs.Plant short = takes_nothing input
+takes_none input runs.Cell short = takes_nothing input
+takes_none input runs.Output short = takes_nothing input
+takes_none input runs.Memory short = takes_nothing input

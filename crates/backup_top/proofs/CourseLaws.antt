@@ -40,6 +40,7 @@ use Rattle.backup_script.specs.Scripts.{Outcome, script, Stage, between, IsStage
 use Rattle.backup_script.specs.Running.{Took, TookTooMany, TookToFault, JointFrom, Left, AreBegun, HasTold}
 use Rattle.backup_script.specs.Ended.{Ends, EndsShort, TakesBytes, IsRefusedLog}
 use Rattle.backup_script.proofs.StageLaws.{stage_front, stage_whole}
+use Rattle.backup_script.proofs.StopLaws.{takes_nothing}
 use Rattle.dump_forms.specs.Journals.{IsJournalAfter}
 use Rattle.script_journals.proofs.Following.{journal_front, journal_form, journal_bytes}
 use Rattle.backup_top.specs.declared.status.Status.{Status}
@@ -182,10 +183,6 @@ takes_run old new (Err stop.Cell) takes = takes
 takes_run old new (Err stop.Output) takes = takes
 takes_run old new (Err stop.Memory) takes = takes
 takes_run old new (Err (stop.BadLog at)) takes = takes
-
--- nothing
-pub takes_nothing : (input : List ℕ) → TookToFault input input
-takes_nothing input = record { took = record { taken = []; is = refl; few = omega arith }; no_quit = refl }
 
 pub takes_opening : (input : List ℕ) (fault : OpenFault) → TakesBy input input (opening_status fault)
 takes_opening input opening.Failed = takes_nothing input

@@ -9,7 +9,7 @@ use Rattle.backup_script.specs.declared.running.RunStop.TheVariants as runs
 use Rattle.backup_script.specs.declared.serving.ServeStop.TheVariants as serves
 use Rattle.backup_script.specs.declared.serving.ServeStop.{ServeStop}
 use Rattle.backup_script.proofs.AnswerLaws.{err_same}
-use Rattle.backup_script.proofs.StopLaws.{cause_told, takes_told}
+use Rattle.backup_script.proofs.StopLaws.{cause_told, takes_told, takes_none}
 use Rattle.backup_script.proofs.RunLaws.{opened_fits, told_behind, told_effects, no_contents, went_ends, short_ends, left_after, not_opened}
 use Rattle.backup_script.proofs.running.run_on.Goals as goal
 
@@ -93,6 +93,9 @@ pub returns-in-Ok-clause-takes : goal.returns-in-Ok-clause-takes
 returns-in-Ok-clause-takes g c = λ told.
     let s = c.serving_stop.ensures in
     takes_told _ _ _ c.serving_stop.result s.long s.long_back s.log (c.in-Err-run_script.ensures.takes told)
+
+pub returns-clause-takes : goal.returns-clause-takes
+returns-clause-takes g c = λ told. takes_none (g.S.Source.left c.args.source.now) c.opening_stop.result c.opening_stop.ensures.long
 
 pub returns-in-Ok-clause-order : goal.returns-in-Ok-clause-order
 returns-in-Ok-clause-order g c = λ stops tells_clock source many same.

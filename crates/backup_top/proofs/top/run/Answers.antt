@@ -11,7 +11,8 @@ use Rattle.plant_media.specs.Laws.{below}
 use Rattle.backup_top.proofs.StillLaws.{not_begun}
 use Rattle.backup_top.proofs.TapeCounts.{has_tapes}
 use Rattle.backup_top.proofs.ArchiveLaws.{holds_world}
-use Rattle.backup_top.proofs.CourseLaws.{OpenedForms, has_forms, ready_for, takes_nothing, journaled, images_of, ends_front, runs_front, never_refused, never_bad_log, complete_by}
+use Rattle.backup_script.proofs.StopLaws.{takes_nothing}
+use Rattle.backup_top.proofs.CourseLaws.{OpenedForms, has_forms, ready_for, journaled, images_of, ends_front, runs_front, never_refused, never_bad_log, complete_by}
 use Rattle.backup_top.proofs.top.run.Goals as goal
 
 pub returns-in-Err-clause-images : goal.returns-in-Err-clause-images
