@@ -366,6 +366,9 @@ module _ {D : Type 0} (P : Plant D) (w : World) (old : D) (session : SessionView
     pub dumps_leave : (new : D) → Leaves P (dumps_turn w dbadd found.whole).effects mid new → Leaves P (scan_turn w dbadd (Ok port)).effects old new
     dumps_leave new leaves = subst (λ (t : Turn). Leaves P t.effects old new) parts_are (leaves_ahead P [] (dumps_turn w dbadd found.whole).effects [] old mid new (loads_ahead P old mid w.state (λ _. fits.state) loads) (loads_leave_ahead P old mid w.state (λ _. fits.state) (leaves_loads P old mid loads)) leaves)
 
+    pub dumps_stopped : (new : D) → LeftAhead P (dumps_turn w dbadd found.whole).effects mid new → LeftAhead P (scan_turn w dbadd (Ok port)).effects old new
+    dumps_stopped new left = subst (λ (t : Turn). LeftAhead P t.effects old new) parts_are (left_behind P [] (dumps_turn w dbadd found.whole).effects old mid new (loads_ahead P old mid w.state (λ _. fits.state) loads) left)
+
     pub scan_turned : (new : D) (later : SessionView) (reply : ReplyView) (stops lines : List ℕ) → stops ≡ flat_map stopped_line tapes → Stepped P w (dumps_turn w dbadd found.whole) mid new later stops lines
         → reply.text ≡ lines ++ (flat_map left_line found.parts ++ ok_line) → TurnedPlant P w (scan_turn w dbadd (Ok port)) old new later reply
     scan_turned new later reply stops lines stops_are stepped text = subst (λ (t : Turn). TurnedPlant P w t old new later reply) parts_are (record {

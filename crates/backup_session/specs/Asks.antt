@@ -38,8 +38,3 @@ asks_tape command = false
 abbrev pub asks_dump : Command → Bool
 asks_dump (Dump volumeset dump portoffset append n) = true
 asks_dump command = false
-
--- a command that scans tapes
-abbrev pub asks_scan : Command → Bool
-asks_scan (Scantape dbadd portoffset) = true
-asks_scan command = false

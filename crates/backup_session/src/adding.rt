@@ -183,8 +183,10 @@ impl Session {
     ) -> Result<Reply, Stop>
         requires { P.sound plant.old }
         ensures sound { OnOk result (P.sound plant.new) }
+        ensures unfailed { result ≢ Err Stop.Plant → P.sound plant.new }
         ensures turned { P.tells → (w : World) → FitsPlant P.Plant w plant.old self.old → IfOk result (λ reply. TurnedPlant P.Plant w (scan_turn w dbadd (Ok port.now)) plant.old plant.new self.new reply) }
         ensures leaves { P.tells → (w : World) → FitsPlant P.Plant w plant.old self.old → Leaves P.Plant (scan_turn w dbadd (Ok port.now)).effects plant.old plant.new }
+        ensures stopped { P.tells → (w : World) → FitsPlant P.Plant w plant.old self.old → OnErr result (result ≢ Err Stop.Plant → LeftAhead P.Plant (scan_turn w dbadd (Ok port.now)).effects plant.old plant.new) }
         ensures stays { StaysQuiet P.Plant plant.old plant.new }
         ensures cause { HasCauseAt Stop.Plant (P.view plant.old).faults (P.view plant.new).faults result }
         ensures never { result ≢ Err Stop.Cell }
@@ -210,8 +212,10 @@ impl Session {
     ) -> Result<Reply, Stop>
         requires { P.sound plant.old }
         ensures sound { OnOk result (P.sound plant.new) }
+        ensures unfailed { result ≢ Err Stop.Plant → P.sound plant.new }
         ensures turned { P.tells → (w : World) → FitsPlant P.Plant w plant.old self.old → IfOk result (λ reply. TurnedPlant P.Plant w (scan_turn w dbadd (port_of w.setting.config (after w.log).hosts offset)) plant.old plant.new self.new reply) }
         ensures leaves { P.tells → (w : World) → FitsPlant P.Plant w plant.old self.old → Leaves P.Plant (scan_turn w dbadd (port_of w.setting.config (after w.log).hosts offset)).effects plant.old plant.new }
+        ensures stopped { P.tells → (w : World) → FitsPlant P.Plant w plant.old self.old → OnErr result (result ≢ Err Stop.Plant → LeftAhead P.Plant (scan_turn w dbadd (port_of w.setting.config (after w.log).hosts offset)).effects plant.old plant.new) }
         ensures stays { StaysQuiet P.Plant plant.old plant.new }
         ensures cause { HasCauseAt Stop.Plant (P.view plant.old).faults (P.view plant.new).faults result }
         ensures never { result ≢ Err Stop.Cell }

@@ -1,6 +1,6 @@
 //! The commands on labels.
 
-ghost use Rattle.std.specs.Prelude.{◌≡◌, ◌≢◌, [], ◌∷◌, ℕ, false, Some, Ok, Err, MatchOption, IfOk, OnOk, OnErr, IsTrue};
+ghost use Rattle.std.specs.Prelude.{◌≡◌, ◌≢◌, [], ◌∷◌, ℕ, Some, Ok, Err, MatchOption, IfOk, OnOk, OnErr, IsTrue};
 ghost use Rattle.std.specs.List.{list_any};
 ghost use Rattle.std.specs.Option.{unwrap_or};
 ghost use Rattle.bk_text.specs.Alphabets.{IsTapeName};
@@ -11,7 +11,6 @@ ghost use Rattle.budb_changes.specs.declared.change.Change.TheVariants.{Take};
 ghost use Rattle.budb_fold.specs.Database.{after, is_initial};
 ghost use Rattle.backup_replies.specs.Labels.{labeled_lines};
 ghost use Rattle.dump_commands.specs.Ahead.{LeftAhead};
-ghost use Rattle.backup_session.specs.Asks.{asks_scan};
 ghost use Rattle.backup_session.specs.Worlds.{World};
 ghost use Rattle.backup_session.specs.Tapes.{slot_of, permanent_of, new_label, taken, labeled, label_turn, read_turn, tape_turn};
 
@@ -280,10 +279,10 @@ impl Session {
     ) -> Result<Reply, Stop>
         requires { P.sound plant.old }
         ensures sound { OnOk result (P.sound plant.new) }
-        ensures unfailed { asks_scan command.now ≡ false → result ≢ Err Stop.Plant → P.sound plant.new }
+        ensures unfailed { result ≢ Err Stop.Plant → P.sound plant.new }
         ensures turned { P.tells → (w : World) → FitsPlant P.Plant w plant.old self.old → IfOk result (λ reply. TurnedPlant P.Plant w (tape_turn w command.now) plant.old plant.new self.new reply) }
         ensures leaves { P.tells → (w : World) → FitsPlant P.Plant w plant.old self.old → Leaves P.Plant (tape_turn w command.now).effects plant.old plant.new }
-        ensures stopped { P.tells → (w : World) → FitsPlant P.Plant w plant.old self.old → asks_scan command.now ≡ false → OnErr result (result ≢ Err Stop.Plant → LeftAhead P.Plant (tape_turn w command.now).effects plant.old plant.new) }
+        ensures stopped { P.tells → (w : World) → FitsPlant P.Plant w plant.old self.old → OnErr result (result ≢ Err Stop.Plant → LeftAhead P.Plant (tape_turn w command.now).effects plant.old plant.new) }
         ensures stays { StaysQuiet P.Plant plant.old plant.new }
         ensures cause { HasCauseAt Stop.Plant (P.view plant.old).faults (P.view plant.new).faults result }
         ensures never { result ≢ Err Stop.Cell }

@@ -1,6 +1,6 @@
 //! Scanning a coordinator's tapes, and what is told of them.
 
-ghost use Rattle.std.specs.Prelude.{◌≡◌, ◌≢◌, [], ◌∷◌, ◌++◌, ◌≤◌, ℕ, List as AnyList, length, All, Ok, Err, IfOk, OnOk, IsTrue};
+ghost use Rattle.std.specs.Prelude.{◌≡◌, ◌≢◌, [], ◌∷◌, ◌++◌, ◌≤◌, ℕ, List as AnyList, length, All, Ok, Err, IfOk, OnOk, OnErr, IsTrue};
 ghost use Rattle.std.specs.List.{filter, flat_map, list_all};
 ghost use Rattle.crash_moments.specs.Moments.{HasCauseAt};
 ghost use Rattle.plant_effects.specs.Runs.{state_of, StaysQuiet};
@@ -77,6 +77,7 @@ fn scan_slot<P: Plant>(alloc: Global, plant: &mut P, slot: u32) -> Result<Sectio
     requires here { IsTrue ((P.view plant.old).present slot) }
     ensures sections { P.tells → IfOk result (λ sections. sections ≡ sections_of slot ((state_of P.Plant plant.old).tape slot)) }
     ensures loads { OnOk result (Loads P.Plant plant.old plant.new) }
+    ensures stopped { OnErr result (result ≢ Err Stop.Plant → Loads P.Plant plant.old plant.new) }
     ensures leaves { LeavesLoads P.Plant plant.old plant.new }
     ensures stays { StaysQuiet P.Plant plant.old plant.new }
     ensures cause { HasCauseAt Stop.Plant (P.view plant.old).faults (P.view plant.new).faults result }
@@ -101,6 +102,7 @@ pub(crate) fn scan_slots<P: Plant>(
     ensures tapes { P.tells → IfOk result (λ tapes. tapes ≡ scans_of (state_of P.Plant plant.old).tape slots.now) }
     ensures count { IfOk result (λ tapes. length tapes ≡ length slots.now) }
     ensures loads { OnOk result (Loads P.Plant plant.old plant.new) }
+    ensures stopped { OnErr result (result ≢ Err Stop.Plant → Loads P.Plant plant.old plant.new) }
     ensures leaves { LeavesLoads P.Plant plant.old plant.new }
     ensures stays { StaysQuiet P.Plant plant.old plant.new }
     ensures cause { HasCauseAt Stop.Plant (P.view plant.old).faults (P.view plant.new).faults result }

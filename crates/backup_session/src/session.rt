@@ -1,6 +1,6 @@
 //! The session: commands are decided, carried out on the plant or the cell, and answered.
 
-ghost use Rattle.std.specs.Prelude.{◌≡◌, ◌≢◌, ◌<◌, [], ℕ, true, false, List as AnyList, Ok, Err, OnOk, OnErr, IfOk, Contains, IsTrue};
+ghost use Rattle.std.specs.Prelude.{◌≡◌, ◌≢◌, ◌<◌, [], ℕ, true, List as AnyList, Ok, Err, OnOk, OnErr, IfOk, Contains, IsTrue};
 ghost use Rattle.crash_moments.specs.Moments.{HasCauseAt, Rose};
 ghost use Rattle.bk_text.specs.Places.{FailsAt};
 ghost use Rattle.budb_changes.specs.declared.change.Change.{Change as AnyChange};
@@ -62,7 +62,7 @@ impl Model for Session {
 
 impl Session {
     ghost use Rattle.backup_session.specs.Fitting.{Stands, TurnDone, SomeTurnDone, SomeRestore, OnTheWay, FitsPlant, TurnedPlant};
-    ghost use Rattle.backup_session.specs.Asks.{asks_archive, asks_scan};
+    ghost use Rattle.backup_session.specs.Asks.{asks_archive};
     ghost use Rattle.backup_session.specs.Restores.{MayRestore};
     ghost use Rattle.backup_session.specs.Opening.{opened, UnlessFailed, OpensOrLacksMemory};
     ghost use Rattle.backup_session.specs.Bounded.{HasTapes};
@@ -206,10 +206,10 @@ impl Session {
     ) -> Result<Reply, Stop>
         requires { P.sound plant.old }
         ensures sound { OnOk result (P.sound plant.new) }
-        ensures unfailed { asks_scan command.now ≡ false → result ≢ Err Stop.Plant → P.sound plant.new }
+        ensures unfailed { result ≢ Err Stop.Plant → P.sound plant.new }
         ensures turned { P.tells → (w : World) → FitsPlant P.Plant w plant.old self.old → IfOk result (λ reply. TurnedPlant P.Plant w (on_plant w command.now) plant.old plant.new self.new reply) }
         ensures leaves { P.tells → (w : World) → FitsPlant P.Plant w plant.old self.old → Leaves P.Plant (on_plant w command.now).effects plant.old plant.new }
-        ensures stopped { P.tells → (w : World) → FitsPlant P.Plant w plant.old self.old → asks_scan command.now ≡ false → OnErr result (result ≢ Err Stop.Plant → LeftAhead P.Plant (on_plant w command.now).effects plant.old plant.new) }
+        ensures stopped { P.tells → (w : World) → FitsPlant P.Plant w plant.old self.old → OnErr result (result ≢ Err Stop.Plant → LeftAhead P.Plant (on_plant w command.now).effects plant.old plant.new) }
         ensures stays { StaysQuiet P.Plant plant.old plant.new }
         ensures cause { HasCauseAt Stop.Plant (P.view plant.old).faults (P.view plant.new).faults result }
         ensures never { result ≢ Err Stop.Cell }
@@ -231,13 +231,13 @@ impl Session {
     ) -> Result<Reply, Stop>
         requires { P.sound plant.old }
         ensures sound { OnOk result (P.sound plant.new) }
-        ensures unfailed { asks_scan command.now ≡ false → result ≢ Err Stop.Plant → P.sound plant.new }
+        ensures unfailed { result ≢ Err Stop.Plant → P.sound plant.new }
         ensures turned { P.tells → C.tells → (w : World) → Stands P.Plant C.Cell w plant.old cell.old self.old → HeldFor w command.now → IfOk result (λ reply. TurnDone P.Plant C.Cell w (done w command.now) plant.old plant.new cell.new self.new reply) }
         ensures some_turn { P.tells → C.tells → (w : World) → Stands P.Plant C.Cell w plant.old cell.old self.old → IfOk result (λ reply. SomeTurnDone P.Plant C.Cell w plant.old plant.new cell.new self.new reply) }
         ensures some_restore { P.tells → C.tells → (w : World) → Stands P.Plant C.Cell w plant.old cell.old self.old → asks_archive command.now ≡ true → IfOk result (λ reply. SomeRestore P.Plant C.Cell w plant.old plant.new cell.new self.new reply) }
         ensures may { P.tells → C.tells → (w : World) → Stands P.Plant C.Cell w plant.old cell.old self.old → asks_archive command.now ≡ true → MayRestore (after w.log) w.time command.now w.cell (C.list cell.new) }
         ensures leaves { P.tells → C.tells → (w : World) → Stands P.Plant C.Cell w plant.old cell.old self.old → Leaves P.Plant (done w command.now).effects plant.old plant.new }
-        ensures stopped { P.tells → C.tells → (w : World) → Stands P.Plant C.Cell w plant.old cell.old self.old → asks_scan command.now ≡ false → OnErr result (result ≢ Err Stop.Plant → LeftAhead P.Plant (done w command.now).effects plant.old plant.new) }
+        ensures stopped { P.tells → C.tells → (w : World) → Stands P.Plant C.Cell w plant.old cell.old self.old → OnErr result (result ≢ Err Stop.Plant → LeftAhead P.Plant (done w command.now).effects plant.old plant.new) }
         ensures cells { P.tells → C.tells → (w : World) → Stands P.Plant C.Cell w plant.old cell.old self.old → HeldFor w command.now → OnTheWay w.cell (done w command.now).cells (C.list cell.new) }
         ensures stays { StaysQuiet P.Plant plant.old plant.new }
         ensures plant_cause { HasCauseAt Stop.Plant (P.view plant.old).faults (P.view plant.new).faults result }
@@ -258,7 +258,7 @@ impl Session {
     /// tapes as a plant has them, and `scantape -dbadd` lists in it what is whole on them, a dump that another journal has
     /// listed among it. A restore over tapes that hold no archive changes nothing but the cell, into which it puts, for each
     /// wanted volume in turn, one volume under the name that it gets, or none. A stop that isn't the plant's leaves a sound plant, with
-    /// the first so many effects of the command; of `scantape` this isn't said.
+    /// the first so many effects of the command.
     pub fn exec<P: Plant, C: Cell>(
         &mut self,
         alloc: Global,
@@ -269,11 +269,11 @@ impl Session {
     ) -> Result<Reply, Stop>
         requires { P.sound plant.old }
         ensures sound { OnOk result (P.sound plant.new) }
-        ensures unfailed { asks_scan command.now ≡ false → result ≢ Err Stop.Plant → P.sound plant.new }
+        ensures unfailed { result ≢ Err Stop.Plant → P.sound plant.new }
         ensures turned { P.tells → C.tells → (w : World) → Stands P.Plant C.Cell w plant.old cell.old self.old → HeldFor (at_moment w now) command.now → IfOk result (λ reply. TurnDone P.Plant C.Cell w (turn w now command.now) plant.old plant.new cell.new self.new reply) }
         ensures some_turn { P.tells → C.tells → (w : World) → Stands P.Plant C.Cell w plant.old cell.old self.old → IfOk result (λ reply. SomeTurnDone P.Plant C.Cell w plant.old plant.new cell.new self.new reply) }
         ensures leaves { P.tells → C.tells → (w : World) → Stands P.Plant C.Cell w plant.old cell.old self.old → Leaves P.Plant (turn w now command.now).effects plant.old plant.new }
-        ensures stopped { P.tells → C.tells → (w : World) → Stands P.Plant C.Cell w plant.old cell.old self.old → asks_scan command.now ≡ false → OnErr result (result ≢ Err Stop.Plant → LeftAhead P.Plant (turn w now command.now).effects plant.old plant.new) }
+        ensures stopped { P.tells → C.tells → (w : World) → Stands P.Plant C.Cell w plant.old cell.old self.old → OnErr result (result ≢ Err Stop.Plant → LeftAhead P.Plant (turn w now command.now).effects plant.old plant.new) }
         ensures cells { P.tells → C.tells → (w : World) → Stands P.Plant C.Cell w plant.old cell.old self.old → HeldFor (at_moment w now) command.now → OnTheWay w.cell (turn w now command.now).cells (C.list cell.new) }
         ensures some_restore { P.tells → C.tells → (w : World) → Stands P.Plant C.Cell w plant.old cell.old self.old → asks_archive command.now ≡ true → IfOk result (λ reply. SomeRestore P.Plant C.Cell (at_moment w now) plant.old plant.new cell.new self.new reply) }
         ensures may { P.tells → C.tells → (w : World) → Stands P.Plant C.Cell w plant.old cell.old self.old → asks_archive command.now ≡ true → MayRestore (after w.log) (at_moment w now).time command.now w.cell (C.list cell.new) }

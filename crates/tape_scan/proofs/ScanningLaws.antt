@@ -1,6 +1,6 @@
 -- What the code takes of a tape's items, record by record.
 use Rattle.std.proofs.Common.{◌≡◌, ℕ, zero, suc, ◌+◌, ◌<◌, ◌≤◌, Bool, Option, Some, None, List, [], ◌∷◌, ◌++◌, length, take, refl, sym, ap, subst, ◌∙◌, arith, inl, inr, length-take}
-use Rattle.std.specs.Prelude.{slice_get, nat_lt, ◌==◌, if◌then◌else◌}
+use Rattle.std.specs.Prelude.{Result, Err, slice_get, nat_lt, ◌==◌, if◌then◌else◌}
 use Rattle.std.proofs.lemmas.Bool.{cases_Bool, lt-ltb, le-ltb}
 use Rattle.plant_core.specs.Crashes.{State}
 use Rattle.plant_core.specs.Effects.{settles, come, putting_away}
@@ -26,6 +26,15 @@ stop_there place long lt = sym (ap (λ (b : Bool). if b then Some place else Non
 
 pub no_stop : (place long : ℕ) → long ≤ place → None ≡ (if nat_lt place long then Some place else None)
 no_stop place long le = sym (ap (λ (b : Bool). if b then Some place else None) (le-ltb place long le))
+
+-- ---- errors
+
+same_error : {T E : Type 0} (e f : E) → (let r : Result T E = Err e in r) ≡ Err f → e ≡ f
+same_error e f is = cc
+
+-- what is so at one error is so where that error is handed on
+pub handed_at : {T U E : Type 0} (one e : E) (r : Result U E) (Q : Type 0) → r ≡ Err e → ((let q : Result T E = Err e in q) ≡ Err one → Q) → r ≡ Err one → Q
+handed_at {E = E} one e r Q is next that = next (ap (λ (x : E). Err x) (same_error e one (sym is ∙ that)))
 
 -- ---- marks
 

@@ -1,6 +1,6 @@
 //! Scanning the tape in a slot.
 
-ghost use Rattle.std.specs.Prelude.{◌≡◌, ℕ, List as AnyList, [], Some, IfOk, OnOk, IsSome, IsTrue};
+ghost use Rattle.std.specs.Prelude.{◌≡◌, ℕ, List as AnyList, [], Some, Err, IfOk, OnOk, IsSome, IsTrue};
 ghost use Rattle.crash_moments.specs.Moments.{HasCauseAt};
 ghost use Rattle.plant_core.specs.Effects.{putting_away};
 ghost use Rattle.plant_effects.specs.Runs.{state_of, loaded_of, Done, Leaves, SameNumbers, StaysQuiet};
@@ -26,6 +26,8 @@ fn walk_tape<P: Plant>(alloc: Global, plant: &mut P) -> Result<(Walk, u32), Scan
     ensures done { OnOk result (Done P.Plant [] plant.old plant.new) }
     ensures leaves { Leaves P.Plant [] plant.old plant.new }
     ensures numbers { OnOk result (SameNumbers P.Plant plant.old plant.new) }
+    ensures memory { result ≡ Err ScanFault.Memory → Done P.Plant [] plant.old plant.new }
+    ensures memory_numbers { result ≡ Err ScanFault.Memory → SameNumbers P.Plant plant.old plant.new }
     ensures stays { StaysQuiet P.Plant plant.old plant.new }
     ensures cause { HasCauseAt ScanFault.Failed (P.view plant.old).faults (P.view plant.new).faults result }
 {
@@ -43,8 +45,8 @@ fn walk_tape<P: Plant>(alloc: Global, plant: &mut P) -> Result<(Walk, u32), Scan
 }
 
 /// Scans the tape in a slot that is here: what stands in its longest front that is a tape text, and the record that doesn't
-/// continue that. The tape is loaded, and what was put on the one before is settled; nothing else is changed. Each record
-/// up to the one where the scan stops is read once.
+/// continue that. The tape is loaded, and what was put on the one before is settled; nothing else is changed, also where
+/// memory was refused. Each record up to the one where the scan stops is read once.
 pub fn scan_tape<P: Plant>(alloc: Global, plant: &mut P, slot: u32) -> Result<Sections, ScanFault>
     requires sound { P.sound plant.old }
     requires here { IsTrue ((P.view plant.old).present slot) }
@@ -53,6 +55,8 @@ pub fn scan_tape<P: Plant>(alloc: Global, plant: &mut P, slot: u32) -> Result<Se
     ensures leaves { Leaves P.Plant (putting_away (loaded_of P.Plant plant.old) slot) plant.old plant.new }
     ensures loaded { OnOk result (loaded_of P.Plant plant.new ≡ Some slot) }
     ensures log_size { OnOk result ((P.view plant.new).log_size ≡ (P.view plant.old).log_size) }
+    ensures memory { result ≡ Err ScanFault.Memory → Done P.Plant (putting_away (loaded_of P.Plant plant.old) slot) plant.old plant.new }
+    ensures memory_log { result ≡ Err ScanFault.Memory → (P.view plant.new).log_size ≡ (P.view plant.old).log_size }
     ensures stays { StaysQuiet P.Plant plant.old plant.new }
     ensures cause { HasCauseAt ScanFault.Failed (P.view plant.old).faults (P.view plant.new).faults result }
 {

@@ -1,6 +1,6 @@
 //! Reading what a record of the loaded tape says.
 
-ghost use Rattle.std.specs.Prelude.{◌≡◌, ◌<◌, ℕ, [], Some, IfOk, OnOk, IsSome};
+ghost use Rattle.std.specs.Prelude.{◌≡◌, ◌<◌, ℕ, [], Some, Err, IfOk, OnOk, IsSome};
 ghost use Rattle.crash_moments.specs.Moments.{HasCauseAt};
 ghost use Rattle.plant_core.specs.Records.{block_with};
 ghost use Rattle.plant_effects.specs.Runs.{state_of, loaded_of, Done, Leaves, SameNumbers, StaysQuiet};
@@ -38,6 +38,8 @@ pub(crate) fn read_item<P: Plant>(
     ensures done { OnOk result (Done P.Plant [] plant.old plant.new) }
     ensures leaves { Leaves P.Plant [] plant.old plant.new }
     ensures numbers { OnOk result (SameNumbers P.Plant plant.old plant.new) }
+    ensures memory { result ≡ Err ScanFault.Memory → Done P.Plant [] plant.old plant.new }
+    ensures memory_numbers { result ≡ Err ScanFault.Memory → SameNumbers P.Plant plant.old plant.new }
     ensures stays { StaysQuiet P.Plant plant.old plant.new }
     ensures cause { HasCauseAt ScanFault.Failed (P.view plant.old).faults (P.view plant.new).faults result }
 {

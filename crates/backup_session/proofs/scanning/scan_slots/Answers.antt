@@ -1,10 +1,14 @@
 use Rattle.std.proofs.Common.{length-append, ℕ, ◌<◌, [], ◌∷◌, length, get_or, refl, sym, ◌∙◌, ap, subst, arith}
-use Rattle.std.specs.Prelude.{Bool, IsTrue}
+use Rattle.std.specs.Prelude.{Bool, Err, IsTrue}
+use Rattle.std.proofs.lemmas.Result.{err_from_is_err_and}
 use Rattle.std.proofs.lemmas.List.{take_all, take_more}
 use Rattle.std.proofs.lemmas.List.Elements.{All-get_or}
 use Rattle.plant_effects.specs.Runs.{state_of}
 use Rattle.plant_effects.proofs.Joining.{nothing_quiet, quiet_both}
+use Rattle.tape_scan.specs.Looking.{Loads}
 use Rattle.tape_scan.proofs.Looking.{loads_none, loads_both, leaves_after, leaves_loads}
+use Rattle.dump_commands.proofs.Stopping.{on_stop, handed}
+use Rattle.backup_session.specs.declared.stops.Stop.TheVariants as stops
 use Rattle.backup_session.specs.Scanning.{scans_of}
 use Rattle.backup_session.proofs.ScanLaws.{scan_again}
 use Rattle.backup_session.proofs.scanning.scan_slots.Goals as goal
@@ -50,6 +54,18 @@ loop-i-preserved g c =
 
 pub returns-in_err-sections-clause-leaves : goal.returns-in_err-sections-clause-leaves
 returns-in_err-sections-clause-leaves g c = leaves_after g.P.Plant c.args.plant.now c.loop-i.plant c.scan_slot.new.plant c.loop-i.invariant.loads c.scan_slot.ensures.leaves
+
+pub returns-in_err-sections-clause-stopped : goal.returns-in_err-sections-clause-stopped
+returns-in_err-sections-clause-stopped g c =
+    let P = g.P.Plant in
+    let mid = c.loop-i.plant in
+    let new = c.scan_slot.new.plant in
+    let e = err_from_is_err_and c.from_residual.result c.from_residual.ensures.1 in
+    on_stop stops.Plant _ _ (λ other. loads_both P c.args.plant.now mid new c.loop-i.invariant.loads
+    (handed stops.Plant _ c.from_residual.result (Loads P mid new) (e.1 ∙ ap Err e.2) c.in_err-sections.ensures.stopped other))
+
+pub returns-in_err-push-clause-stopped : goal.returns-in_err-push-clause-stopped
+returns-in_err-push-clause-stopped g c = on_stop stops.Plant _ _ (λ other. loads_both g.P.Plant c.args.plant.now c.loop-i.plant c.scan_slot.new.plant c.loop-i.invariant.loads c.in_ok-sections.ensures.loads)
 
 pub returns-in_err-push-clause-leaves : goal.returns-in_err-push-clause-leaves
 returns-in_err-push-clause-leaves g c = leaves_after g.P.Plant c.args.plant.now c.loop-i.plant c.scan_slot.new.plant c.loop-i.invariant.loads c.scan_slot.ensures.leaves

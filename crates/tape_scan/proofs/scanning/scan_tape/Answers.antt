@@ -1,15 +1,17 @@
 use Rattle.std.proofs.Common.{◌≡◌, ℕ, List, [], Option, Some, None, length, sym, ap, ◌∙◌, subst, arith, append-nil}
-use Rattle.std.specs.Prelude.{nat_lt, if◌then◌else◌}
+use Rattle.std.specs.Prelude.{Err, nat_lt, if◌then◌else◌}
+use Rattle.std.proofs.lemmas.Result.{err_from_is_err_and}
 use Rattle.plant_core.specs.Effects.{Effect, putting_away}
 use Rattle.plant_core.specs.Records.{Record}
-use Rattle.plant_effects.specs.Runs.{state_of, loaded_of, Leaves}
-use Rattle.plant_effects.proofs.Joining.{leaves_both}
+use Rattle.plant_effects.specs.Runs.{state_of, loaded_of, Done, Leaves, SameNumbers}
+use Rattle.plant_effects.proofs.Joining.{done_both, leaves_both}
 use Rattle.tape_text.specs.Items.{Read}
+use Rattle.tape_scan.specs.declared.sections.ScanFault.TheVariants as faults
 use Rattle.tape_scan.specs.declared.sections.Sections.{Sections}
 use Rattle.tape_scan.specs.Sections.{IsScanOf}
 use Rattle.tape_scan.specs.Steps.{sections_of}
 use Rattle.tape_scan.proofs.ReachedScan.{scan_is}
-use Rattle.tape_scan.proofs.ScanningLaws.{same_records, stop_there, no_stop, read_long}
+use Rattle.tape_scan.proofs.ScanningLaws.{handed_at, same_records, stop_there, no_stop, read_long}
 use Rattle.tape_scan.proofs.scanning.scan_tape.Goals as goal
 use Rattle.tape_scan.proofs.scanning.scan_tape.Goals.{then-place-tape_len, else-place-tape_len}
 
@@ -18,6 +20,24 @@ returns-in_err-walk-clause-leaves g c =
     let away = putting_away (loaded_of g.P.Plant c.args.plant.now) c.args.slot in
     subst (λ (es : List Effect). Leaves g.P.Plant es c.args.plant.now c.walk_tape.new.plant) (append-nil (putting_away (loaded_of g.P.Plant c.args.plant.now) c.args.slot))
     (leaves_both g.P.Plant away [] c.args.plant.now c.load_tape.new.plant c.walk_tape.new.plant c.in_ok-load_tape.ensures.done c.load_tape.ensures.leaves c.walk_tape.ensures.leaves)
+
+pub returns-in_err-walk-clause-memory : goal.returns-in_err-walk-clause-memory
+returns-in_err-walk-clause-memory g c = λ memory.
+    let P = g.P.Plant in
+    let away = putting_away (loaded_of g.P.Plant c.args.plant.now) c.args.slot in
+    let mid = c.load_tape.new.plant in
+    let new = c.walk_tape.new.plant in
+    let e = err_from_is_err_and c.from_residual-in_err-walk.result c.from_residual-in_err-walk.ensures.1 in
+    subst (λ (es : List Effect). Done P es c.args.plant.now new) (append-nil (putting_away (loaded_of g.P.Plant c.args.plant.now) c.args.slot))
+    (done_both P away [] c.args.plant.now mid new c.in_ok-load_tape.ensures.done
+    (handed_at faults.Memory _ c.from_residual-in_err-walk.result (Done P [] mid new) (e.1 ∙ ap Err e.2) c.in_err-walk.ensures.memory memory))
+
+pub returns-in_err-walk-clause-memory_log : goal.returns-in_err-walk-clause-memory_log
+returns-in_err-walk-clause-memory_log g c = λ memory.
+    let mid = c.load_tape.new.plant in
+    let new = c.walk_tape.new.plant in
+    let e = err_from_is_err_and c.from_residual-in_err-walk.result c.from_residual-in_err-walk.ensures.1 in
+    (handed_at faults.Memory _ c.from_residual-in_err-walk.result (SameNumbers g.P.Plant mid new) (e.1 ∙ ap Err e.2) c.in_err-walk.ensures.memory_numbers memory).log_size ∙ c.in_ok-load_tape.ensures.log_size
 
 pub returns-in_err-sections-clause-leaves : goal.returns-in_err-sections-clause-leaves
 returns-in_err-sections-clause-leaves g c =

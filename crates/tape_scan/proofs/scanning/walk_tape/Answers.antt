@@ -1,17 +1,46 @@
-use Rattle.std.proofs.Common.{◌≡◌, ◌+◌, ◌≤◌, ℕ, List, [], length, take, sym, ◌∙◌, subst, arith}
+use Rattle.std.proofs.Common.{◌≡◌, ◌+◌, ◌≤◌, ℕ, List, [], length, take, sym, ◌∙◌, ap, subst, arith}
+use Rattle.std.specs.Prelude.{Err}
+use Rattle.std.proofs.lemmas.Result.{err_from_is_err_and}
 use Rattle.plant_core.specs.Records.{Record}
-use Rattle.plant_effects.specs.Runs.{state_of}
+use Rattle.plant_effects.specs.Runs.{state_of, Done, SameNumbers}
 use Rattle.plant_effects.proofs.Joining.{numbers_both, done_both, leaves_both, quiet_both}
+use Rattle.tape_scan.specs.declared.sections.ScanFault.TheVariants as faults
 use Rattle.tape_scan.specs.declared.scanning_walk.Walk.{Walk}
 use Rattle.tape_scan.specs.declared.scanning_walk.Walk.TheVariants as walks
 use Rattle.tape_scan.specs.Steps.{item_of, ReadsAt, marks_in, Walks, Walked}
-use Rattle.tape_scan.proofs.ScanningLaws.{marks_after, taken_more, stopped, ended}
+use Rattle.tape_scan.proofs.ScanningLaws.{handed_at, marks_after, taken_more, stopped, ended}
 use Rattle.tape_scan.proofs.scanning.walk_tape.Goals as goal
 
 pub returns-in_err-item-clause-leaves : goal.returns-in_err-item-clause-leaves
 returns-in_err-item-clause-leaves g c =
     let so_far = c.loop-place.invariant in
     leaves_both g.P.Plant [] [] c.args.plant.now c.loop-place.plant c.read_item.new.plant so_far.done so_far.leaves c.read_item.ensures.leaves
+
+pub returns-in_err-item-clause-memory : goal.returns-in_err-item-clause-memory
+returns-in_err-item-clause-memory g c = λ memory.
+    let P = g.P.Plant in
+    let mid = c.loop-place.plant in
+    let new = c.read_item.new.plant in
+    let e = err_from_is_err_and c.from_residual.result c.from_residual.ensures.1 in
+    done_both P [] [] c.args.plant.now mid new c.loop-place.invariant.done
+    (handed_at faults.Memory _ c.from_residual.result (Done P [] mid new) (e.1 ∙ ap Err e.2) c.in_err-item.ensures.memory memory)
+
+pub returns-in_err-item-clause-memory_numbers : goal.returns-in_err-item-clause-memory_numbers
+returns-in_err-item-clause-memory_numbers g c = λ memory.
+    let P = g.P.Plant in
+    let mid = c.loop-place.plant in
+    let new = c.read_item.new.plant in
+    let e = err_from_is_err_and c.from_residual.result c.from_residual.ensures.1 in
+    numbers_both P c.args.plant.now mid new c.loop-place.invariant.numbers
+    (handed_at faults.Memory _ c.from_residual.result (SameNumbers P mid new) (e.1 ∙ ap Err e.2) c.in_err-item.ensures.memory_numbers memory)
+
+pub returns-in_err-longer-clause-memory : goal.returns-in_err-longer-clause-memory
+returns-in_err-longer-clause-memory g c = λ memory.
+    done_both g.P.Plant [] [] c.args.plant.now c.loop-place.plant c.read_item.new.plant c.loop-place.invariant.done c.in_ok-item.ensures.done
+
+pub returns-in_err-longer-clause-memory_numbers : goal.returns-in_err-longer-clause-memory_numbers
+returns-in_err-longer-clause-memory_numbers g c = λ memory.
+    numbers_both g.P.Plant c.args.plant.now c.loop-place.plant c.read_item.new.plant c.loop-place.invariant.numbers c.in_ok-item.ensures.numbers
 
 pub returns-in_err-longer-clause-leaves : goal.returns-in_err-longer-clause-leaves
 returns-in_err-longer-clause-leaves g c =

@@ -100,7 +100,7 @@ returns-clause-may g c = λ told seen w fits is.
     c.run.ensures.may told seen (at_moment w c.args.now) here is
 
 pub returns-clause-stopped : goal.returns-clause-stopped
-returns-clause-stopped g c = λ told seen w fits scan.
+returns-clause-stopped g c = λ told seen w fits.
     let P = g.P.Plant in
     let C = g.C.Cell in
     let old = c.args.plant.now in
@@ -108,4 +108,4 @@ returns-clause-stopped g c = λ told seen w fits scan.
     let was = ap (λ (s : SessionView). s.time) c.self.view_is in
     let time : c.max-self-inside.result ≡ max c.args.self.now.time (min c.args.now 4294967295) = omega (arith, c.max-self-inside.ensures, c.min.ensures, was) in
     let here = stands_at P C w old c.args.cell.now c.args.self.now fits c.args.now later (ap (λ (s : SessionView). s.budb) c.self.view_is) (ap (λ (s : SessionView). s.config) c.self.view_is) time in
-    subst (λ (t : Turn). OnErr c.run.result (c.run.result ≢ Err stops.Plant → LeftAhead P t.effects old c.run.new.plant)) (sym (turn_done w c.args.now c.args.command.now)) (c.run.ensures.stopped told seen (at_moment w c.args.now) here scan)
+    subst (λ (t : Turn). OnErr c.run.result (c.run.result ≢ Err stops.Plant → LeftAhead P t.effects old c.run.new.plant)) (sym (turn_done w c.args.now c.args.command.now)) (c.run.ensures.stopped told seen (at_moment w c.args.now) here)

@@ -153,20 +153,20 @@ pub returns-then-asks_archive-clause-may : goal.returns-then-asks_archive-clause
 returns-then-asks_archive-clause-may g c = λ told seen w fits is. c.on_archive.ensures.may told seen w fits
 
 pub returns-then-asks_cell-clause-stopped : goal.returns-then-asks_cell-clause-stopped
-returns-then-asks_cell-clause-stopped g c = λ told seen w fits scan.
+returns-then-asks_cell-clause-stopped g c = λ told seen w fits.
     on_stop stops.Plant c.on_cell.result _ (λ other. left_standing g.P.Plant (done w c.args.command.now).effects c.args.plant.now w.state c.requires (λ _. fits.state))
 
 pub returns-then-asks_archive-clause-stopped : goal.returns-then-asks_archive-clause-stopped
-returns-then-asks_archive-clause-stopped g c = λ told seen w fits scan.
+returns-then-asks_archive-clause-stopped g c = λ told seen w fits.
     let is = done_archive w c.args.command.now (sym c.asks_cell.ensures ∙ c.if-asks_cell.false) (sym c.asks_archive.ensures ∙ c.if-asks_archive.true) in
     subst (λ (t : Turn). OnErr c.on_archive.result (c.on_archive.result ≢ Err stops.Plant → LeftAhead g.P.Plant t.effects c.args.plant.now c.on_archive.new.plant)) (sym is) (c.on_archive.ensures.stopped told seen w fits)
 
 pub returns-then-asks_dump-clause-stopped : goal.returns-then-asks_dump-clause-stopped
-returns-then-asks_dump-clause-stopped g c = λ told seen w fits scan.
+returns-then-asks_dump-clause-stopped g c = λ told seen w fits.
     let is = done_dump w c.args.command.now (sym c.asks_cell.ensures ∙ c.if-asks_cell.false) (sym c.asks_archive.ensures ∙ c.if-asks_archive.false) (sym c.asks_dump.ensures ∙ c.if-asks_dump.true) in
     subst (λ (t : Turn). OnErr c.on_dump.result (c.on_dump.result ≢ Err stops.Plant → LeftAhead g.P.Plant t.effects c.args.plant.now c.on_dump.new.plant)) (sym is) (c.on_dump.ensures.stopped told seen w fits)
 
 pub returns-else-asks_dump-clause-stopped : goal.returns-else-asks_dump-clause-stopped
-returns-else-asks_dump-clause-stopped g c = λ told seen w fits scan.
+returns-else-asks_dump-clause-stopped g c = λ told seen w fits.
     let is = done_plant w c.args.command.now (sym c.asks_cell.ensures ∙ c.if-asks_cell.false) (sym c.asks_archive.ensures ∙ c.if-asks_archive.false) (sym c.asks_dump.ensures ∙ c.if-asks_dump.false) in
-    subst (λ (t : Turn). OnErr c.on_plant.result (c.on_plant.result ≢ Err stops.Plant → LeftAhead g.P.Plant t.effects c.args.plant.now c.on_plant.new.plant)) (sym is) (c.on_plant.ensures.stopped told w (fits_plant g.P.Plant g.C.Cell w c.args.plant.now c.args.cell.now c.args.self.now fits) scan)
+    subst (λ (t : Turn). OnErr c.on_plant.result (c.on_plant.result ≢ Err stops.Plant → LeftAhead g.P.Plant t.effects c.args.plant.now c.on_plant.new.plant)) (sym is) (c.on_plant.ensures.stopped told w (fits_plant g.P.Plant g.C.Cell w c.args.plant.now c.args.cell.now c.args.self.now fits))
