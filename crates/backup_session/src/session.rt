@@ -255,10 +255,12 @@ impl Session {
     }
 
     /// Executes a command at a moment of the clock. What it tells is handed back and not told. A world that stands there has
-    /// tapes as a plant has them, and `scantape -dbadd` lists in it what is whole on them, a dump that another journal has
-    /// listed among it. A restore over tapes that hold no archive changes nothing but the cell, into which it puts, for each
-    /// wanted volume in turn, one volume under the name that it gets, or none. A stop that isn't the plant's leaves a sound plant, with
-    /// the first so many effects of the command.
+    /// tapes as a plant has them, and `scantape -dbadd` lists in it the dumps that are whole on the coordinator's tapes that
+    /// are here, but for those that are listed, those with a wrong parent, and from the first on for which the log has no room;
+    /// over a database without listed dumps each dump that another journal has listed, and whose tapes are all held there, is
+    /// listed again, unless the log has no room. A restore over tapes that hold no archive changes nothing but the cell, into
+    /// which it puts, for each wanted volume in turn, one volume under the name that it gets, or none. A stop that isn't the
+    /// plant's leaves a sound plant, with the first so many effects of the command.
     pub fn exec<P: Plant, C: Cell>(
         &mut self,
         alloc: Global,

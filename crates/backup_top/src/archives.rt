@@ -23,7 +23,8 @@ pub fn an_image_is_an_entry()
         → (held : HoldsImage (world_at config files present log cell before old) contents effects image) → KnowsIds (archive_of (world_at config files present log cell before old)) → KnowsIds (archive_of (world_at later files present held.changes next contents image)) }
 {}
 
-/// And the next run finds a journal there that is a list of changes: by its clauses `complete` and `bad_log` no image of a run is refused.
+/// And the next run finds a journal there that is a list of changes, where what dumps have of volumes are volumes: by its
+/// clauses `complete` and `bad_log` no image of a run is refused.
 pub fn an_image_is_not_refused()
     ensures { (c : Course) (effects : AnyList Effect) (old image : Stock) → LeftImage c effects old image → FindsVolumes c → Journal image }
 {}

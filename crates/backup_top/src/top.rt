@@ -201,15 +201,18 @@ pub fn run<M: Media, C: Cell, K: Clock, S: Source>(
     // else `Done`.
     ensures told_lines { asked words.now.items ≡ Run → M.tells → C.tells → TellsLines (stock_of (M.seen media)).told (stock_of (M.seen result.1)).told result.0 }
     // Each restore on a line that is run answers each volume by one look-up in the archive that it finds there, and each scan that adds dumps
-    // lists just what is whole on the tapes that it finds, recorded dumps among it: so are the turns of which `runs` speaks.
+    // lists just those that are whole on the coordinator's tapes that are here, aren't listed and have no wrong parent, so far as the log has
+    // room; recorded dumps are among the whole ones. So are the turns of which `runs` speaks.
     ensures restores { asked words.now.items ≡ Run → (entry : Entry config.now (stock_of (M.seen media))) → (contents : Contents)
         → let c = course_of M.seen M.count M.present contents media entry result.1 (C.list cell.old) (C.list cell.new) (K.moments clock.old) (K.moments clock.new) (S.left source.old) (S.left source.new) in
         RestoresLookUp c.world c.moments (lines c.input) }
     ensures scans { asked words.now.items ≡ Run → (entry : Entry config.now (stock_of (M.seen media))) → (contents : Contents)
         → let c = course_of M.seen M.count M.present contents media entry result.1 (C.list cell.old) (C.list cell.new) (K.moments clock.old) (K.moments clock.new) (S.left source.old) (S.left source.new) in
         ScansListWhole c.world c.moments (lines c.input) }
-    // Each image since the entry, where no write of before waits for a sync. Its journal opens again: it is the list of changes that the
-    // first of the script's effects make, and each reply that was told whole is among them. It holds the archive with what the dumps have then.
+    // Each image since the entry, where no write of before waits for a sync. Its journal opens again (of a script that dumps, where what dumps
+    // have of volumes are volumes): it is the list of changes that the first of the script's effects make, and each reply that was told whole is
+    // among them. Where the media held the archive at the entry, and a script that dumps finds a world fit for it, it holds the archive with what
+    // the dumps have then.
     ensures images { asked words.now.items ≡ Run → M.tells → C.tells → K.tells → S.tells → AreStill M.time M.seen media → (entry : Entry config.now (stock_of (M.seen media))) → (contents : Contents)
         → let c = course_of M.seen M.count M.present contents media entry result.1 (C.list cell.old) (C.list cell.new) (K.moments clock.old) (K.moments clock.new) (S.left source.old) (S.left source.new) in
         FindsHeld c → LeavesImages M.time media result.1 c (outcome c).effects }
@@ -220,7 +223,7 @@ pub fn run<M: Media, C: Cell, K: Clock, S: Source>(
         → let c = course_of M.seen M.count M.present contents media entry result.1 (C.list cell.old) (C.list cell.new) (K.moments clock.old) (K.moments clock.new) (S.left source.old) (S.left source.new) in
         FindsHeld c → EndsAt M.time M.seen media result.1 c }
     // Behind a script that was run to its end no write waits for a sync on the media that are handed back, where none waited at the entry: so a
-    // next run on them finds what `images` and `ends` ask.
+    // next run on them finds what `images` and `ends` ask of writes that wait.
     ensures still { asked words.now.items ≡ Run → M.tells → C.tells → K.tells → S.tells → AreStill M.time M.seen media → (entry : Entry config.now (stock_of (M.seen media))) → (contents : Contents)
         → let c = course_of M.seen M.count M.present contents media entry result.1 (C.list cell.old) (C.list cell.new) (K.moments clock.old) (K.moments clock.new) (S.left source.old) (S.left source.new) in
         FindsHeld c → (result.0 ≡ Done) ⊎ (result.0 ≡ SomeRefused) → AreStill M.time M.seen result.1 }

@@ -80,8 +80,8 @@ impl<M: Media> MediaPlant<M> {
         }
     }
 
-    /// Hands the media back. Its files have what is settled of the plant: all that the plant shows, where all is settled. Then no
-    /// write to a file waits for a sync, so that a next plant on the media survives a crash.
+    /// Hands the media back. Its files have what is settled of the plant: all that the plant shows, where all is settled. Of
+    /// one that survives a crash no write to a file waits for a sync then, so that a next plant on the media survives one too.
     pub fn into_media(self) -> M
         ensures media { result ≡ media_of self }
         ensures stock { M.tells → IsSound M.tells M.seen M.present self → stock_of (M.seen result) ≡ settled_part (shown_of M.seen self) }
