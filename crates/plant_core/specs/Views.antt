@@ -59,11 +59,12 @@ pub record OnlyFaults (told : Type 0) (old new : View) : Type 0 where
   pub tell_faults : new.tell_faults ≡ old.tell_faults
   pub output : told → new.state.told ≡ old.state.told
 
--- the same of a load, where loads are counted too
+-- the same of a load, where loads are counted too: by one at most
 pub record OnlyLoadFaults (told : Type 0) (old new : View) : Type 0 where
   pub slots : new.slots ≡ old.slots
   pub present : new.present ≡ old.present
   pub loads : old.loads ≤ new.loads
+  pub more : new.loads ≤ old.loads + 1
   pub tell_faults : new.tell_faults ≡ old.tell_faults
   pub output : told → new.state.told ≡ old.state.told
 

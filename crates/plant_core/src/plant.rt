@@ -74,7 +74,8 @@ pub trait Plant {
         ensures cause { HasCause (view self.old).faults (view self.new).faults result };
 
     /// Loads the tape of a slot that is here. Where another tape was loaded, what was put on that one is settled first. Where
-    /// it is the loaded tape, nothing changes. A tape that wasn't loaded counts as one load; the count ends at 2^64 - 1.
+    /// it is the loaded tape, nothing changes. A tape that wasn't loaded counts as one load; the count ends at 2^64 - 1. Whatever
+    /// is answered, it counts one load at most.
     fn load(&mut self, slot: u32) -> Result<(), Failed>
         requires sound { sound self.old }
         requires here { IsTrue ((view self.old).present slot) }

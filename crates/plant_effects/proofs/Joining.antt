@@ -9,7 +9,7 @@ use Rattle.plant_core.specs.Steps.{Same}
 use Rattle.plant_core.specs.Stock.{Stock}
 use Rattle.plant_core.specs.Views.{OnlyFaults, OnlyLoadFaults, OnlyTellFaults}
 use Rattle.plant_effects.specs.Runs.{state_of, Done, Leaves, OnlyLooks, SameNumbers, Stays, StaysQuiet, StaysTelling}
-use Rattle.plant_effects.proofs.States.{alike_self, alike_both, alike_come, come_append, told_kept, told_ahead, told_then, grows_none, joint_none, joint_more, joint_then}
+use Rattle.plant_effects.proofs.States.{alike_self, alike_both, alike_come, come_append, grows_same, grows_both, told_kept, told_ahead, told_then, grows_none, joint_none, joint_more, joint_then}
 
 module _ {D : Type 0} (P : Plant D) where
   -- each image of now is what the crash model leaves of what is seen
@@ -25,6 +25,7 @@ module _ {D : Type 0} (P : Plant D) where
     crash = λ told survives. weakened P.time s s (λ a b. b ≡ a) (Joint (state_of P s) es) (stays P.time s)
         (λ a b was same. joint_none (state_of P s) es a b (subst (LeftIn (state_of P s)) (sym same) (fits told survives a was)) (grows_none a b (ap (λ (c : Stock). c.told) same)));
     told = λ told. told_kept es (state_of P s) (state_of P s).told refl;
+    grows = λ told. grows_same (state_of P s).told (state_of P s).told refl;
   }
 
   -- more is to come
@@ -32,6 +33,7 @@ module _ {D : Type 0} (P : Plant D) where
   leaves_more es fs old new leaves = record {
     crash = λ told survives. weakened P.time old new (Joint (state_of P old) es) (Joint (state_of P old) (es ++ fs)) (leaves.crash told survives) (λ a b was step. joint_more (state_of P old) es fs a b step);
     told = λ told. told_ahead es fs (state_of P old) (state_of P new).told (leaves.told told);
+    grows = leaves.grows;
   }
 
   -- one after the other
@@ -50,6 +52,7 @@ module _ {D : Type 0} (P : Plant D) where
         (λ a b was step. joint_more (state_of P old) es fs a b step)
         (λ a b c was step left next. joint_then (state_of P old) (state_of P mid) es fs a b c (done.state told) step.grows next);
     told = λ told. told_then (state_of P old) (state_of P mid) es fs (state_of P new).told (done.state told) (second.told told);
+    grows = λ told. grows_both (state_of P old).told (state_of P mid).told (state_of P new).told (first.grows told) (second.grows told);
   }
 
   -- only reads
@@ -64,11 +67,11 @@ module _ {D : Type 0} (P : Plant D) where
 
   -- the numbers
   pub same_numbers : (s : D) → SameNumbers P s s
-  same_numbers s = record { tape = record { loaded = refl; records = refl }; log_size = refl }
+  same_numbers s = record { tape = record { loaded = refl; records = refl; loads = refl }; log_size = refl }
 
   pub numbers_both : (old mid new : D) → SameNumbers P old mid → SameNumbers P mid new → SameNumbers P old new
   numbers_both old mid new first second = record {
-    tape = record { loaded = second.tape.loaded ∙ first.tape.loaded; records = second.tape.records ∙ first.tape.records };
+    tape = record { loaded = second.tape.loaded ∙ first.tape.loaded; records = second.tape.records ∙ first.tape.records; loads = second.tape.loads ∙ first.tape.loads };
     log_size = second.log_size ∙ first.log_size;
   }
 
@@ -123,4 +126,5 @@ module _ {D : Type 0} (P : Plant D) where
     crash = λ told survives. weakened P.time old new Same (Joint (state_of P old) es) (leads told)
         (λ a b was same. joint_none (state_of P old) es a b (subst (LeftIn (state_of P old)) (sym same) (fits told survives a was)) (grows_none a b (ap (λ (c : Stock). c.told) same)));
     told = λ told. told_kept es (state_of P old) (state_of P new).told (only.output told);
+    grows = λ told. grows_same (state_of P old).told (state_of P new).told (only.output told);
   }

@@ -13,7 +13,7 @@ use Rattle.plant_core.specs.Steps.{Same, OldOr, TellsTo}
 use Rattle.plant_core.specs.Stock.{Stock}
 use Rattle.plant_effects.specs.Runs.{state_of, Done, IsStartOf, Leaves, SameNumbers, StaysTelling}
 use Rattle.plant_core.specs.Views.{OnlyFaults}
-use Rattle.plant_effects.proofs.States.{told_kept, grows_none, grows_twice, joint_none}
+use Rattle.plant_effects.proofs.States.{grows_same, grows_more, grows_both, told_kept, grows_none, grows_twice, joint_none}
 use Rattle.plant_effects.proofs.Joining.{Fits}
 
 -- what is behind a place, as the code slices it
@@ -43,6 +43,10 @@ taken_more = part_taken
 pub told_part : (text : List ℕ) (at n : ℕ) (old mid new : List ℕ) → mid ≡ old ++ take at text → new ≡ mid ++ take n (take (length text - at) (drop at text)) → IsStartOf new (old ++ text)
 told_part text at n old mid new so_far more = front_size new (old ++ text) (front_part old text (at + n) new
     (more ∙ ap (λ (l : List ℕ). l ++ take n (take (length text - at) (drop at text))) so_far ∙ append_assoc old (take at text) (take n (take (length text - at) (drop at text))) ∙ ap (λ (l : List ℕ). old ++ l) (part_taken at n text)))
+
+-- what was told has grown, and then by a piece
+pub grows_part : (old mid new piece : List ℕ) → IsStartOf old mid → new ≡ mid ++ piece → IsStartOf old new
+grows_part old mid new piece start is = grows_both old mid new start (subst (IsStartOf mid) (sym is) (grows_more mid piece))
 
 module _ {D : Type 0} (P : Plant D) where
   -- ---- telling
@@ -149,6 +153,7 @@ module _ {D : Type 0} (P : Plant D) where
         (λ (new_log : c.log ≡ Some bytes). log_replaced old (state_of P old) a c a_left step.tapes step.told bytes new_log)
         step.here);
     told = λ told. told_kept (replaces bytes ∷ []) (state_of P old) (state_of P new).told (only.output told);
+    grows = λ told. grows_same (state_of P old).told (state_of P new).told (only.output told);
   }
 
   -- a state in which bytes were put, and then committed

@@ -1,7 +1,7 @@
 -- States after effects, and what a crash leaves of them.
-use Rattle.std.proofs.Common.{◌≡◌, ℕ, ◌+◌, List, [], ◌∷◌, ◌++◌, length, take, Some, refl, sym, ◌∙◌, ap, subst, arith, append_assoc, length-append}
+use Rattle.std.proofs.Common.{◌≡◌, ℕ, ◌+◌, List, [], ◌∷◌, ◌++◌, length, take, drop, Some, refl, sym, ◌∙◌, ap, subst, arith, append_assoc, length-append}
 use Rattle.std.specs.Prelude.{if◌then◌else◌, ◌==◌}
-use Rattle.std.proofs.lemmas.List.{append-nil, take-append-le}
+use Rattle.std.proofs.lemmas.List.{append-nil, take-append-le, take-append-drop}
 use Rattle.std.proofs.Math.Seq.{take-append-add}
 use Rattle.crash_moments.specs.Telling.{IsFront, Extends}
 use Rattle.crash_moments.proofs.Fronts.{whole_front, front_more, front_size}
@@ -78,6 +78,18 @@ told_is (tells text ∷ es) s = told_is es (comes (tells text) s) ∙ append_ass
 told_is (puts k r ∷ es) s = told_is es (comes (puts k r) s)
 told_is (settles k ∷ es) s = told_is es (comes (settles k) s)
 told_is (cuts k n ∷ es) s = told_is es (comes (cuts k n) s)
+
+-- ---- what was told grows
+
+pub grows_same : (old new : List ℕ) → new ≡ old → IsStartOf old new
+grows_same old new same = front_size old new (whole_front old new (sym same))
+
+pub grows_more : (old more : List ℕ) → IsStartOf old (old ++ more)
+grows_more old more = front_size old (old ++ more) (front_more old old more (whole_front old old refl))
+
+pub grows_both : (old mid new : List ℕ) → IsStartOf old mid → IsStartOf mid new → IsStartOf old new
+grows_both old mid new first second =
+    front_size old new (subst (IsFront old) (ap (λ (l : List ℕ). l ++ drop (length mid) new) second ∙ take-append-drop (length mid) new) (front_more old mid (drop (length mid) new) (length old, first)))
 
 -- where no more was told than before, there is no more than these effects tell
 told_front : (es : List Effect) (s : State) (told : List ℕ) → IsFront told s.told → IsStartOf told (come es s).told

@@ -35,20 +35,22 @@ abbrev pub IsStartOf : List ℕ → List ℕ → Type 0
 IsStartOf start whole = start ≡ take (length start) whole
 
 -- Whatever of these effects was done: each image since is one of the crash model after the first of them. What was told has no more than
--- they tell, also of a plant that wouldn't survive a crash.
+-- they tell, and all that was told before, also of a plant that wouldn't survive a crash.
 pub record Leaves {D : Type 0} (P : Plant D) (effects : List Effect) (old new : D) : Type 0 where
   pub crash : P.tells → P.survives old → Leads P.time old new (Joint (state_of P old) effects)
   pub told : P.tells → IsStartOf (state_of P new).told (come effects (state_of P old)).told
+  pub grows : P.tells → IsStartOf (state_of P old).told (state_of P new).told
 
 -- Whatever was answered, it was only read: what lies beneath is as it was, and each image since is one of before.
 pub record OnlyLooks {D : Type 0} (P : Plant D) (old new : D) : Type 0 where
   pub beneath : P.tells → P.beneath new ≡ P.beneath old
   pub crash : P.tells → Leads P.time old new Same
 
--- the loaded tape is the same, and has as many records
+-- the loaded tape is the same, has as many records, and none was loaded
 pub record SameTape {D : Type 0} (P : Plant D) (old new : D) : Type 0 where
   pub loaded : loaded_of P new ≡ loaded_of P old
   pub records : (P.view new).records ≡ (P.view old).records
+  pub loads : (P.view new).loads ≡ (P.view old).loads
 
 -- the same, and the log has as many bytes
 pub record SameNumbers {D : Type 0} (P : Plant D) (old new : D) : Type 0 where

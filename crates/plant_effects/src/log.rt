@@ -18,6 +18,7 @@ pub fn append_whole<P: Plant>(plant: &mut P, bytes: &[u8]) -> Result<(), PutFaul
     ensures tape { OnOk result (SameTape P.Plant plant.old plant.new) }
     ensures stays { StaysQuiet P.Plant plant.old plant.new }
     ensures cause { HasCauseAt PutFault.Failed (P.view plant.old).faults (P.view plant.new).faults result }
+    ensures loads { (P.view plant.new).loads ≡ (P.view plant.old).loads }
 {
     plant.log_put(bytes)?;
     match plant.log_commit() {
@@ -38,6 +39,7 @@ pub fn replace_whole<P: Plant>(plant: &mut P, bytes: &[u8]) -> Result<(), PutFau
     ensures tape { OnOk result (SameTape P.Plant plant.old plant.new) }
     ensures stays { StaysQuiet P.Plant plant.old plant.new }
     ensures cause { HasCauseAt PutFault.Failed (P.view plant.old).faults (P.view plant.new).faults result }
+    ensures loads { (P.view plant.new).loads ≡ (P.view plant.old).loads }
 {
     plant.log_replace(bytes)?;
     Ok(())
@@ -54,6 +56,7 @@ pub fn read_log<P: Plant>(plant: &mut P, at: u64, into: &mut [u8]) -> Result<(),
     ensures numbers { OnOk result (SameNumbers P.Plant plant.old plant.new) }
     ensures stays { StaysQuiet P.Plant plant.old plant.new }
     ensures cause { HasCause (P.view plant.old).faults (P.view plant.new).faults result }
+    ensures loads { (P.view plant.new).loads ≡ (P.view plant.old).loads }
 {
     plant.log_read(at, into)?;
     Ok(())

@@ -3,11 +3,13 @@ ghost use Rattle.std.specs.Prelude.{◌≡◌, ◌+◌, ◌<◌, ◌≤◌, ℕ,
 ghost use Rattle.crash_moments.specs.Moments.{HasCause};
 ghost use Rattle.plant_core.specs.Effects.{puts, settles, cuts, putting_away};
 ghost use Rattle.plant_core.specs.Records.{NoBad, ShowsAt, ShowsFirst, block_with, mark};
+ghost use Rattle.plant_core.specs.Views.{loads_after};
 ghost use Rattle.plant_effects.specs.Runs.{state_of, loaded_of, OnLoaded, TakesMore, Done, Leaves, SameNumbers, StaysQuiet};
 
 use plant_core::{Block, Failed, Kind, Plant};
 
-/// Loads the tape of a slot that is here. What was put on the one that is put away is settled.
+/// Loads the tape of a slot that is here. What was put on the one that is put away is settled. It counts one load at most,
+/// whatever is answered. No other call counts one.
 pub fn load_tape<P: Plant>(plant: &mut P, slot: u32) -> Result<(), Failed>
     requires sound { P.sound plant.old }
     requires here { IsTrue ((P.view plant.old).present slot) }
@@ -17,6 +19,8 @@ pub fn load_tape<P: Plant>(plant: &mut P, slot: u32) -> Result<(), Failed>
     ensures log_size { OnOk result ((P.view plant.new).log_size ≡ (P.view plant.old).log_size) }
     ensures stays { StaysQuiet P.Plant plant.old plant.new }
     ensures cause { HasCause (P.view plant.old).faults (P.view plant.new).faults result }
+    ensures loads { (P.view plant.new).loads ≤ (P.view plant.old).loads + 1 }
+    ensures counted { OnOk result ((P.view plant.new).loads ≡ loads_after (loaded_of P.Plant plant.old) slot (P.view plant.old).loads) }
 {
     plant.load(slot)?;
     Ok(())
@@ -36,6 +40,7 @@ pub fn peek_record<P: Plant>(
     ensures numbers { OnOk result (SameNumbers P.Plant plant.old plant.new) }
     ensures stays { StaysQuiet P.Plant plant.old plant.new }
     ensures cause { HasCause (P.view plant.old).faults (P.view plant.new).faults result }
+    ensures loads { (P.view plant.new).loads ≡ (P.view plant.old).loads }
 {
     let shown = plant.peek(slot, into)?;
     Ok(shown)
@@ -52,6 +57,7 @@ pub fn get_record<P: Plant>(plant: &mut P, i: u32, into: &mut Block) -> Result<K
     ensures numbers { OnOk result (SameNumbers P.Plant plant.old plant.new) }
     ensures stays { StaysQuiet P.Plant plant.old plant.new }
     ensures cause { HasCause (P.view plant.old).faults (P.view plant.new).faults result }
+    ensures loads { (P.view plant.new).loads ≡ (P.view plant.old).loads }
 {
     let kind = plant.tape_get(i, into)?;
     Ok(kind)
@@ -70,6 +76,7 @@ pub fn put_block<P: Plant>(plant: &mut P, block: &Block) -> Result<(), Failed>
     ensures log_size { OnOk result ((P.view plant.new).log_size ≡ (P.view plant.old).log_size) }
     ensures stays { StaysQuiet P.Plant plant.old plant.new }
     ensures cause { HasCause (P.view plant.old).faults (P.view plant.new).faults result }
+    ensures loads { (P.view plant.new).loads ≡ (P.view plant.old).loads }
 {
     plant.tape_put(block)?;
     Ok(())
@@ -88,6 +95,7 @@ pub fn put_mark<P: Plant>(plant: &mut P) -> Result<(), Failed>
     ensures log_size { OnOk result ((P.view plant.new).log_size ≡ (P.view plant.old).log_size) }
     ensures stays { StaysQuiet P.Plant plant.old plant.new }
     ensures cause { HasCause (P.view plant.old).faults (P.view plant.new).faults result }
+    ensures loads { (P.view plant.new).loads ≡ (P.view plant.old).loads }
 {
     plant.tape_mark()?;
     Ok(())
@@ -107,6 +115,7 @@ pub fn cut_to<P: Plant>(plant: &mut P, n: u32) -> Result<(), Failed>
     ensures log_size { OnOk result ((P.view plant.new).log_size ≡ (P.view plant.old).log_size) }
     ensures stays { StaysQuiet P.Plant plant.old plant.new }
     ensures cause { HasCause (P.view plant.old).faults (P.view plant.new).faults result }
+    ensures loads { (P.view plant.new).loads ≡ (P.view plant.old).loads }
 {
     plant.tape_cut(n)?;
     Ok(())

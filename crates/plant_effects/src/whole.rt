@@ -19,6 +19,7 @@ pub fn is_whole<P: Plant>(plant: &mut P) -> Result<bool, Failed>
     ensures numbers { OnOk result (SameNumbers P.Plant plant.old plant.new) }
     ensures stays { StaysQuiet P.Plant plant.old plant.new }
     ensures cause { HasCause (P.view plant.old).faults (P.view plant.new).faults result }
+    ensures loads { (P.view plant.new).loads ≡ (P.view plant.old).loads }
 {
     let mut block = [0; 16384];
     for place in 0..plant.tape_len() {
@@ -43,6 +44,7 @@ pub fn takes_record<P: Plant>(plant: &mut P) -> Result<bool, Failed>
     ensures numbers { OnOk result (SameNumbers P.Plant plant.old plant.new) }
     ensures stays { StaysQuiet P.Plant plant.old plant.new }
     ensures cause { HasCause (P.view plant.old).faults (P.view plant.new).faults result }
+    ensures loads { (P.view plant.new).loads ≡ (P.view plant.old).loads }
 {
     if plant.tape_len() >= RECORD_LIMIT {
         return Ok(false);

@@ -164,6 +164,7 @@ impl<M: Media> MediaPlant<M> {
         ensures tell_faults { M.tell_faults self.new.media ≡ M.tell_faults self.old.media }
         ensures counted { OnOk result (self.new.loads ≡ min (self.old.loads + 1) (2 ^ 64 - 1)) }
         ensures loads { self.old.loads ≤ self.new.loads }
+        ensures more { self.new.loads ≤ self.old.loads + 1 }
     {
         match Tape::open(&mut self.media, slot) {
             Ok(tape) => {

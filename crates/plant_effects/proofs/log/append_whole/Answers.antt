@@ -3,7 +3,7 @@ use Rattle.plant_core.specs.Effects.{commits}
 use Rattle.plant_effects.specs.Runs.{state_of}
 use Rattle.plant_effects.proofs.Joining.{quiet_call, quiet_both, reads_left}
 use Rattle.plant_effects.proofs.OutputCalls.{commits_step, committed}
-use Rattle.plant_effects.proofs.States.{told_kept}
+use Rattle.plant_effects.proofs.States.{grows_same, told_kept}
 use Rattle.plant_effects.proofs.log.append_whole.Goals as goal
 
 pub returns-in_err-log_put-clause-leaves : goal.returns-in_err-log_put-clause-leaves
@@ -15,6 +15,7 @@ returns-in_err-log_put-clause-leaves g c =
     record {
       crash = λ told survives. (reads_left P (commits c.args.bytes.now ∷ []) old mid (λ told survives image left. laws.left old image told c.requires survives left) (λ told. c.log_put.ensures.crash told survives) c.log_put.ensures.stays).crash told survives;
       told = λ told. told_kept (commits c.args.bytes.now ∷ []) (state_of P old) (state_of P mid).told (c.log_put.ensures.stays.output told);
+      grows = λ told. grows_same (state_of P old).told (state_of P mid).told (c.log_put.ensures.stays.output told);
     }
 
 pub returns-in_err-log_put-clause-stays : goal.returns-in_err-log_put-clause-stays
@@ -31,6 +32,7 @@ returns-in-Err-clause-leaves g c =
       crash = λ told survives. commits_step P c.args.bytes.now (state_of P mid).log old mid c.log_commit.new.self (λ told survives image left. laws.left old image told c.requires survives left) ((put.only.state told).log) told survives
           (c.log_put.ensures.crash told survives) (c.log_commit.ensures.crash told (put.survives told survives));
       told = λ told. told_kept (commits c.args.bytes.now ∷ []) (state_of P old) (state_of P c.log_commit.new.self).told (c.log_commit.ensures.stays.output told ∙ c.log_put.ensures.stays.output told);
+      grows = λ told. grows_same (state_of P old).told (state_of P c.log_commit.new.self).told (c.log_commit.ensures.stays.output told ∙ c.log_put.ensures.stays.output told);
     }
 
 pub returns-in-Err-clause-stays : goal.returns-in-Err-clause-stays
@@ -51,6 +53,7 @@ returns-in-Ok-clause-leaves g c =
       crash = λ told survives. commits_step P c.args.bytes.now (state_of P mid).log old mid c.log_commit.new.self (λ told survives image left. laws.left old image told c.requires survives left) ((put.only.state told).log) told survives
           (c.log_put.ensures.crash told survives) (c.log_commit.ensures.crash told (put.survives told survives));
       told = λ told. told_kept (commits c.args.bytes.now ∷ []) (state_of P old) (state_of P c.log_commit.new.self).told (c.log_commit.ensures.stays.output told ∙ c.log_put.ensures.stays.output told);
+      grows = λ told. grows_same (state_of P old).told (state_of P c.log_commit.new.self).told (c.log_commit.ensures.stays.output told ∙ c.log_put.ensures.stays.output told);
     }
 
 pub returns-in-Ok-clause-stays : goal.returns-in-Ok-clause-stays

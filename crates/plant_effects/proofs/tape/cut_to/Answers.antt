@@ -1,7 +1,7 @@
 use Rattle.std.proofs.Common.{[], ◌∷◌}
 use Rattle.plant_core.specs.Effects.{cuts}
 use Rattle.plant_effects.specs.Runs.{state_of}
-use Rattle.plant_effects.proofs.States.{told_kept}
+use Rattle.plant_effects.proofs.States.{grows_same, told_kept}
 use Rattle.plant_effects.proofs.TapeCalls.{cuts_step}
 use Rattle.plant_effects.proofs.tape.cut_to.Goals as goal
 
@@ -14,6 +14,7 @@ returns-in_err-tape_cut-clause-leaves g c =
     λ k at. record {
       crash = cuts_step P k c.args.n old new (λ told survives image left. laws.left old image told c.requires.sound survives left) (λ told survives. c.tape_cut.ensures.crash told survives k at);
       told = λ told. told_kept (cuts k c.args.n ∷ []) (state_of P old) (state_of P new).told (c.tape_cut.ensures.stays.output told);
+      grows = λ told. grows_same (state_of P old).told (state_of P new).told (c.tape_cut.ensures.stays.output told);
     }
 
 pub returns-clause-leaves : goal.returns-clause-leaves
@@ -25,4 +26,5 @@ returns-clause-leaves g c =
     λ k at. record {
       crash = cuts_step P k c.args.n old new (λ told survives image left. laws.left old image told c.requires.sound survives left) (λ told survives. c.tape_cut.ensures.crash told survives k at);
       told = λ told. told_kept (cuts k c.args.n ∷ []) (state_of P old) (state_of P new).told (c.tape_cut.ensures.stays.output told);
+      grows = λ told. grows_same (state_of P old).told (state_of P new).told (c.tape_cut.ensures.stays.output told);
     }

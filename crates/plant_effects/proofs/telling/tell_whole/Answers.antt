@@ -3,7 +3,7 @@ use Rattle.std.proofs.lemmas.List.{append-nil, take_all}
 use Rattle.plant_core.specs.Effects.{tells}
 use Rattle.plant_effects.specs.Runs.{state_of, Done}
 use Rattle.plant_effects.proofs.Joining.{same_numbers, numbers_both, nothing_left, nothing_telling, telling_both, telling_call}
-use Rattle.plant_effects.proofs.OutputCalls.{told_more, told_part, tells_step, parts_ok, parts_err, taken_more, rest_length}
+use Rattle.plant_effects.proofs.OutputCalls.{grows_part, told_more, told_part, tells_step, parts_ok, parts_err, taken_more, rest_length}
 use Rattle.plant_effects.proofs.telling.tell_whole.Goals as goal
 
 pub loop-at-init : goal.loop-at-init
@@ -46,9 +46,10 @@ loop-at-preserved g c =
         crash = tells_step P text (take at text) _ (drop (at + n) text) c.args.plant.now mid c.tell.new.self (parts_ok at n text within)
             (λ told survives image left. laws.left mid image told so_far.done.sound survives left) so_far.done so_far.leaves.crash e.crash;
         told = λ told. told_part text at n (state_of P c.args.plant.now).told (state_of P mid).told (state_of P c.tell.new.self).told (so_far.done.state told).told (e.only.state told).told;
+        grows = λ told. grows_part (state_of P c.args.plant.now).told (state_of P mid).told (state_of P c.tell.new.self).told _ (so_far.leaves.grows told) (e.only.state told).told;
       };
       stays = telling_both P c.args.plant.now mid c.tell.new.self so_far.stays (telling_call P mid c.tell.new.self e.stays e.cause.later);
-      numbers = numbers_both P c.args.plant.now mid c.tell.new.self so_far.numbers (record { tape = record { loaded = e.only.loaded; records = e.only.records }; log_size = e.only.log_size });
+      numbers = numbers_both P c.args.plant.now mid c.tell.new.self so_far.numbers (record { tape = record { loaded = e.only.loaded; records = e.only.records; loads = e.stays.loads }; log_size = e.only.log_size });
       tell_faults = e.cause.stays ∙ so_far.tell_faults;
     }
 
@@ -65,6 +66,7 @@ returns-in_err-count-clause-leaves g c =
       crash = tells_step P text (take at text) _ [] c.args.plant.now mid c.tell.new.self (parts_err at text)
           (λ told survives image left. laws.left mid image told so_far.done.sound survives left) so_far.done so_far.leaves.crash e.crash;
       told = λ told. told_part text at (e.part told).0 (state_of P c.args.plant.now).told (state_of P mid).told (state_of P c.tell.new.self).told (so_far.done.state told).told (e.part told).1;
+      grows = λ told. grows_part (state_of P c.args.plant.now).told (state_of P mid).told (state_of P c.tell.new.self).told _ (so_far.leaves.grows told) (e.part told).1;
     }
 
 pub returns-in_err-count-clause-stays : goal.returns-in_err-count-clause-stays

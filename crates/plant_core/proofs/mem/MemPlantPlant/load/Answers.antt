@@ -1,5 +1,5 @@
 use Rattle.std.specs.Prelude.{nat_lt}
-use Rattle.std.proofs.Common.{◌≡◌, ◌≢◌, ◌≤◌, ℕ, arith, inr, length, refl, ap, ◌∙◌, rules}
+use Rattle.std.proofs.Common.{◌≡◌, ◌≢◌, ◌≤◌, ◌+◌, ℕ, arith, inr, length, refl, ap, ◌∙◌, rules}
 use Rattle.plant_core.proofs.Keeping.{load_state, settle_state}
 use Rattle.plant_core.proofs.Leading.{same_slot, settles_leads}
 use Rattle.plant_core.proofs.mem.MemPlantPlant.load.Goals as goal
@@ -24,11 +24,13 @@ pub returns-in_ok-settle-in-Some-2-clause-stays : goal.returns-in_ok-settle-in-S
 returns-in_ok-settle-in-Some-2-clause-stays c =
     let e = c.in_ok-settle-in-Some-2.ensures in
     let loads : c.args.self.now.loads ≤ c.raised-self-in-Some-2.result = search rules in
+    let more : c.raised-self-in-Some-2.result ≤ c.args.self.now.loads + 1 = search rules in
     let slots : length c.settle.new.self.tapes.items ≡ length c.args.self.now.tapes.items = omega (arith, e.slots) in
     record {
       slots = slots;
       present = ap (λ (n : ℕ). λ (j : ℕ). nat_lt j n) slots;
       loads = loads;
+      more = more;
       tell_faults = e.tell_faults;
       output = λ told. (settle_state c.args.self.now.past.items c.settle.new.self.past.items c.in-Some-2.other e.ok).told;
     }
