@@ -19,8 +19,8 @@ use Rattle.bk_text.specs.Blanks.{words_of, is_same_word}
 use Rattle.tape_config.specs.Numbers.{count_of, up_to, has_plain_front, plain_of, unit_of, reduced, sized, size_of, capacity_of}
 use Rattle.tape_config.specs.Words.{in_order, slots_of, slots_word, switch_of, name_check_word, is_dash}
 use Rattle.tape_config.specs.Lines.{offset_of, device_line, check_line, words_say, line_says, cell_of}
-use Rattle.tape_config.specs.Configs.{Settings, IsConfig, no_settings, has_port, has_slot, next_device, next_entry, next_cell, with_entries, with_cell, next_line, next_number, lines_say, device_if, device_at, or_else, port_with}
-use Rattle.tape_config.specs.Ports.{IsWithinLimits, AreApart}
+use Rattle.tape_config.specs.Configs.{Settings, IsConfig, no_settings, has_port, has_slot, next_device, next_entry, next_cell, with_entries, with_cell, next_line, next_number, lines_say, config_of, device_if, device_at, or_else, checks_names, port_with, port_in}
+use Rattle.tape_config.specs.Ports.{IsWithinLimits, IsAmong, AreApart}
 
 -- a device line within its limits
 pub record IsSoundDevice (d : DeviceLine) : Type 0 where
@@ -298,3 +298,15 @@ apart_by_devices lines a b on said (Some d) None port sound other is_r is_s e = 
 apart_by_devices lines a b on said (Some d) (Some f) port sound other is_r is_s e =
     let told : PortFields = record { offset = b; capacity = f.capacity; filemark = f.filemark; first = f.first; last = f.last; name_check = said } in
     subst (λ (q : PortFields). (d.last < q.first) ⊎ (q.last < d.first)) (some_port told port e) (devices_apart lines a b d f sound other (stands_at lines a d is_r) (stands_at lines b f is_s))
+
+-- no slot is one of two ports that have none in common
+pub none_of_both : (p q : PortFields) → AreApart p q → (k : ℕ) → IsAmong p k → IsAmong q k → ⊥
+none_of_both p q (inl before) k of_p of_q = omega (arith, before, of_p.1, of_q.0)
+none_of_both p q (inr behind) k of_p of_q = omega (arith, behind, of_p.0, of_q.1)
+
+-- two ports of a configuration
+pub ports_apart : (bytes : List ℕ) (settings : Settings) → config_of bytes ≡ Ok settings → (a b : ℕ) (p q : PortFields) → a ≢ b → port_in a settings.entries ≡ Some p → port_in b settings.entries ≡ Some q → AreApart p q
+ports_apart bytes settings is a b p q other is_p is_q =
+    let lines = settings.entries in
+    subst (λ (r : Option PortFields). IfSome r (λ x. AreApart x q)) is_p
+    (apart_by_devices lines a b (checks_names a lines) (checks_names b lines) (device_at a lines) (device_at b lines) q (config_sound settings (record { bytes = bytes; says = is })) other refl refl is_q)

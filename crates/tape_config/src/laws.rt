@@ -1,10 +1,10 @@
 //! What is so of every configuration.
 
-ghost use Rattle.std.specs.Prelude.{◌≡◌, ℕ, List, Some, Ok, IfSome};
+ghost use Rattle.std.specs.Prelude.{◌≡◌, ◌≢◌, ℕ, List, Some, Ok, IfSome};
 ghost use Rattle.bk_text.specs.Alphabets.{IsHost};
 ghost use Rattle.tape_config.specs.declared.port.PortFields.{PortFields};
 ghost use Rattle.tape_config.specs.Configs.{Settings, config_of, port_in};
-ghost use Rattle.tape_config.specs.Ports.{IsWithinLimits};
+ghost use Rattle.tape_config.specs.Ports.{AreApart, IsAmong, IsWithinLimits};
 
 use bk_text::form_tests;
 
@@ -15,3 +15,9 @@ pub fn a_configuration_has_its_forms()
 {
     form_tests();
 }
+
+/// Two ports of a configuration have no slot in common.
+pub fn ports_of_a_configuration_are_apart()
+    ensures apart { (bytes : List ℕ) (settings : Settings) → config_of bytes ≡ Ok settings → (one other : ℕ) (p q : PortFields) → one ≢ other → port_in one settings.entries ≡ Some p → port_in other settings.entries ≡ Some q → AreApart p q }
+    ensures none { (p q : PortFields) → AreApart p q → (k : ℕ) → IsAmong p k → IsAmong q k → ⊥ }
+{}

@@ -13,8 +13,5 @@ mod words;
 
 pub use config::Config;
 pub use fault::ConfigFault;
-pub use laws::a_configuration_has_its_forms;
+pub use laws::{a_configuration_has_its_forms, ports_of_a_configuration_are_apart};
 pub use port::{Port, PortFields};
-
-#[cfg(test)]
-mod tests;

@@ -4,16 +4,17 @@ use Rattle.std.proofs.lemmas.Bool.{eqb-true}
 use Rattle.bk_text.specs.Places.{FailsAt}
 use Rattle.byte_formats.specs.Formats.{Format, Took, Sticks, filled}
 use Rattle.tape_frames.specs.declared.dump_head.DumpHeadFields.{DumpHeadFields}
+use Rattle.tape_frames.specs.declared.data.DataFields.{DataFields}
 use Rattle.tape_frames.specs.declared.frame.Frame.{Frame}
 use Rattle.tape_frames.specs.declared.frame.Frame.TheVariants as frames
 use Rattle.tape_frames.specs.declared.kind.Kind.{Kind}
 use Rattle.tape_frames.specs.declared.kind.Kind.TheVariants as kinds
 use Rattle.tape_frames.specs.Blocks.{block_of, dump_head_block}
-use Rattle.tape_frames.specs.Layouts.{plain_head_bytes, dump_head_bytes, FitsDumpHead}
+use Rattle.tape_frames.specs.Layouts.{plain_head_bytes, dump_head_bytes, FitsDumpHead, FitsData}
 use Rattle.tape_frames.specs.Frames.{Fits, spelling, IsSpelled}
 use Rattle.tape_frames.specs.Kinds.{head, frame_form}
-use Rattle.tape_frames.specs.Formats.{dump_head_form}
-use Rattle.tape_frames.proofs.Wraps.{wrap_took, wrap_sticks, wrap_head}
+use Rattle.tape_frames.specs.Formats.{dump_head_form, data_form}
+use Rattle.tape_frames.proofs.Wraps.{wrap_took, wrap_sticks, wrap_head, wrap_data}
 use Rattle.tape_frames.proofs.Places.{frame_took, frame_sticks, left_small, same_frame}
 
 moved_took : {X : Type 0} (F : Format X) (block body : List ℕ) (x : X) → body ≡ drop 8 block → length body ≡ 16376 → Took (filled (length body) F) body x [] → Took (filled 16376 F) (drop 8 block) x []
@@ -33,6 +34,12 @@ refused k block body left size front is long s = frame_sticks k block left size 
 
 pub refused_small : (k : Kind) (block body : List ℕ) (left : ℕ) → length block ≡ 16384 → body ≡ drop 8 block → length body ≡ 16376 → Sticks (filled (length body) (frame_form k)) body left → left ≤ 16384
 refused_small k block body left size is long s = left_small k block left size (moved_sticks (frame_form k) block body left is long s)
+
+-- ---- a piece of data
+
+pub data_took : (block body : List ℕ) (a : DataFields) → take 8 block ≡ head kinds.Data → body ≡ drop 8 block → length body ≡ 16376 → Took (filled (length body) data_form) body a [] → FitsData a × (block ≡ spelling (frames.Data a))
+data_took block body a front is long took =
+    frame_took kinds.Data block (frames.Data a) front (wrap_took data_form kinds.Data frames.Data 16376 (drop 8 block) a [] wrap_data (moved_took data_form block body a is long took))
 
 -- ---- a dump's head that tells uses
 

@@ -7,3 +7,4 @@ pub mod Kinds
 pub mod Formats
 pub mod Views
 pub mod Heads
+pub mod Pieces

@@ -1,6 +1,6 @@
 //! Reading a frame from its block.
 
-ghost use Rattle.std.specs.Prelude.{◌≡◌, ◌-◌, ◌≤◌, [], length, drop, MatchResult};
+ghost use Rattle.std.specs.Prelude.{◌≡◌, ◌-◌, ◌≤◌, [], length, drop, IfSome, MatchResult};
 ghost use Rattle.byte_formats.specs.Formats.{Took, Stops, filled};
 ghost use Rattle.tape_frames.specs.declared.fault.FrameFault.TheVariants as faults;
 ghost use Rattle.tape_frames.specs.declared.frame.Frame.{Frame as AnyFrame};
@@ -10,6 +10,7 @@ ghost use Rattle.tape_frames.specs.Decodes.{Decodes};
 ghost use Rattle.tape_frames.specs.declared.dump_head.DumpHeadFields.{DumpHeadFields as AnyHead};
 ghost use Rattle.tape_frames.specs.Layouts.{FitsDumpHead};
 ghost use Rattle.tape_frames.specs.Blocks.{dump_head_block};
+ghost use Rattle.tape_frames.specs.Pieces.{IsPieceOf};
 
 use crate::data::Data;
 use crate::dump_end::DumpEnd;
@@ -28,6 +29,17 @@ use crate::whole::{
 };
 use byte_formats::ReadFault;
 use std::alloc::Global;
+
+/// What is told of a piece of data without its bytes.
+#[derive(Clone, Copy, Debug, PartialEq, Eq)]
+pub struct Piece {
+    /// The id of the dump.
+    pub dump: u32,
+    /// The place of the volume in the dump, from 0 on.
+    pub index: u32,
+    /// The number of bytes that are used, 1 to 16,352.
+    pub used: u32,
+}
 
 /// The bytes behind the head.
 fn body_of(block: &Block) -> &[u8]
@@ -101,6 +113,24 @@ pub fn uses_of(block: &Block) -> u32
     match whole_dump_head(body_of(block)) {
         Ok(view) => view.uses,
         Err(_) => 0,
+    }
+}
+
+/// What is told of the piece of data whose block this is, where it is a piece's. The bytes stay where they are, and no memory is
+/// taken.
+pub fn piece_of(block: &Block) -> Option<Piece>
+    ensures { IfSome result (IsPieceOf block.now) }
+{
+    if !has_head(Kind::Data, block) {
+        return None;
+    }
+    match whole_data(body_of(block)) {
+        Ok(view) => Some(Piece {
+            dump: view.dump,
+            index: view.index,
+            used: view.used,
+        }),
+        Err(_) => None,
     }
 }
 

@@ -21,7 +21,7 @@ mod vol_head;
 mod whole;
 
 pub use data::{Data, DataFields};
-pub use decoding::{decode, one_frame, uses_of};
+pub use decoding::{Piece, decode, one_frame, piece_of, uses_of};
 pub use dump_end::{DumpEnd, DumpEndFields};
 pub use dump_head::{DumpHead, DumpHeadFields};
 pub use fault::FrameFault;
@@ -31,6 +31,3 @@ pub use page::Block;
 pub use tape_names::{one_base_and_number, one_number, tape_name};
 pub use vol_end::{VolEnd, VolEndFields};
 pub use vol_head::{VolHead, VolHeadFields};
-
-#[cfg(test)]
-mod tests;

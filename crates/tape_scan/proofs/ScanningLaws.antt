@@ -5,11 +5,14 @@ use Rattle.std.proofs.lemmas.Bool.{cases_Bool, lt-ltb, le-ltb}
 use Rattle.plant_core.specs.Crashes.{State}
 use Rattle.plant_core.specs.Effects.{settles, come, putting_away}
 use Rattle.plant_core.specs.Records.{Record, block_with, mark, bad}
+use Rattle.tape_frames.specs.declared.data.DataFields.{DataFields}
 use Rattle.tape_frames.specs.declared.frame.Frame.TheVariants as frames
 use Rattle.tape_text.specs.Items.{Item, Says, Filemark, Nothing, ReadsAs, Read, IsFitItem}
 use Rattle.tape_scan.specs.declared.scanning_walk.Walk.{Walk}
 use Rattle.tape_scan.specs.declared.scanning_walk.Walk.TheVariants as walks
-use Rattle.tape_scan.specs.Steps.{ReadsAt, Continues, after, marks_in, Walks, Walked}
+use Rattle.tape_scan.specs.declared.scanning_walk.TapeItem.{TapeItem}
+use Rattle.tape_scan.specs.declared.scanning_walk.TapeItem.TheVariants as read
+use Rattle.tape_scan.specs.Steps.{IsOf, ReadsAt, Continues, after, marks_in, Walks, Walked}
 
 -- ---- the tape stays
 
@@ -35,6 +38,21 @@ same_error e f is = cc
 -- what is so at one error is so where that error is handed on
 pub handed_at : {T U E : Type 0} (one e : E) (r : Result U E) (Q : Type 0) → r ≡ Err e → ((let q : Result T E = Err e in q) ≡ Err one → Q) → r ≡ Err one → Q
 handed_at {E = E} one e r Q is next that = next (ap (λ (x : E). Err x) (same_error e one (sym is ∙ that)))
+
+-- ---- what was read
+
+-- of whatever was read there is an item
+pub some_item : (item : TapeItem) → (said : Item) × IsOf item said
+some_item (read.Label a) = (Says (frames.Label a), refl)
+some_item (read.DumpHead a) = (Says (frames.DumpHead a), refl)
+some_item (read.VolHead a) = (Says (frames.VolHead a), refl)
+some_item (read.Piece p) =
+    let d : DataFields = record { dump = p.dump; index = p.index; used = p.used; bytes = [] } in
+    (Says (frames.Data d), (d, refl, record { dump = refl; index = refl; used = refl }))
+some_item (read.VolEnd a) = (Says (frames.VolEnd a), refl)
+some_item (read.DumpEnd a) = (Says (frames.DumpEnd a), refl)
+some_item read.Filemark = (Filemark, refl)
+some_item read.Nothing = (Nothing, refl)
 
 -- ---- marks
 

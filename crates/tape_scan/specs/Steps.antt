@@ -7,6 +7,7 @@ use Rattle.tape_frames.specs.declared.data.DataFields.{DataFields}
 use Rattle.tape_frames.specs.declared.vol_end.VolEndFields.{VolEndFields}
 use Rattle.tape_frames.specs.declared.dump_end.DumpEndFields.{DumpEndFields}
 use Rattle.tape_frames.specs.TapeNames.{numbered}
+use Rattle.tape_frames.specs.Pieces.{Tells}
 use Rattle.plant_core.specs.Records.{Record}
 use Rattle.tape_text.specs.Items as items
 use Rattle.tape_text.specs.Items.{Item, ReadsAs}
@@ -26,10 +27,16 @@ use Rattle.tape_scan.specs.declared.scanning_walk.Step.TheVariants.{Taken, Stopp
 
 -- ---- reading
 
-abbrev pub item_of : TapeItem → Item
-item_of (read.Says f) = items.Says f
-item_of read.Filemark = items.Filemark
-item_of read.Nothing = items.Nothing
+-- what a record says of which this was read: of a piece of data its bytes aren't told
+abbrev pub IsOf : TapeItem → Item → Type 0
+IsOf (read.Label a) item = item ≡ items.Says (frames.Label a)
+IsOf (read.DumpHead a) item = item ≡ items.Says (frames.DumpHead a)
+IsOf (read.VolHead a) item = item ≡ items.Says (frames.VolHead a)
+IsOf (read.Piece p) item = (d : DataFields) × (item ≡ items.Says (frames.Data d)) × Tells p d
+IsOf (read.VolEnd a) item = item ≡ items.Says (frames.VolEnd a)
+IsOf (read.DumpEnd a) item = item ≡ items.Says (frames.DumpEnd a)
+IsOf read.Filemark item = item ≡ items.Filemark
+IsOf read.Nothing item = item ≡ items.Nothing
 
 -- the record at a place of a tape says this
 pub record ReadsAt (tape : List Record) (at : ℕ) (item : Item) : Type 0 where
@@ -146,6 +153,10 @@ after at (InFragment t p f) (items.Says (frames.VolEnd e)) = BehindFragment t (w
 after at (BehindFragment t p) items.Filemark = InPart (one_mark t) p
 after at (BehindPart t p more) items.Filemark = Between (with_closed at t p more)
 after at w i = w
+
+-- the record at a place of a tape says what was read of it
+abbrev pub IsReadAt : List Record → ℕ → TapeItem → Type 0
+IsReadAt tape at item = (said : Item) × IsOf item said × ReadsAt tape at said
 
 -- a step at a record of this number
 abbrev pub Steps : Walk → ℕ → Item → Step → Type 0

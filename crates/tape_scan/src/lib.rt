@@ -26,6 +26,3 @@ pub use laws::{
 pub use scanning::scan_tape;
 pub use scanning_laws::{no_tape_is_unread, one_tape_is_told_once};
 pub use sections::{FragFound, PartFound, ScanFault, Sections};
-
-#[cfg(test)]
-mod tests;

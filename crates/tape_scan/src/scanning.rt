@@ -1,6 +1,6 @@
 //! Scanning the tape in a slot.
 
-ghost use Rattle.std.specs.Prelude.{◌≡◌, ℕ, List as AnyList, [], Some, Err, IfOk, OnOk, IsSome, IsTrue};
+ghost use Rattle.std.specs.Prelude.{◌≡◌, ◌+◌, ◌≤◌, ℕ, List as AnyList, [], Some, Err, IfOk, OnOk, IsSome, IsTrue};
 ghost use Rattle.crash_moments.specs.Moments.{HasCauseAt};
 ghost use Rattle.plant_core.specs.Effects.{putting_away};
 ghost use Rattle.plant_effects.specs.Runs.{state_of, loaded_of, Done, Leaves, SameNumbers, StaysQuiet};
@@ -30,6 +30,7 @@ fn walk_tape<P: Plant>(alloc: Global, plant: &mut P) -> Result<(Walk, u32), Scan
     ensures memory_numbers { result ≡ Err ScanFault.Memory → SameNumbers P.Plant plant.old plant.new }
     ensures stays { StaysQuiet P.Plant plant.old plant.new }
     ensures cause { HasCauseAt ScanFault.Failed (P.view plant.old).faults (P.view plant.new).faults result }
+    ensures loads { (P.view plant.new).loads ≡ (P.view plant.old).loads }
 {
     one_item();
     let mut walk = Walk::Nothing;
@@ -59,6 +60,7 @@ pub fn scan_tape<P: Plant>(alloc: Global, plant: &mut P, slot: u32) -> Result<Se
     ensures memory_log { result ≡ Err ScanFault.Memory → (P.view plant.new).log_size ≡ (P.view plant.old).log_size }
     ensures stays { StaysQuiet P.Plant plant.old plant.new }
     ensures cause { HasCauseAt ScanFault.Failed (P.view plant.old).faults (P.view plant.new).faults result }
+    ensures loads { (P.view plant.new).loads ≤ (P.view plant.old).loads + 1 }
 {
     load_tape(plant, slot)?;
     let (walk, place) = walk_tape(alloc, plant)?;

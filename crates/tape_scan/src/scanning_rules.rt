@@ -1,6 +1,8 @@
 //! What continues a text, by where a scan stands in it.
 
-ghost use Rattle.std.specs.Prelude.{◌≡◌, ◌≢◌, ◌↔◌, IsTrue, IfOk};
+ghost use Rattle.std.specs.Prelude.{◌≡◌, ◌≢◌, ◌↔◌, ◌+◌, ◌≤◌, IsTrue, IfOk};
+ghost use Rattle.tape_frames.specs.declared.data.DataFields.{DataFields as AnyData};
+ghost use Rattle.tape_frames.specs.Pieces.{Tells};
 ghost use Rattle.tape_frames.specs.TapeNames.{numbered};
 ghost use Rattle.tape_text.specs.Texts.{NextVolume};
 ghost use Rattle.tape_scan.specs.Steps.{last_of, is_last, ends_last, HeadBehind, OpensPart, FragmentBehind, OpensFragment, AddsPiece, EndsFragment, EndsPart};
@@ -10,7 +12,7 @@ use crate::sections::{FragFound, PartFound};
 use bk_text::List;
 use std::alloc::{AllocError, Global};
 use std::cmp::Ordering;
-use tape_frames::{Data, DumpEnd, DumpHead, Label, VolEnd, VolHead, tape_name};
+use tape_frames::{DumpEnd, DumpHead, Label, Piece, VolEnd, VolHead, tape_name};
 
 /// Whether a label's name is that of the tape of this number, behind what its dump's names begin with.
 fn has_name(alloc: Global, label: &Label, head: &DumpHead) -> Result<bool, AllocError>
@@ -108,15 +110,15 @@ pub(crate) fn opens_fragment(part: &PartSoFar, head: &VolHead) -> bool
 }
 
 /// Whether a piece goes on in this fragment.
-pub(crate) fn adds_piece(fragment: &FragmentSoFar, piece: &Data) -> bool
-    ensures { IsTrue result ↔ AddsPiece fragment.now piece.now }
+pub(crate) fn adds_piece(fragment: &FragmentSoFar, piece: Piece) -> bool
+    ensures added { (d : AnyData) → Tells piece d → IsTrue result ↔ AddsPiece fragment.now d }
+    ensures room { IsTrue result → fragment.now.bytes + piece.used ≤ 4294967295 }
 {
     let head = fragment.head.fields();
-    let own = piece.fields();
-    own.dump == head.dump
-        && own.index == head.index
+    piece.dump == head.dump
+        && piece.index == head.index
         && fragment.full
-        && fragment.bytes as u64 + own.used as u64 <= 4_294_967_295
+        && fragment.bytes as u64 + piece.used as u64 <= 4_294_967_295
 }
 
 /// Whether this is the end of a fragment.

@@ -1,32 +1,37 @@
 //! One step of a scan: a record continues the text, or the scan stops in front of it.
 
-ghost use Rattle.std.specs.Prelude.{◌≡◌, ◌+◌, ◌≤◌, ◌<◌, IfOk};
+ghost use Rattle.std.specs.Prelude.{◌≡◌, ℕ, ◌+◌, ◌≤◌, ◌<◌, IfOk};
 ghost use Rattle.tape_scan.specs.declared.scanning_walk.Walk.TheVariants as walks;
-ghost use Rattle.tape_scan.specs.Steps.{item_of, marks_in, with_piece, frag_found, with_frag, with_closed, Steps};
+ghost use Rattle.tape_frames.specs.declared.data.DataFields.{DataFields as AnyData};
+ghost use Rattle.tape_frames.specs.Pieces.{Tells};
+ghost use Rattle.tape_frames.specs.declared.frame.Frame.TheVariants as frames;
+ghost use Rattle.tape_text.specs.Items.{Item};
+ghost use Rattle.tape_text.specs.Items as items;
+ghost use Rattle.tape_scan.specs.Steps.{IsOf, marks_in, with_piece, frag_found, with_frag, with_closed, Steps};
 
 use crate::scanning_rules::{adds_piece, ends_fragment, ends_part, opens_fragment, opens_part};
 use crate::scanning_walk::{FragmentSoFar, PartSoFar, Step, TapeItem, TapeSoFar, Walk};
 use crate::sections::{FragFound, PartFound};
 use bk_text::List;
 use std::alloc::{AllocError, Global};
-use tape_frames::{Data, Frame, Label, VolEnd};
+use tape_frames::{Label, Piece, VolEnd};
 
 /// The number of bytes that a piece has at most.
 const ROOM: u32 = 16_352;
 
 /// In front of all a label continues the text.
 fn at_the_front(at: u32, item: TapeItem) -> Step
-    ensures { Steps walks.Nothing at (item_of item) result }
+    ensures { (said : Item) → IsOf item said → Steps walks.Nothing at said result }
 {
     match item {
-        TapeItem::Says(Frame::Label(label)) => Step::Taken(Walk::Labeled(label)),
+        TapeItem::Label(label) => Step::Taken(Walk::Labeled(label)),
         _ => Step::Stopped(Walk::Nothing),
     }
 }
 
 /// Behind the label a mark does.
 fn behind_label(alloc: Global, label: Label, at: u32, item: TapeItem) -> Step
-    ensures { Steps (walks.Labeled label) at (item_of item) result }
+    ensures { (said : Item) → IsOf item said → Steps (walks.Labeled label) at said result }
 {
     match item {
         TapeItem::Filemark => Step::Taken(Walk::Between(TapeSoFar {
@@ -46,10 +51,10 @@ fn between_parts(
     at: u32,
     item: TapeItem,
 ) -> Result<Step, AllocError>
-    ensures { IfOk result (Steps (walks.Between tape) at (item_of item)) }
+    ensures { (said : Item) → IsOf item said → IfOk result (Steps (walks.Between tape) at said) }
 {
     match item {
-        TapeItem::Says(Frame::DumpHead(head)) => {
+        TapeItem::DumpHead(head) => {
             if opens_part(alloc, &tape, &head)? {
                 let frags = List::new(alloc);
                 let first = at;
@@ -65,10 +70,10 @@ fn between_parts(
 
 /// In a part the head of a fragment does, or the part's end.
 fn in_part(tape: TapeSoFar, part: PartSoFar, at: u32, item: TapeItem) -> Step
-    ensures { Steps (walks.InPart tape part) at (item_of item) result }
+    ensures { (said : Item) → IsOf item said → Steps (walks.InPart tape part) at said result }
 {
     match item {
-        TapeItem::Says(Frame::VolHead(head)) => {
+        TapeItem::VolHead(head) => {
             if opens_fragment(&part, &head) {
                 let fragment = FragmentSoFar {
                     head,
@@ -82,7 +87,7 @@ fn in_part(tape: TapeSoFar, part: PartSoFar, at: u32, item: TapeItem) -> Step
                 Step::Stopped(Walk::InPart(tape, part))
             }
         }
-        TapeItem::Says(Frame::DumpEnd(end)) => {
+        TapeItem::DumpEnd(end) => {
             if ends_part(&part, &end) {
                 Step::Taken(Walk::BehindPart(tape, part, end.fields().more == 1))
             } else {
@@ -94,11 +99,11 @@ fn in_part(tape: TapeSoFar, part: PartSoFar, at: u32, item: TapeItem) -> Step
 }
 
 /// A fragment with one more piece, for which there is room in the number of its bytes.
-fn with_piece(fragment: FragmentSoFar, piece: &Data) -> FragmentSoFar
-    requires { fragment.bytes + piece.now.used ≤ 4294967295 }
-    ensures { result ≡ with_piece fragment piece.now }
+fn with_piece(fragment: FragmentSoFar, piece: Piece) -> FragmentSoFar
+    requires { fragment.bytes + piece.used ≤ 4294967295 }
+    ensures { (d : AnyData) → Tells piece d → result ≡ with_piece fragment d }
 {
-    let used = piece.fields().used;
+    let used = piece.used;
     FragmentSoFar {
         head: fragment.head,
         at: fragment.at,
@@ -120,6 +125,18 @@ fn frag_found(fragment: FragmentSoFar, end: &VolEnd) -> FragFound
     }
 }
 
+/// A fragment with a piece behind it, where that goes on in it.
+fn behind_piece(tape: TapeSoFar, part: PartSoFar, fragment: FragmentSoFar, piece: Piece) -> Step
+    ensures { (at : ℕ) (d : AnyData) → Tells piece d → Steps (walks.InFragment tape part fragment) at (items.Says (frames.Data d)) result }
+{
+    if adds_piece(&fragment, piece) {
+        let longer = with_piece(fragment, piece);
+        Step::Taken(Walk::InFragment(tape, part, longer))
+    } else {
+        Step::Stopped(Walk::InFragment(tape, part, fragment))
+    }
+}
+
 /// In a fragment a piece does, or the fragment's end.
 fn in_fragment(
     tape: TapeSoFar,
@@ -128,18 +145,11 @@ fn in_fragment(
     at: u32,
     item: &TapeItem,
 ) -> Result<Step, AllocError>
-    ensures { IfOk result (Steps (walks.InFragment tape part fragment) at (item_of item.now)) }
+    ensures { (said : Item) → IsOf item.now said → IfOk result (Steps (walks.InFragment tape part fragment) at said) }
 {
     match item {
-        TapeItem::Says(Frame::Data(piece)) => {
-            if adds_piece(&fragment, piece) {
-                let longer = with_piece(fragment, piece);
-                Ok(Step::Taken(Walk::InFragment(tape, part, longer)))
-            } else {
-                Ok(Step::Stopped(Walk::InFragment(tape, part, fragment)))
-            }
-        }
-        TapeItem::Says(Frame::VolEnd(end)) => {
+        TapeItem::Piece(piece) => Ok(behind_piece(tape, part, fragment, *piece)),
+        TapeItem::VolEnd(end) => {
             if ends_fragment(&fragment, end) {
                 let longer = with_frag(part, frag_found(fragment, end))?;
                 Ok(Step::Taken(Walk::BehindFragment(tape, longer)))
@@ -167,7 +177,7 @@ fn with_frag(part: PartSoFar, frag: FragFound) -> Result<PartSoFar, AllocError>
 /// Behind a fragment's end a mark does.
 fn behind_fragment(tape: TapeSoFar, part: PartSoFar, at: u32, item: TapeItem) -> Step
     requires { tape.marks < 4294967295 }
-    ensures { Steps (walks.BehindFragment tape part) at (item_of item) result }
+    ensures { (said : Item) → IsOf item said → Steps (walks.BehindFragment tape part) at said result }
 {
     match item {
         TapeItem::Filemark => {
@@ -234,7 +244,7 @@ fn behind_part(
 ) -> Result<Step, AllocError>
     requires few { at < 4294967295 }
     requires marks { tape.marks < 4294967295 }
-    ensures { IfOk result (Steps (walks.BehindPart tape part more) at (item_of item)) }
+    ensures { (said : Item) → IsOf item said → IfOk result (Steps (walks.BehindPart tape part more) at said) }
 {
     match item {
         TapeItem::Filemark => {
@@ -249,7 +259,7 @@ fn behind_part(
 pub(crate) fn step(alloc: Global, walk: Walk, at: u32, item: TapeItem) -> Result<Step, AllocError>
     requires few { at < 4294967295 }
     requires marks { marks_in walk ≤ at }
-    ensures steps { IfOk result (Steps walk at (item_of item)) }
+    ensures steps { (said : Item) → IsOf item said → IfOk result (Steps walk at said) }
 {
     match walk {
         Walk::Nothing => Ok(at_the_front(at, item)),

@@ -2,13 +2,23 @@
 
 use crate::sections::{FragFound, PartFound};
 use bk_text::List;
-use tape_frames::{DumpHead, Frame, Label, VolHead};
+use tape_frames::{DumpEnd, DumpHead, Label, Piece, VolEnd, VolHead};
 
 /// What a record of a tape says.
 #[derive(Debug, Drop)]
 pub(crate) enum TapeItem {
-    /// The frame whose block it is.
-    Says(Frame),
+    /// A tape's label.
+    Label(Label),
+    /// The head of a dump's part.
+    DumpHead(DumpHead),
+    /// The head of a volume's fragment.
+    VolHead(VolHead),
+    /// A piece of data, without its bytes: with them each item would be as large as a block.
+    Piece(Piece),
+    /// The end of a volume's fragment.
+    VolEnd(VolEnd),
+    /// The end of a dump's part.
+    DumpEnd(DumpEnd),
     /// A mark.
     Filemark,
     /// Nothing that a tape of dumps may have: a block of no frame, or a bad record.

@@ -14,6 +14,3 @@ pub use laws::{
     smallest_part, what_is_put_is_read, what_is_put_stands,
 };
 pub use writer::Writer;
-
-#[cfg(test)]
-mod tests;

@@ -7,8 +7,8 @@ use Rattle.plant_effects.proofs.Joining.{numbers_both, done_both, leaves_both, q
 use Rattle.tape_scan.specs.declared.sections.ScanFault.TheVariants as faults
 use Rattle.tape_scan.specs.declared.scanning_walk.Walk.{Walk}
 use Rattle.tape_scan.specs.declared.scanning_walk.Walk.TheVariants as walks
-use Rattle.tape_scan.specs.Steps.{item_of, ReadsAt, marks_in, Walks, Walked}
-use Rattle.tape_scan.proofs.ScanningLaws.{handed_at, marks_after, taken_more, stopped, ended}
+use Rattle.tape_scan.specs.Steps.{IsOf, IsReadAt, ReadsAt, marks_in, Walks, Walked}
+use Rattle.tape_scan.proofs.ScanningLaws.{handed_at, some_item, marks_after, taken_more, stopped, ended}
 use Rattle.tape_scan.proofs.scanning.walk_tape.Goals as goal
 
 pub returns-in_err-item-clause-leaves : goal.returns-in_err-item-clause-leaves
@@ -57,11 +57,11 @@ returns-in-Stopped-clause-walked g c = λ told k items at read.
     let P = g.P.Plant in
     let so_far = c.loop-place.invariant in
     let tape = (state_of P c.args.plant.now).tape k in
-    let item = item_of c.in_ok-item.item in
-    let there = subst (λ (rs : List Record). ReadsAt rs c.loop-place.place (item_of c.in_ok-item.item)) ((so_far.done.state told).tape k) (c.in_ok-item.ensures.item told k (so_far.numbers.tape.loaded ∙ at)) in
-    let step = rw c.in-Stopped.is at c.in_ok-longer.ensures.steps in
+    let seen = c.in_ok-item.ensures.item told k (so_far.numbers.tape.loaded ∙ at) in
+    let there = subst (λ (rs : List Record). ReadsAt rs c.loop-place.place seen.0) ((so_far.done.state told).tape k) seen.2 in
+    let step = (rw c.in-Stopped.is at c.in_ok-longer.ensures.steps) seen.0 seen.1 in
     subst (λ (w : Walk). Walked items c.loop-place.place w) (sym step.1)
-    (stopped c.one_item.ensures tape items c.loop-place.place c.loop-place.walk item read there step.0 (so_far.taken told k items at read))
+    (stopped c.one_item.ensures tape items c.loop-place.place c.loop-place.walk seen.0 read there step.0 (so_far.taken told k items at read))
 
 pub loop-place-preserved : goal.loop-place-preserved
 loop-place-preserved g c =
@@ -71,14 +71,17 @@ loop-place-preserved g c =
     let old = c.args.plant.now in
     let mid = c.loop-place.plant in
     let new = c.read_item.new.plant in
-    let item = item_of c.in_ok-item.item in
-    let step = rw c.in-Taken.is at c.in_ok-longer.ensures.steps in
+    let steps = rw c.in-Taken.is at c.in_ok-longer.ensures.steps in
+    let some = some_item c.in_ok-item.item in
+    let some_step = steps some.0 some.1 in
     record {
       taken = λ told k items at read.
-          let there = subst (λ (rs : List Record). ReadsAt rs c.loop-place.place (item_of c.in_ok-item.item)) ((so_far.done.state told).tape k) (e.item told k (so_far.numbers.tape.loaded ∙ at)) in
+          let seen = e.item told k (so_far.numbers.tape.loaded ∙ at) in
+          let step = steps seen.0 seen.1 in
+          let there = subst (λ (rs : List Record). ReadsAt rs c.loop-place.place seen.0) ((so_far.done.state told).tape k) seen.2 in
           subst (λ (w : Walk). Walks walks.Nothing 0 (take (c.loop-place.place + 1) items) w) (sym step.1)
-          (taken_more c.one_item.ensures ((state_of P old).tape k) items c.loop-place.place c.loop-place.walk item read there step.0 (so_far.taken told k items at read));
-      marks = subst (λ (w : Walk). marks_in w ≤ c.loop-place.place + 1) (sym step.1) (marks_after c.loop-place.place c.loop-place.walk item step.0 so_far.marks);
+          (taken_more c.one_item.ensures ((state_of P old).tape k) items c.loop-place.place c.loop-place.walk seen.0 read there step.0 (so_far.taken told k items at read));
+      marks = subst (λ (w : Walk). marks_in w ≤ c.loop-place.place + 1) (sym some_step.1) (marks_after c.loop-place.place c.loop-place.walk some.0 some_step.0 so_far.marks);
       done = done_both P [] [] old mid new so_far.done e.done;
       leaves = leaves_both P [] [] old mid new so_far.done so_far.leaves c.read_item.ensures.leaves;
       numbers = numbers_both P old mid new so_far.numbers e.numbers;
