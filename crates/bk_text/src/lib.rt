@@ -37,8 +37,3 @@ pub use stated::{fault_in_stated, fault_in_stated_path};
 pub use tape_name::TapeName;
 pub use texts::TextFault;
 pub use words::{Alphabet, fault_in, is_word};
-
-#[cfg(test)]
-mod level_tests;
-#[cfg(test)]
-mod tests;

@@ -1,7 +1,7 @@
 //! A copy of the database, to which the changes of a commit are made before it: it lags behind by one commit, so that no commit
 //! copies the whole.
 
-ghost use Rattle.std.specs.Prelude.{◌≡◌, None, IfOk, IfSome};
+ghost use Rattle.std.specs.Prelude.{◌≡◌, None, IfOk, OnOk, IfSome};
 ghost use Rattle.budb_fold.specs.Database.{after_from};
 ghost use Rattle.budb.specs.Views.{CatchesUp};
 
@@ -10,10 +10,36 @@ use budb_journal::{Change, Database};
 use std::alloc::AllocError;
 
 /// A copy of the database from before the last commit, and the changes of that commit.
-#[derive(Drop)]
 pub(crate) struct Behind {
     pub(crate) database: Database,
     pub(crate) changes: List<Change>,
+}
+
+/// It is written out, as that of prepared changes is.
+impl Drop for Behind {
+    fn drop(self) {
+        let Behind { database, changes } = self;
+    }
+}
+
+impl Behind {
+    /// The database after the changes.
+    fn caught_up(self) -> Result<Database, AllocError>
+        ensures { IfOk result (λ db. db ≡ after_from self.changes self.database) }
+    {
+        let Behind { database, changes } = self;
+        made(database, changes)
+    }
+}
+
+/// Makes changes one after the other.
+fn make_all(database: &mut Database, changes: List<Change>) -> Result<(), AllocError>
+    ensures { OnOk result (database.new ≡ after_from changes database.old) }
+{
+    for change in changes.into_vec() {
+        database.make(change)?;
+    }
+    Ok(())
 }
 
 /// The database after changes, one after the other.
@@ -21,9 +47,7 @@ pub(crate) fn made(database: Database, changes: List<Change>) -> Result<Database
     ensures { IfOk result (λ db. db ≡ after_from changes database) }
 {
     let mut db = database;
-    for change in changes.into_vec() {
-        db.make(change)?;
-    }
+    make_all(&mut db, changes)?;
     Ok(db)
 }
 
@@ -38,6 +62,6 @@ pub(crate) fn copy_of(
 {
     match behind.take() {
         None => database.clone(),
-        Some(copy) => made(copy.database, copy.changes),
+        Some(copy) => copy.caught_up(),
     }
 }

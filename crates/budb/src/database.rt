@@ -29,12 +29,23 @@ use volume_sets::Sets;
 
 /// The Backup Database of a plant's log. Contracts see it as the database that the log's changes make, and the changes that
 /// are prepared, where some are.
-#[derive(Drop)]
 pub struct Budb {
     database: Database,
     index: Index,
     prepared: Option<Prepared>,
     behind: Option<Behind>,
+}
+
+/// It is written out, so that who lets a database go calls it: derived, it would be proved once more at each such place.
+impl Drop for Budb {
+    fn drop(self) {
+        let Budb {
+            database,
+            index,
+            prepared,
+            behind,
+        } = self;
+    }
 }
 
 impl Model for Budb {

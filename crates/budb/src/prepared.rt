@@ -16,12 +16,23 @@ use std::alloc::{AllocError, Global};
 use std::mem::replace;
 
 /// Changes, their bytes, the database after them, and what they do to the index: all that a commit needs.
-#[derive(Drop)]
 pub(crate) struct Prepared {
     pub(crate) changes: List<Change>,
     pub(crate) bytes: Bytes,
     pub(crate) database: Database,
     pub(crate) coming: List<Relisting>,
+}
+
+/// It is written out, so that who lets it go calls it: derived, it would be proved once more at each such place.
+impl Drop for Prepared {
+    fn drop(self) {
+        let Prepared {
+            changes,
+            bytes,
+            database,
+            coming,
+        } = self;
+    }
 }
 
 /// The bytes of changes.
@@ -41,6 +52,22 @@ fn copied(alloc: Global, changes: &[Change]) -> Result<List<Change>, AllocError>
     Ok(List::from_vec(changes.to_vec(alloc)?))
 }
 
+/// Changes twice over, to keep and to make, and their bytes.
+fn parts_of(
+    alloc: Global,
+    changes: &[Change],
+) -> Result<(List<Change>, List<Change>, Bytes), AllocError>
+    ensures kept { IfOk result (λ parts. parts.0 ≡ changes.now) }
+    ensures making { IfOk result (λ parts. parts.1 ≡ changes.now) }
+    ensures bytes { IfOk result (λ parts. parts.2 ≡ encoded changes.now) }
+    ensures form { IfOk result (λ parts. AreChanges changes.now) }
+{
+    let kept = copied(alloc, changes)?;
+    let making = copied(alloc, changes)?;
+    let bytes = bytes_of(alloc, changes)?;
+    Ok((kept, making, bytes))
+}
+
 impl Prepared {
     /// Encodes changes, and makes them of a copy of the database. What they do to the index is given.
     pub(crate) fn new(
@@ -54,13 +81,29 @@ impl Prepared {
         ensures database { IfOk result (λ one. one.database ≡ after_from changes.now copy) }
         ensures coming { IfOk result (λ one. one.coming ≡ coming) }
     {
-        let alloc = copy.sets.allocator();
+        let (changes, making, bytes) = parts_of(copy.sets.allocator(), changes)?;
+        let database = made(copy, making)?;
         Ok(Prepared {
-            changes: copied(alloc, changes)?,
-            bytes: bytes_of(alloc, changes)?,
-            database: made(copy, copied(alloc, changes)?)?,
+            changes,
+            bytes,
+            database,
             coming,
         })
+    }
+
+    /// The changes, the database after them, and what they do to the index.
+    fn into_parts(self) -> (List<Change>, Database, List<Relisting>)
+        ensures changes { result.0 ≡ self.changes }
+        ensures database { result.1 ≡ self.database }
+        ensures coming { result.2 ≡ self.coming }
+    {
+        let Prepared {
+            changes,
+            bytes,
+            database,
+            coming,
+        } = self;
+        (changes, database, coming)
     }
 }
 
@@ -78,12 +121,13 @@ pub(crate) fn move_in(
     ensures index { index.new.listed ≡ relisted_from prepared.coming index.old.listed }
     ensures behind { IfSome behind.new (CatchesUp database.new) }
 {
-    let before = replace(database, prepared.database);
+    let (changes, after, coming) = prepared.into_parts();
+    let before = replace(database, after);
     *behind = Some(Behind {
         database: before,
-        changes: prepared.changes,
+        changes,
     });
-    follow(index, prepared.coming);
+    follow(index, coming);
 }
 
 /// Takes the prepared changes away.

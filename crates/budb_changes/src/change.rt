@@ -1,6 +1,6 @@
 //! The changes.
 
-ghost use Rattle.std.specs.Prelude.{◌≡◌};
+ghost use Rattle.std.specs.Prelude.{◌≡◌, IfOk};
 
 use crate::pattern_bytes::PatternBytes;
 use crate::plain_record::PlainRecord;
@@ -81,47 +81,124 @@ impl Clone for Change {
     ghost is_clone = { λ a b. b ≡ a };
 
     fn clone(&self) -> Result<Change, AllocError> {
-        Ok(match self {
-            Change::AddSet { set } => Change::AddSet { set: set.clone()? },
-            Change::DelSet { set } => Change::DelSet { set: set.clone()? },
+        match self {
+            Change::AddSet { set } => copy_set(set),
+            Change::DelSet { set } => copy_gone_set(set),
             Change::AddEntry {
                 set,
                 server,
                 partition,
                 pattern,
-            } => Change::AddEntry {
-                set: set.clone()?,
-                server: server.clone()?,
-                partition: partition.clone()?,
-                pattern: pattern.clone()?,
-            },
-            Change::DelEntry { set, number } => Change::DelEntry {
-                set: set.clone()?,
-                number: *number,
-            },
-            Change::AddLevel { level, expiry } => Change::AddLevel {
-                level: level.clone()?,
-                expiry: *expiry,
-            },
-            Change::SetExpiry { level, expiry } => Change::SetExpiry {
-                level: level.clone()?,
-                expiry: *expiry,
-            },
-            Change::DelLevel { level } => Change::DelLevel {
-                level: level.clone()?,
-            },
-            Change::AddHost { host, port } => Change::AddHost {
-                host: host.clone()?,
-                port: *port,
-            },
-            Change::DelHost { port } => Change::DelHost { port: *port },
-            Change::Begin { id } => Change::Begin { id: *id },
-            Change::Take { initial } => Change::Take { initial: *initial },
-            Change::Done1(dump) => Change::Done1(dump.clone()?),
-            Change::Forget { id } => Change::Forget { id: *id },
-            Change::Found1(dump) => Change::Found1(dump.clone()?),
-            Change::Done(dump) => Change::Done(dump.clone()?),
-            Change::Found(dump) => Change::Found(dump.clone()?),
-        })
+            } => copy_entry(set, server, partition, pattern),
+            Change::DelEntry { set, number } => copy_gone_entry(set, *number),
+            Change::AddLevel { level, expiry } => copy_level(level, *expiry),
+            Change::SetExpiry { level, expiry } => copy_expiry(level, *expiry),
+            Change::DelLevel { level } => copy_gone_level(level),
+            Change::AddHost { host, port } => copy_host(host, *port),
+            Change::DelHost { port } => Ok(Change::DelHost { port: *port }),
+            Change::Begin { id } => Ok(Change::Begin { id: *id }),
+            Change::Take { initial } => Ok(Change::Take { initial: *initial }),
+            Change::Done1(dump) => copy_done_1(dump),
+            Change::Forget { id } => Ok(Change::Forget { id: *id }),
+            Change::Found1(dump) => copy_found_1(dump),
+            Change::Done(dump) => copy_done(dump),
+            Change::Found(dump) => copy_found(dump),
+        }
     }
+}
+
+fn copy_set(set: &SetName) -> Result<Change, AllocError>
+    ensures { IfOk result (λ copy. copy ≡ Change.AddSet set.now) }
+{
+    Ok(Change::AddSet { set: set.clone()? })
+}
+
+fn copy_gone_set(set: &SetName) -> Result<Change, AllocError>
+    ensures { IfOk result (λ copy. copy ≡ Change.DelSet set.now) }
+{
+    Ok(Change::DelSet { set: set.clone()? })
+}
+
+fn copy_entry(
+    set: &SetName,
+    server: &Option<Host>,
+    partition: &Option<Part>,
+    pattern: &PatternBytes,
+) -> Result<Change, AllocError>
+    ensures { IfOk result (λ copy. copy ≡ Change.AddEntry set.now server.now partition.now pattern.now) }
+{
+    Ok(Change::AddEntry {
+        set: set.clone()?,
+        server: server.clone()?,
+        partition: partition.clone()?,
+        pattern: pattern.clone()?,
+    })
+}
+
+fn copy_gone_entry(set: &SetName, number: u32) -> Result<Change, AllocError>
+    ensures { IfOk result (λ copy. copy ≡ Change.DelEntry set.now number) }
+{
+    Ok(Change::DelEntry {
+        set: set.clone()?,
+        number,
+    })
+}
+
+fn copy_level(level: &LevelPath, expiry: Expiry) -> Result<Change, AllocError>
+    ensures { IfOk result (λ copy. copy ≡ Change.AddLevel level.now expiry) }
+{
+    Ok(Change::AddLevel {
+        level: level.clone()?,
+        expiry,
+    })
+}
+
+fn copy_expiry(level: &LevelPath, expiry: Expiry) -> Result<Change, AllocError>
+    ensures { IfOk result (λ copy. copy ≡ Change.SetExpiry level.now expiry) }
+{
+    Ok(Change::SetExpiry {
+        level: level.clone()?,
+        expiry,
+    })
+}
+
+fn copy_gone_level(level: &LevelPath) -> Result<Change, AllocError>
+    ensures { IfOk result (λ copy. copy ≡ Change.DelLevel level.now) }
+{
+    Ok(Change::DelLevel {
+        level: level.clone()?,
+    })
+}
+
+fn copy_host(host: &Host, port: u16) -> Result<Change, AllocError>
+    ensures { IfOk result (λ copy. copy ≡ Change.AddHost host.now port) }
+{
+    Ok(Change::AddHost {
+        host: host.clone()?,
+        port,
+    })
+}
+
+fn copy_done_1(dump: &PlainRecord) -> Result<Change, AllocError>
+    ensures { IfOk result (λ copy. copy ≡ Change.Done1 dump.now) }
+{
+    Ok(Change::Done1(dump.clone()?))
+}
+
+fn copy_found_1(dump: &PlainRecord) -> Result<Change, AllocError>
+    ensures { IfOk result (λ copy. copy ≡ Change.Found1 dump.now) }
+{
+    Ok(Change::Found1(dump.clone()?))
+}
+
+fn copy_done(dump: &DumpRecord) -> Result<Change, AllocError>
+    ensures { IfOk result (λ copy. copy ≡ Change.Done dump.now) }
+{
+    Ok(Change::Done(dump.clone()?))
+}
+
+fn copy_found(dump: &DumpRecord) -> Result<Change, AllocError>
+    ensures { IfOk result (λ copy. copy ≡ Change.Found dump.now) }
+{
+    Ok(Change::Found(dump.clone()?))
 }

@@ -22,6 +22,3 @@ pub use pattern_bytes::PatternBytes;
 pub use plain_record::PlainRecord;
 pub use records::{DumpRecord, DumpRecordFields, Frag, TapePart, VolRecord, VolRecordFields};
 pub use writing::{encode, put_changes};
-
-#[cfg(test)]
-mod tests;

@@ -299,65 +299,114 @@ fn put_id(out: &mut Out, kind: u8, id: u32) -> Result<(), AllocError>
     Ok(())
 }
 
+/// Writes a kind, and an entry of a set.
+fn put_added(
+    out: &mut Out,
+    kind: u8,
+    set: &SetName,
+    server: &Option<Host>,
+    partition: &Option<Part>,
+    pattern: &PatternBytes,
+) -> Result<(), AllocError>
+    ensures bytes { OnOk result (out.new ≡ out.old ++ kind ∷ (text1 set.now ++ (any_or server.now ++ (any_or partition.now ++ text2 pattern.now)))) }
+    ensures set { OnOk result (IsSetName set.now) }
+    ensures server { OnOk result (IsAnyOr IsHost server.now) }
+    ensures partition { OnOk result (IsAnyOr IsName partition.now) }
+    ensures pattern { OnOk result (IsPatternBytes pattern.now) }
+{
+    put_set(out, kind, set)?;
+    put_entry(out, server, partition, pattern)?;
+    Ok(())
+}
+
+/// Writes a kind, a set and the number of one of its entries.
+fn put_numbered(out: &mut Out, kind: u8, set: &SetName, number: u32) -> Result<(), AllocError>
+    ensures bytes { OnOk result (out.new ≡ out.old ++ kind ∷ (text1 set.now ++ four number)) }
+    ensures form { OnOk result (IsSetName set.now) }
+{
+    put_set(out, kind, set)?;
+    put_four(out, number)?;
+    Ok(())
+}
+
+/// Writes a kind, a level and its expiration.
+fn put_expiring(
+    out: &mut Out,
+    kind: u8,
+    level: &LevelPath,
+    expiry: Expiry,
+) -> Result<(), AllocError>
+    ensures bytes { OnOk result (out.new ≡ out.old ++ kind ∷ (text2 level.now ++ expiry_bytes expiry)) }
+    ensures level { OnOk result (IsLevelPath level.now) }
+    ensures expiry { OnOk result (IsExpiry expiry) }
+{
+    put_level(out, kind, level)?;
+    put_expiry(out, expiry)?;
+    Ok(())
+}
+
+/// Writes a kind, a tape host and its port offset.
+fn put_placed(out: &mut Out, kind: u8, host: &Host, port: u16) -> Result<(), AllocError>
+    ensures bytes { OnOk result (out.new ≡ out.old ++ kind ∷ (text1 host.now ++ two port)) }
+    ensures form { OnOk result (IsHost host.now) }
+{
+    out.byte(kind)?;
+    put_host(out, host, port)?;
+    Ok(())
+}
+
+/// Writes a kind and a port offset.
+fn put_port(out: &mut Out, kind: u8, port: u16) -> Result<(), AllocError>
+    ensures { OnOk result (out.new ≡ out.old ++ kind ∷ two port) }
+{
+    out.byte(kind)?;
+    put_two(out, port)?;
+    Ok(())
+}
+
+/// Writes a kind and a dump's record.
+fn put_record(
+    out: &mut Out,
+    kind: u8,
+    version: Version,
+    dump: &DumpRecord,
+) -> Result<(), AllocError>
+    ensures bytes { OnOk result (out.new ≡ out.old ++ kind ∷ dump_bytes version dump.now) }
+    ensures form { OnOk result (IsDumpRecord dump.now) }
+{
+    out.byte(kind)?;
+    put_dump(out, version, dump)?;
+    Ok(())
+}
+
 #[tactic(auto, unfolding(crate::specs::Bytes::encoded_change, crate::specs::Bytes::kind_of, crate::specs::Bytes::fields_of))]
 fn put_change(out: &mut Out, change: &Change) -> Result<(), AllocError>
     ensures bytes { OnOk result (out.new ≡ out.old ++ encoded_change change.now) }
     ensures form { OnOk result (IsChange change.now) }
 {
     match change {
-        Change::AddSet { set } => put_set(out, ADD_SET, set)?,
-        Change::DelSet { set } => put_set(out, DEL_SET, set)?,
+        Change::AddSet { set } => put_set(out, ADD_SET, set),
+        Change::DelSet { set } => put_set(out, DEL_SET, set),
         Change::AddEntry {
             set,
             server,
             partition,
             pattern,
-        } => {
-            put_set(out, ADD_ENTRY, set)?;
-            put_entry(out, server, partition, pattern)?;
-        }
-        Change::DelEntry { set, number } => {
-            put_set(out, DEL_ENTRY, set)?;
-            put_four(out, *number)?;
-        }
-        Change::AddLevel { level, expiry } => {
-            put_level(out, ADD_LEVEL, level)?;
-            put_expiry(out, *expiry)?;
-        }
-        Change::SetExpiry { level, expiry } => {
-            put_level(out, SET_EXPIRY, level)?;
-            put_expiry(out, *expiry)?;
-        }
-        Change::DelLevel { level } => put_level(out, DEL_LEVEL, level)?,
-        Change::AddHost { host, port } => {
-            out.byte(ADD_HOST)?;
-            put_host(out, host, *port)?;
-        }
-        Change::DelHost { port } => {
-            out.byte(DEL_HOST)?;
-            put_two(out, *port)?;
-        }
-        Change::Begin { id } => put_id(out, BEGIN, *id)?,
-        Change::Take { initial } => put_id(out, TAKE, *initial)?,
-        Change::Done1(dump) => {
-            out.byte(DONE_1)?;
-            put_dump(out, Version::One, dump.as_record())?;
-        }
-        Change::Forget { id } => put_id(out, FORGET, *id)?,
-        Change::Found1(dump) => {
-            out.byte(FOUND_1)?;
-            put_dump(out, Version::One, dump.as_record())?;
-        }
-        Change::Done(dump) => {
-            out.byte(DONE)?;
-            put_dump(out, Version::Two, dump)?;
-        }
-        Change::Found(dump) => {
-            out.byte(FOUND)?;
-            put_dump(out, Version::Two, dump)?;
-        }
+        } => put_added(out, ADD_ENTRY, set, server, partition, pattern),
+        Change::DelEntry { set, number } => put_numbered(out, DEL_ENTRY, set, *number),
+        Change::AddLevel { level, expiry } => put_expiring(out, ADD_LEVEL, level, *expiry),
+        Change::SetExpiry { level, expiry } => put_expiring(out, SET_EXPIRY, level, *expiry),
+        Change::DelLevel { level } => put_level(out, DEL_LEVEL, level),
+        Change::AddHost { host, port } => put_placed(out, ADD_HOST, host, *port),
+        Change::DelHost { port } => put_port(out, DEL_HOST, *port),
+        Change::Begin { id } => put_id(out, BEGIN, *id),
+        Change::Take { initial } => put_id(out, TAKE, *initial),
+        Change::Done1(dump) => put_record(out, DONE_1, Version::One, dump.as_record()),
+        Change::Forget { id } => put_id(out, FORGET, *id),
+        Change::Found1(dump) => put_record(out, FOUND_1, Version::One, dump.as_record()),
+        Change::Done(dump) => put_record(out, DONE, Version::Two, dump),
+        Change::Found(dump) => put_record(out, FOUND, Version::Two, dump),
     }
-    Ok(())
 }
 
 /// Writes changes, one behind another. Where memory is refused, some of their bytes may stand behind the old ones.

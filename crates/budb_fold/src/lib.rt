@@ -29,10 +29,3 @@ pub use fold_laws::{
 pub use folding::{fold, fold_of_more};
 pub use latest_dumps::{VolumeDump, latest};
 pub use lookups::{from_of, greatest_at, parent_of, record_of, volume_of};
-
-#[cfg(test)]
-mod fold_tests;
-#[cfg(test)]
-mod lookup_tests;
-#[cfg(test)]
-mod prepared_tests;

@@ -1,6 +1,6 @@
 //! An index of given records.
 
-ghost use Rattle.std.specs.Prelude.{◌≡◌, ◌+◌, ◌*◌, ◌≤◌, nat_eq, map, length, IfOk, OnOk};
+ghost use Rattle.std.specs.Prelude.{◌≡◌, ◌+◌, ◌*◌, ◌≤◌, [], nat_eq, map, length, IfOk, OnOk};
 ghost use Rattle.std.specs.List.{IsDistinct};
 ghost use Rattle.budb_links.specs.Frags.{frags_of};
 
@@ -40,10 +40,25 @@ impl Index {
         ensures cost { OnOk result (steps.new ≤ steps.old + 4 * length (frags_of listed.now) + 10 * length listed.now) }
     {
         let mut index = Index::new(alloc);
-        index.reserve(listed.len(), frags_in(listed)?)?;
-        for dump in listed {
-            index.insert(dump.clone()?, steps);
-        }
+        index.fill(listed, steps)?;
         Ok(index)
+    }
+
+    /// Puts copies of these records into an index without any.
+    fn fill<L: Ledger>(
+        &mut self,
+        listed: &[DumpRecord],
+        steps: &mut Steps<L>,
+    ) -> Result<(), AllocError>
+        requires empty { self.old.listed ≡ [] }
+        requires once { IsDistinct nat_eq (map (λ dump. dump.id) listed.now) }
+        ensures listed { OnOk result (self.new.listed ≡ listed.now) }
+        ensures cost { OnOk result (steps.new ≤ steps.old + 4 * length (frags_of listed.now) + 10 * length listed.now) }
+    {
+        self.reserve(listed.len(), frags_in(listed)?)?;
+        for dump in listed {
+            self.insert(dump.clone()?, steps);
+        }
+        Ok(())
     }
 }

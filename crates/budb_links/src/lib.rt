@@ -16,6 +16,3 @@ pub use frags::FragPlace;
 pub use links::Links;
 pub use steps::Steps;
 pub use volumes::frag_count;
-
-#[cfg(test)]
-mod tests;

@@ -2,7 +2,7 @@
 
 ghost use Rattle.std.specs.Prelude.{◌≢◌, Err};
 ghost use Rattle.cell_core.specs.Cells.{IsCell};
-ghost use Rattle.cell_core.specs.Calls.{after_put, after_create, after_change, after_backup, after_remove};
+ghost use Rattle.cell_core.specs.Calls.{after_put, after_create, after_change, after_remove_vnode, after_backup, after_remove};
 ghost use Rattle.cell_core.specs.Answers.{Changes, Creates};
 ghost use Rattle.cell_core.specs.Changing.{outcome_of};
 
@@ -58,6 +58,21 @@ pub(crate) fn change(
     ensures whole { result ≢ Err CellFault.Failed }
 {
     change_in(cell, name, change, now)
+}
+
+/// Takes a vnode of a read/write volume away.
+pub(crate) fn remove_vnode(
+    cell: &mut Vec<Stored>,
+    name: &[u8],
+    number: u32,
+    now: u32,
+) -> Result<(), CellFault>
+    requires { IsCell cell.old.items }
+    ensures answer { Changes (after_remove_vnode cell.old.items name.now number now) cell.old.items result cell.new.items }
+    ensures cell { IsCell cell.new.items }
+    ensures whole { result ≢ Err CellFault.Failed }
+{
+    change(cell, name, Change::Remove { number }, now)
 }
 
 /// Makes or replaces a backup volume.

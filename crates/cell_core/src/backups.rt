@@ -13,7 +13,7 @@ ghost use Rattle.cell_core.specs.Backups.{copy_of, stored_with_date};
 use crate::fault::CellFault;
 use crate::listed::{Listed, backup_id, place_of};
 use crate::stored::{Image, Stored};
-use crate::storing::{remove_backup, remove_named, store};
+use crate::storing::{remove_backup, remove_named, store, stored_volume};
 use crate::volumes::{backup_copy, backup_name, with_backup_date};
 use bk_text::Name;
 use std::alloc::{AllocError, Global};
@@ -53,13 +53,8 @@ fn copy_of(alloc: Global, stored: &Stored, id: u32, now: u32) -> Result<Stored, 
         Image::Bad { at } => Err(CellFault::BadImage { at: *at }),
         Image::Good(volume) => {
             let name = named_backup(alloc, &stored.name)?;
-            let copy = backup_copy(volume, id, name.clone()?, now)?;
-            Ok(Stored {
-                name,
-                server: stored.server.clone()?,
-                partition: stored.partition.clone()?,
-                image: Image::Good(copy),
-            })
+            let copy = backup_copy(volume, id, name, now)?;
+            Ok(stored_volume(&stored.server, &stored.partition, copy)?)
         }
     }
 }

@@ -37,6 +37,3 @@ pub use mem::CellMem;
 pub use standing::Standing;
 pub use stored::{Image, Stored, Taken};
 pub use volumes::{backup_copy, backup_name, new_volume, with_backup_date};
-
-#[cfg(test)]
-mod tests;

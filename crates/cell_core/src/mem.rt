@@ -11,7 +11,7 @@ ghost use Rattle.cell_core.specs.Spoiling.{spoilt};
 ghost use Rattle.cell_core.specs.Calls.{entry_at, clone_at, is_good, after_create, after_put, after_write, after_remove_vnode, after_backup, after_remove};
 ghost use Rattle.cell_core.specs.Answers.{Changes, Creates, OnlyFromOutside};
 
-use crate::answering::{backup, change, create, put, remove};
+use crate::answering::{backup, change, create, put, remove, remove_vnode};
 use crate::cell::Cell;
 use crate::changes::Change;
 use crate::fault::CellFault;
@@ -168,12 +168,7 @@ impl Cell for CellMem {
         if fails(&mut self.plan, &mut self.faults) {
             return Err(CellFault::Failed);
         }
-        change(
-            &mut self.volumes,
-            name.bytes(),
-            Change::Remove { number },
-            now,
-        )
+        remove_vnode(&mut self.volumes, name.bytes(), number, now)
     }
 
     fn backup(&mut self, name: &Name, now: u32) -> Result<(), CellFault>

@@ -10,9 +10,38 @@ ghost use Rattle.cell_core.specs.Calls.{stored_volume, without_backup};
 use crate::listed::{Listed, place_of};
 use crate::lists::insert_at;
 use crate::stored::{Image, Stored};
-use bk_text::{Host, Part};
+use bk_text::{Host, Name, Part};
 use std::alloc::AllocError;
 use vnode_model::Volume;
+
+/// A place and a name, once more.
+fn names_of(
+    server: &Host,
+    partition: &Part,
+    volume: &Volume,
+) -> Result<(Name, Host, Part), AllocError>
+    ensures name { IfOk result (λ names. names.0 ≡ volume.now.header.name) }
+    ensures server { IfOk result (λ names. names.1 ≡ server.now) }
+    ensures partition { IfOk result (λ names. names.2 ≡ partition.now) }
+{
+    let name = volume.header().fields().name.clone()?;
+    let server = server.clone()?;
+    let partition = partition.clone()?;
+    Ok((name, server, partition))
+}
+
+/// A volume at a place and under a name.
+fn stored_at(names: (Name, Host, Part), volume: Volume) -> Stored
+    ensures { result ≡ record { name = names.0; server = names.1; partition = names.2; image = Image.Good volume } }
+{
+    let (name, server, partition) = names;
+    Stored {
+        name,
+        server,
+        partition,
+        image: Image::Good(volume),
+    }
+}
 
 /// A volume as it is stored.
 pub(crate) fn stored_volume(
@@ -23,13 +52,8 @@ pub(crate) fn stored_volume(
     ensures value { IfOk result (λ stored. stored ≡ stored_volume server.now partition.now volume) }
     ensures form { IfOk result (λ stored. IsImageOf stored.name stored.image) }
 {
-    let fields = volume.into_fields();
-    Ok(Stored {
-        name: fields.header.fields().name.clone()?,
-        server: server.clone()?,
-        partition: partition.clone()?,
-        image: Image::Good(Volume::from_fields(fields)),
-    })
+    let names = names_of(server, partition, &volume)?;
+    Ok(stored_at(names, volume))
 }
 
 /// Puts what is to be stored at a place.

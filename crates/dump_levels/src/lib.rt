@@ -11,10 +11,3 @@ mod spans;
 pub use dates::{DateFault, parse_date};
 pub use expiries::parse_expiry;
 pub use levels::{Level, LevelFault, Levels};
-
-#[cfg(test)]
-mod date_tests;
-#[cfg(test)]
-mod expiry_tests;
-#[cfg(test)]
-mod tests;

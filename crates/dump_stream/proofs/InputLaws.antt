@@ -81,10 +81,13 @@ judged_more bytes piece reader judged (inr (at, is)) held = subst (HoldsAt (byte
 -- ---- the place at which the bytes so far stop
 
 -- a reader that goes on was fed a proper prefix
-pub going_begins : (bytes : List ℕ) (reader : Reader) → HasFed bytes reader → IsGoing reader → Begins bytes
+pub going_cut : (bytes : List ℕ) (reader : Reader) → HasFed bytes reader → IsGoing reader → IsCut bytes
 unfolding IsGoing
+going_cut bytes reader fed going = whole_more bytes reader.machine (at_state bytes reader states.Going going fed).0
+
+pub going_begins : (bytes : List ℕ) (reader : Reader) → HasFed bytes reader → IsGoing reader → Begins bytes
 going_begins bytes reader fed going =
-    let cut : IsCut bytes = whole_more bytes reader.machine (at_state bytes reader states.Going going fed).0 in
+    let cut = going_cut bytes reader fed going in
     (cut.0 ∷ cut.1, cut.2, cut.3)
 
 -- a stream that ended with the last byte begins one

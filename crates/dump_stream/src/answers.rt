@@ -1,7 +1,8 @@
 //! Reading a stream of the AFS volume dump format, version 1, by this project's reader rules.
 
-ghost use Rattle.std.specs.Prelude.{◌≡◌, ℕ, Result};
-ghost use Rattle.dump_stream.specs.Reads.{Answers, Agree};
+ghost use Rattle.std.specs.Prelude.{◌≡◌, ℕ, List, [], Result};
+ghost use Rattle.dump_stream.specs.Reads.{Answers, Agree, Runs};
+ghost use Rattle.dump_stream.specs.Sound.{SoundAfter};
 ghost use Rattle.vnode_model.specs.declared.increments.Increment.{Increment};
 ghost use Rattle.dump_stream.specs.declared.answers.StreamFault.{StreamFault};
 ghost use Rattle.dump_stream.specs.declared.answers.StreamFault.TheVariants.{Memory};
@@ -38,11 +39,21 @@ fn answer(alloc: Global, bytes: &[u8]) -> Result<(Increment, usize), StreamFault
     ensures { Answers bytes.now result }
 {
     let mut machine = Machine::new(alloc);
-    let ran = run(&mut machine, alloc, bytes)?;
+    match run(&mut machine, alloc, bytes) {
+        Ok(ran) => answered(&mut machine, ran),
+        Err(_) => Err(StreamFault::Memory),
+    }
+}
+
+/// What a machine says that has run over bytes. What a stream says is taken out of it.
+fn answered(machine: &mut Machine, ran: Ran) -> Result<(Increment, usize), StreamFault>
+    requires { SoundAfter ran machine.old }
+    ensures { (bytes : List ℕ) → Runs [] bytes ran machine.old → Answers bytes result }
+{
     match ran {
         Ran::More => Err(StreamFault::Cut),
         Ran::Stopped { at } => Err(StreamFault::Bad { at }),
-        Ran::Ended { used } => Ok((machine.into_increment(), used)),
+        Ran::Ended { used } => Ok((machine.take_increment(), used)),
     }
 }
 

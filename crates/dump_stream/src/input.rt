@@ -36,11 +36,21 @@ enum Judged {
 
 /// A whole input that comes in pieces and is read as one stream. Its bytes are all taken, also those behind the end of a
 /// stream or behind the place of a refusal.
-#[derive(Drop)]
 pub struct InputReader {
     reader: Reader,
     judged: Judged,
     taken: usize,
+}
+
+/// It is written out, as a machine's is.
+impl Drop for InputReader {
+    fn drop(self) {
+        let InputReader {
+            reader,
+            judged,
+            taken,
+        } = self;
+    }
 }
 
 /// How a piece is judged behind bytes of which no stream has ended.
@@ -129,25 +139,23 @@ impl InputReader {
         requires { IsOpen self }
         ensures { (bytes : List ℕ) → HasTaken bytes self → IsInput bytes result }
     {
-        let InputReader {
-            reader,
-            judged,
-            taken,
-        } = self;
-        match judged {
+        let mut input = self;
+        input.take_input()
+    }
+
+    /// What the input is, which has ended. What its stream says is taken out of the reader.
+    fn take_input(&mut self) -> Input
+        requires { IsOpen self.old }
+        ensures { (bytes : List ℕ) → HasTaken bytes self.old → IsInput bytes result }
+    {
+        match self.judged {
             Judged::Bad { at } => Input::Bad { at },
-            Judged::Going => match reader.finish() {
-                Err(StreamFault::Cut) => Input::Cut { length: taken },
-                _ => unreachable!(),
-            },
+            Judged::Going => Input::Cut { length: self.taken },
             Judged::Ended { at } => {
-                if at < taken {
+                if at < self.taken {
                     return Input::Followed { at };
                 }
-                match reader.finish() {
-                    Ok(increment) => Input::Stream(increment),
-                    Err(_) => unreachable!(),
-                }
+                Input::Stream(self.reader.take_increment())
             }
         }
     }

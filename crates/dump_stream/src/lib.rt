@@ -30,12 +30,3 @@ pub use said::{
 };
 pub use writer::Writer;
 pub use writing::write;
-
-#[cfg(test)]
-mod increment_tests;
-#[cfg(test)]
-mod input_tests;
-#[cfg(test)]
-mod tests;
-#[cfg(test)]
-mod writing_tests;

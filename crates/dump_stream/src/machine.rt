@@ -12,12 +12,23 @@ use std::mem::replace;
 use vnode_model::Increment;
 
 /// A place in a stream: between two fields, or behind a tag.
-#[derive(Drop)]
 pub struct Machine {
     pub sofar: Sofar,
     pub tag: u8,
     pub form: Option<Form>,
     pub payload: Bytes,
+}
+
+/// It is written out, so that who lets a machine go calls it: derived, it would be proved once more at each such place.
+impl Drop for Machine {
+    fn drop(self) {
+        let Machine {
+            sofar,
+            tag,
+            form,
+            payload,
+        } = self;
+    }
 }
 
 impl Machine {
@@ -66,14 +77,13 @@ impl Machine {
         self.form.is_none() && matches!(self.sofar, Sofar::Ended { .. })
     }
 
-    /// What the stream says that has ended.
-    pub fn into_increment(self) -> Increment
-        requires sound { IsSoundMachine self }
-        requires ended { HasEnded self }
-        ensures { EndsWith self result }
+    /// Takes out what the stream says that has ended.
+    pub fn take_increment(&mut self) -> Increment
+        requires sound { IsSoundMachine self.old }
+        requires ended { HasEnded self.old }
+        ensures { EndsWith self.old result }
     {
-        let Machine { sofar, .. } = self;
-        match sofar {
+        match replace(&mut self.sofar, Sofar::Start) {
             Sofar::Ended { made } => Increment::new(made),
             _ => unreachable!(),
         }

@@ -1,6 +1,6 @@
 //! Reading a stream that comes in pieces.
 
-ghost use Rattle.std.specs.Prelude.{◌≡◌, ℕ, ◌+◌, ◌<◌, ◌^◌, List, [], ◌++◌, length, Err, IsOk};
+ghost use Rattle.std.specs.Prelude.{◌≡◌, ℕ, ◌+◌, ◌<◌, ◌^◌, List, [], ◌++◌, length, Ok, Err, IsOk};
 
 use crate::answers::StreamFault;
 use crate::machine::{Machine, Ran};
@@ -27,12 +27,23 @@ enum State {
 }
 
 /// A stream that comes in pieces.
-#[derive(Drop)]
 pub struct Reader {
     alloc: Global,
     machine: Machine,
     count: usize,
     state: State,
+}
+
+/// It is written out, as a machine's is.
+impl Drop for Reader {
+    fn drop(self) {
+        let Reader {
+            alloc,
+            machine,
+            count,
+            state,
+        } = self;
+    }
 }
 
 impl Reader {
@@ -81,8 +92,7 @@ impl Reader {
                 match ran {
                     Ran::More => Ok(Fed::More),
                     Ran::Ended { used } => {
-                        let machine = replace(&mut self.machine, Machine::new(self.alloc));
-                        let increment = machine.into_increment();
+                        let increment = self.machine.take_increment();
                         self.state = State::Finished { increment };
                         Ok(Fed::Done { used })
                     }
@@ -96,6 +106,31 @@ impl Reader {
         }
     }
 
+    /// Takes out what the stream says that has ended.
+    #[tactic(auto, unfolding(crate::specs::Feeds::HasFed, crate::specs::Feeds::IsUnfinished, crate::specs::Feeds::IsGoing, crate::specs::Feeds::IsDone, crate::specs::Feeds::IsStuck, crate::specs::Feeds::IsLost))]
+    pub(crate) fn take_increment(&mut self) -> Increment
+        requires { IsDone self.old }
+        ensures { (bytes : List ℕ) → HasFed bytes self.old → FinishAnswers bytes (Ok result) }
+    {
+        match replace(&mut self.state, State::Lost) {
+            State::Finished { increment } => increment,
+            _ => unreachable!(),
+        }
+    }
+
+    /// How it stands.
+    fn into_state(self) -> State
+        ensures { result ≡ self.state }
+    {
+        let Reader {
+            alloc,
+            machine,
+            count,
+            state,
+        } = self;
+        state
+    }
+
     /// What the stream says that was fed. It takes no memory.
     #[tactic(auto, unfolding(crate::specs::Feeds::HasFed, crate::specs::Feeds::IsUnfinished, crate::specs::Feeds::IsGoing, crate::specs::Feeds::IsDone, crate::specs::Feeds::IsStuck, crate::specs::Feeds::IsLost))]
     pub fn finish(self) -> Result<Increment, StreamFault>
@@ -105,8 +140,7 @@ impl Reader {
         ensures bad { (at : ℕ) → IsStuck at self → result ≡ Err (Bad at) }
         ensures lost { IsLost self → result ≡ Err Memory }
     {
-        let Reader { state, .. } = self;
-        match state {
+        match self.into_state() {
             State::Going => Err(StreamFault::Cut),
             State::Lost => Err(StreamFault::Memory),
             State::Stuck { at } => Err(StreamFault::Bad { at }),

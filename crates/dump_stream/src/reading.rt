@@ -1,11 +1,11 @@
 //! Reading from one field to the next: what may come, and where reading stands after it.
 
-ghost use Rattle.std.specs.Prelude.{◌≡◌, [], IfOk, IsSome};
+ghost use Rattle.std.specs.Prelude.{◌≡◌, ◌-◌, [], length, IfOk, IsSome};
 ghost use Rattle.dump_stream.specs.Forms.{number_from};
-ghost use Rattle.dump_stream.specs.Fields.{AreFields};
-ghost use Rattle.dump_stream.specs.Stream.{header_table};
+ghost use Rattle.dump_stream.specs.Fields.{AreFields, body_of};
+ghost use Rattle.dump_stream.specs.Stream.{header_table, entry_of};
 ghost use Rattle.dump_stream.specs.Machine.{form_at, after, with_field, with_entry, begun};
-ghost use Rattle.dump_stream.specs.Sound.{IsSound, IsNameThere};
+ghost use Rattle.dump_stream.specs.Sound.{IsSound, IsNameThere, IsAccessWhole};
 
 use crate::fields::{data_of, has_tag, is_used, typed};
 use crate::form::Form;
@@ -99,6 +99,21 @@ fn add_entry(mut made: IncrementFields, entry: Entry) -> Result<IncrementFields,
     Ok(made)
 }
 
+/// What was made, with what the section of a vnode says that has ended.
+fn add_vnode(
+    alloc: Global,
+    made: IncrementFields,
+    number: u32,
+    uniq: u32,
+    fields: &[Field],
+) -> Result<IncrementFields, AllocError>
+    requires { IsAccessWhole fields.now }
+    ensures { IfOk result (λ more. more ≡ with_entry made (entry_of number uniq fields.now)) }
+{
+    let entry = entry_from(alloc, number, uniq, fields)?;
+    add_entry(made, entry)
+}
+
 fn vnode_begun(alloc: Global, made: IncrementFields, room: usize, head: &[u8]) -> Sofar
     ensures { result ≡ Sofar.Vnode made room (number_from 0 head.now) (number_from 4 head.now) [] }
 {
@@ -159,6 +174,92 @@ fn after_volume(
     }
 }
 
+/// Another vnode's section begins.
+fn next_vnode(
+    alloc: Global,
+    made: IncrementFields,
+    room: usize,
+    number: u32,
+    uniq: u32,
+    fields: &[Field],
+    head: &[u8],
+) -> Result<Sofar, AllocError>
+    requires { IsAccessWhole fields.now }
+    ensures { IfOk result (λ next. next ≡ Sofar.Vnode (with_entry made (entry_of number uniq fields.now)) (room - length (body_of fields.now)) (number_from 0 head.now) (number_from 4 head.now) []) }
+{
+    let made = add_vnode(alloc, made, number, uniq, fields)?;
+    let room = room.saturating_sub(data_of(fields).len());
+    Ok(vnode_begun(alloc, made, room, head))
+}
+
+/// The last vnode's section ends.
+fn end_vnodes(
+    alloc: Global,
+    made: IncrementFields,
+    number: u32,
+    uniq: u32,
+    fields: &[Field],
+) -> Result<Sofar, AllocError>
+    requires { IsAccessWhole fields.now }
+    ensures { IfOk result (λ next. next ≡ Sofar.Ended (with_entry made (entry_of number uniq fields.now))) }
+{
+    let made = add_vnode(alloc, made, number, uniq, fields)?;
+    Ok(Sofar::Ended { made })
+}
+
+/// A vnode's section goes on.
+fn in_vnode(
+    made: IncrementFields,
+    room: usize,
+    number: u32,
+    uniq: u32,
+    fields: List<Field>,
+    tag: u8,
+    payload: Bytes,
+) -> Result<Sofar, AllocError>
+    ensures { IfOk result (λ next. next ≡ Sofar.Vnode made room number uniq (with_field fields tag payload)) }
+{
+    let fields = with(fields, tag, payload)?;
+    Ok(Sofar::Vnode {
+        made,
+        room,
+        number,
+        uniq,
+        fields,
+    })
+}
+
+/// Where reading stands after a field of a vnode's section, or behind it.
+fn after_vnode(
+    alloc: Global,
+    made: IncrementFields,
+    room: usize,
+    number: u32,
+    uniq: u32,
+    fields: List<Field>,
+    tag: u8,
+    payload: Bytes,
+) -> Result<Sofar, AllocError>
+    requires { IsAccessWhole fields }
+    ensures { IfOk result (λ next. next ≡ after (Sofar.Vnode made room number uniq fields) tag payload) }
+{
+    if tag == 3 {
+        next_vnode(
+            alloc,
+            made,
+            room,
+            number,
+            uniq,
+            fields.as_slice(),
+            payload.as_slice(),
+        )
+    } else if tag == 4 {
+        end_vnodes(alloc, made, number, uniq, fields.as_slice())
+    } else {
+        in_vnode(made, room, number, uniq, fields, tag, payload)
+    }
+}
+
 /// Where reading stands after a field.
 pub fn stand_after(
     sofar: Sofar,
@@ -182,27 +283,7 @@ pub fn stand_after(
             number,
             uniq,
             fields,
-        } => {
-            if tag == 3 {
-                let entry = entry_from(alloc, number, uniq, fields.as_slice())?;
-                let room = room.saturating_sub(data_of(fields.as_slice()).len());
-                let made = add_entry(made, entry)?;
-                Ok(vnode_begun(alloc, made, room, payload.as_slice()))
-            } else if tag == 4 {
-                let entry = entry_from(alloc, number, uniq, fields.as_slice())?;
-                Ok(Sofar::Ended {
-                    made: add_entry(made, entry)?,
-                })
-            } else {
-                Ok(Sofar::Vnode {
-                    made,
-                    room,
-                    number,
-                    uniq,
-                    fields: with(fields, tag, payload)?,
-                })
-            }
-        }
+        } => after_vnode(alloc, made, room, number, uniq, fields, tag, payload),
         Sofar::Ended { made } => Ok(Sofar::Ended { made }),
     }
 }

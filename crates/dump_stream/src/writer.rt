@@ -15,11 +15,22 @@ use vnode_model::Volume;
 
 /// The stream of a volume's increment, given in pieces. It owns the volume. Contracts see it as the bytes that are
 /// left. None of its calls takes memory.
-#[derive(Debug, Drop)]
+#[derive(Debug)]
 pub struct Writer {
     volume: Volume,
     from: u32,
     place: Place,
+}
+
+/// It is written out, so that who lets a writer go calls it: derived, it would be proved once more at each such place.
+impl Drop for Writer {
+    fn drop(self) {
+        let Writer {
+            volume,
+            from,
+            place,
+        } = self;
+    }
 }
 
 impl Model for Writer {

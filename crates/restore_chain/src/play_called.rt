@@ -72,11 +72,11 @@ fn is_same_head(one: &VolHeadFields, other: &VolHeadFields) -> bool
         && one.partition.bytes() == other.partition.bytes()
 }
 
-/// Whether a frame is the head that is called for.
-pub(crate) fn is_head(found: &Frame, called: &Called) -> bool
-    ensures { IsTrue result ↔ (found.now ≡ frames.VolHead called.now.head) }
+/// Whether a frame is the head that is called for. It is let go.
+pub(crate) fn is_head(found: Frame, called: &Called) -> bool
+    ensures { IsTrue result ↔ (found ≡ frames.VolHead called.now.head) }
 {
-    match found {
+    match &found {
         Frame::VolHead(head) => is_same_head(head.fields(), called.head.fields()),
         _ => false,
     }

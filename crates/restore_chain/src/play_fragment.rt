@@ -144,7 +144,7 @@ pub(crate) fn play_fragment<P: Plant>(
         Ok(found) => match found {
             None => Ok(Ended::Bad(called.at)),
             Some(frame) => {
-                if !is_head(&frame, called) {
+                if !is_head(frame, called) {
                     return Ok(Ended::Bad(called.at));
                 }
                 play_frames(alloc, plant, called, joined)

@@ -33,3 +33,6 @@ returns-in-Some-clause-only g c = λ d v is named.
     let name = c.args.name.now in
     let same : c.in-Some.dump.now ≡ d = one_there (record_of c.args.budb.now.database.listed c.args.id) c.in-Some.dump.now d (sym c.in-Some.ensures) is in
     c.play_dump.ensures.only v (subst (λ (x : DumpRecordFields). volume_of x name ≡ Some v) (sym same) named)
+
+pub returns-in-Some-clause-looks : goal.returns-in-Some-clause-looks
+returns-in-Some-clause-looks g c = c.play_dump.ensures.looks

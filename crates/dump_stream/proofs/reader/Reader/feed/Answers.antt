@@ -38,8 +38,7 @@ returns-in-Ended-clause-answer c = λ bytes fed few.
     let going = at_state bytes c.args.self.now states.Going c.in-Going.is fed in
     let h : Runs bytes piece (ran.Ended used) c.run.new.machine = subst (λ (x : Ran). Runs bytes piece x c.run.new.machine) c.in-Ended.is (c.in-Ok.ensures.ran bytes going.0) in
     let done = fed_done bytes piece used c.run.new.machine h in
-    let ends : EndsWith c.run.new.machine c.into_increment-increment.result = subst (λ (m : Machine). EndsWith m c.into_increment-increment.result) c.replace-machine.ensures.value c.into_increment-increment.ensures in
-    let same : h.1 ≡ c.into_increment-increment.result = one_end_says c.run.new.machine h.1 c.into_increment-increment.result h.3 ends in
+    let same : h.1 ≡ c.take_increment-increment.result = one_end_says c.run.new.machine h.1 c.take_increment-increment.result h.3 c.take_increment-increment.ensures in
     ((h.0, h.1, done), (length bytes + used, subst (λ (i : Increment). Answers (bytes ++ piece) (Ok (i, length bytes + used))) same done))
 
 pub returns-in-Stopped-clause-answer : goal.returns-in-Stopped-clause-answer
