@@ -52,16 +52,17 @@ use Rattle.dump_laws.specs.Beginning.{HeadsAreBelow, HasParent, TakenBy, begun_a
 use Rattle.dump_laws.proofs.BeginLaws.{heads_below, begun_kept, taken_runs, first_taken}
 use Rattle.dump_laws.proofs.AppendingLaws.{appending_runs}
 use Rattle.archive_model.proofs.JobLaws.{remaining_among}
-use Rattle.dump_commands.specs.declared.command.DumpCommand.{DumpCommand}
-use Rattle.dump_commands.specs.Scenes.{Scene, database_in, slots_in, entries_in, whole_in}
+use Rattle.archive_model.proofs.RecordLaws.{record_is_there}
+use Rattle.dump_courses.specs.Scenes.{Scene, database_in, slots_in, entries_in, whole_in}
+use Rattle.dump_courses.specs.Courses.{Point, Course, course}
+use Rattle.dump_courses.proofs.Settling.{commit_settled}
+use Rattle.backup_words.specs.declared.command.DumpCommand.{DumpCommand}
 use Rattle.dump_commands.specs.Forms.{IsCommandForm}
 use Rattle.dump_commands.specs.Orders.{asked_port, order_of}
 use Rattle.dump_commands.specs.Refusals.{refusal_by, fault_of, trial_refusal}
 use Rattle.dump_commands.specs.Trials.{trial_text}
-use Rattle.dump_commands.specs.Courses.{Point, Course, course}
 use Rattle.dump_commands.specs.Answers.{Contents, Answer, said, contents_with, begin_of, commit_of, begun_point, ended, begun, tape_for, begun_or, refused_or, real_answer, trial_answer, order_answer, port_answer, dump_answer}
 use Rattle.dump_commands.proofs.Passing.{Passes, passes}
-use Rattle.dump_commands.proofs.Settling.{commit_settled}
 use Rattle.dump_commands.proofs.OrderForms.{order_form}
 use Rattle.dump_archives.specs.Asking.{archive_with, archive_in, AsksOfScene}
 use Rattle.dump_archives.specs.Keeping.{IsKnown, HeadsUpTo, KnowsIds, HoldsOnTheWay, EachKeepsListed, AsksBehind}
@@ -245,6 +246,10 @@ module _ (once : ReadOnce) (s : Scene) (contents : Contents) (records : List Dum
     above = refl;
     clones = tt;
     fair = fewer_fair s.cell grown records (begun_records t.take start records) o.time fair (among_begun t.take start records);
+    low = λ d there. (let less = new d (among_begun t.take start records d there) in omega (arith, less));
+    known = records;
+    fair_known = fair;
+    parent_known = λ d is. held.seen.kept.dumps.complete d (inl (record_is_there (database_in s).listed o.parent d is).0);
     heads = at_most (slots_in s) o.time (database_in s).greatest its all_below;
     greatest = greatest_begun s.log _ its;
     settled = commit_settled (encoded (begin_of s o t)) s.state asks.settled;

@@ -218,9 +218,9 @@ name_after cell is_cell a j m (Some h) is d up are place next at there =
     let name : h.head.name ≡ c.stored.name = x.cloned.name_is ∙ c.name in
     subst (λ (n : List ℕ). IsBefore n next.name) (sym name) (names_ascend cell is_cell before.0 place c.stored next c.at there less)
 
-pub next_clone : (around : Around) → IsCell around.cell → All IsStoredForm around.cell → (a : Archive) (records : List DumpRecordFields) (j : JobFields) (m : Made) → HasGoodPlaces around.cell j.places → HasForms j
-    → Fair around.cell (dumped_by a.contents records) j.time → AreFirstClones around.cell j.time j.places m.clones → CloneGoes a j m j.hand → length (volumes_done j) < length j.places → CloneIsFair a records around j
-next_clone around is_cell stored a records j m good forms fair are goes left =
+pub next_clone : (around : Around) → IsCell around.cell → All IsStoredForm around.cell → (a : Archive) (known : List DumpRecordFields) (j : JobFields) (m : Made) → HasGoodPlaces around.cell j.places → HasForms j
+    → Fair around.cell (dumped_by a.contents known) j.time → ((p : DumpRecordFields) → j.parent ≡ Some p → Contains known p) → AreFirstClones around.cell j.time j.places m.clones → CloneGoes a j m j.hand → length (volumes_done j) < length j.places → CloneIsFair a known around j
+next_clone around is_cell stored a known j m good forms fair parent are goes left =
     let at = within_get j.places (length (volumes_done j)) left in
     let g : IsGoodAt around.cell at.0 = good.good (length (volumes_done j)) at.0 at.1 in
     record {
@@ -233,6 +233,7 @@ next_clone around is_cell stored a records j m good forms fair are goes left =
       after = name_after around.cell is_cell a j m j.hand refl goes good.up are at.0 g.stored at.1 g.at;
       cell = is_cell;
       fair = fair;
+      parent = parent;
       allowed = allowed_there around.cell at.0 j (entry_of_stored g.stored) (its_clone around.cell j.time g.volume) stored forms (good_entry around.cell at.0 g) (good_clone around.cell at.0 j.time g);
     }
 

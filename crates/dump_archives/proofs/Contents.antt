@@ -17,7 +17,7 @@ use Rattle.dump_job.specs.declared.order.DumpOrder.{DumpOrder}
 use Rattle.dump_job.specs.Beginning.{id_of}
 use Rattle.dump_laws.specs.Made.{Basis}
 use Rattle.dump_laws.specs.Growing.{is_clone_of, told_by, with_dump}
-use Rattle.dump_commands.specs.Scenes.{Scene, database_in}
+use Rattle.dump_courses.specs.Scenes.{Scene, database_in}
 use Rattle.dump_commands.specs.Answers.{Contents, place_of, given_by, given_at, contents_with}
 use Rattle.dump_archives.proofs.Clones.{AreFirstClones, FindsAt, found_at}
 

@@ -51,12 +51,12 @@ use Rattle.dump_laws.specs.Running.{basis_of, Goes, IsOpen, CloneGoes, BeforeHea
 use Rattle.dump_laws.specs.Keeping.{Asks, MayStep, contents_behind, one_more, clone_for, clones_behind, dumps_behind, HavePut, Keeps as KeepsDump}
 use Rattle.dump_laws.proofs.CloneGoes.{volumes_more}
 use Rattle.dump_laws.proofs.EventLaws.{each_event}
-use Rattle.dump_commands.specs.Scenes.{Scene, database_in}
-use Rattle.dump_commands.specs.Courses.{Point, around, next_event, behind, Course, goes_on, last_event, event_then, events_left, course}
+use Rattle.dump_courses.specs.Scenes.{Scene, database_in}
+use Rattle.dump_courses.specs.Courses.{Point, around, next_event, behind, Course, goes_on, last_event, event_then, events_left, course}
+use Rattle.dump_courses.specs.Settled.{IsSettledFor}
+use Rattle.dump_courses.proofs.CourseLaws.{event_falls, course_more, course_last}
+use Rattle.dump_courses.proofs.SettledCourses.{event_settled, settled_over}
 use Rattle.dump_commands.specs.Answers.{Contents, contents_with}
-use Rattle.dump_commands.specs.Running.{IsSettledFor}
-use Rattle.dump_commands.proofs.CourseLaws.{event_falls, course_more, course_last}
-use Rattle.dump_commands.proofs.SettledCourses.{event_settled, settled_over}
 use Rattle.dump_archives.proofs.Clones.{HasGoodPlaces, AreFirstClones, clones_more, next_clone}
 use Rattle.dump_archives.proofs.Contents.{same_contents}
 use Rattle.dump_archives.proofs.Fairs.{fewer_fair, done_fair}
@@ -155,6 +155,10 @@ module _ (once : ReadOnce) (s : Scene) (o : DumpOrder) (contents : Contents) (is
     pub above : p.job.head.parent ≡ o.parent
     pub clones : AreFirstClones s.cell o.time o.volumes put.clones
     pub fair : Fair s.cell (dumped_by grown records) o.time
+    pub low : (d : DumpRecordFields) → Contains records d → IsLow d
+    pub known : List DumpRecordFields
+    pub fair_known : Fair s.cell (dumped_by grown known) o.time
+    pub parent_known : (d : DumpRecordFields) → p.job.parent ≡ Some d → Contains known d
     pub heads : HeadsUpTo its (slots_at p.state)
     pub greatest : its ≤ (after p.log).greatest
     pub settled : IsSettledFor p.job p.state
@@ -199,15 +203,15 @@ module _ (once : ReadOnce) (s : Scene) (o : DumpOrder) (contents : Contents) (is
     good_here : HasGoodPlaces s.cell j.places
     good_here = subst (HasGoodPlaces s.cell) (sym u.places) good
 
-    fair_here : Fair s.cell (dumped_by a.contents u.records) j.time
-    fair_here = subst (λ (n : ℕ). Fair s.cell (dumped_by a.contents u.records) n) (sym u.time) (subst (λ (c : Contents). Fair s.cell (dumped_by c u.records) o.time) (sym u.contents_are) u.fair)
+    fair_here : Fair s.cell (dumped_by a.contents u.known) j.time
+    fair_here = subst (λ (n : ℕ). Fair s.cell (dumped_by a.contents u.known) n) (sym u.time) (subst (λ (c : Contents). Fair s.cell (dumped_by c u.known) o.time) (sym u.contents_are) u.fair_known)
 
     clones_here : AreFirstClones s.cell j.time j.places m.clones
     clones_here = subst (λ (n : ℕ). AreFirstClones s.cell n j.places m.clones) (sym u.time) (subst (λ (ps : List ℕ). AreFirstClones s.cell o.time ps m.clones) (sym u.places) u.clones)
 
-    asks_at : (ph : Phase) → j.phase ≡ ph → Before a j m ph → Asks a u.records (around s p) j ph
+    asks_at : (ph : Phase) → j.phase ≡ ph → Before a j m ph → Asks a u.known (around s p) j ph
     asks_at phase.Tape at b = (let due = subst (λ (q : Phase). IsAt q j) at u.forms.job.at in due.room)
-    asks_at phase.Clone at b = (let due = subst (λ (q : Phase). IsAt q j) at u.forms.job.at in next_clone (around s p) is_cell stored a u.records j m good_here u.forms fair_here clones_here b.hand due.left)
+    asks_at phase.Clone at b = (let due = subst (λ (q : Phase). IsAt q j) at u.forms.job.at in next_clone (around s p) is_cell stored a u.known j m good_here u.forms fair_here u.parent_known clones_here b.hand due.left)
     asks_at phase.Head at b = tt
     asks_at phase.Piece at b = tt
     asks_at phase.VolumeEnd at b = tt
@@ -215,10 +219,10 @@ module _ (once : ReadOnce) (s : Scene) (o : DumpOrder) (contents : Contents) (is
     asks_at phase.DumpEnd at b = tt
     asks_at phase.Over at b = tt
 
-    asks : Asks a u.records (around s p) j j.phase
+    asks : Asks a u.known (around s p) j j.phase
     asks = asks_at j.phase refl u.runs.before
 
-    may : MayStep a u.records (around s p) j
+    may : MayStep a u.known (around s p) j
     may = record {
       listed = ap (λ (l : List Change). (after l).listed) (sym u.log);
       slots = sym u.slots;
@@ -228,11 +232,11 @@ module _ (once : ReadOnce) (s : Scene) (o : DumpOrder) (contents : Contents) (is
     }
 
     kept : KeepsDump p.state a u.records (contents_behind a j m j.phase) (clones_behind (around s p) j m j.phase) (dumps_behind u.records j j.phase) e.effects e.changes e.job
-    kept = each_event p.state a u.records (around s p) j m u.runs may
+    kept = each_event p.state a u.records (around s p) j m u.runs u.known may
 
     -- ---- its clones and contents
 
-    clones_at : (ph : Phase) → Before a j m ph → Asks a u.records (around s p) j ph → AreFirstClones s.cell j.time j.places (clones_behind (around s p) j m ph)
+    clones_at : (ph : Phase) → Before a j m ph → Asks a u.known (around s p) j ph → AreFirstClones s.cell j.time j.places (clones_behind (around s p) j m ph)
     clones_at phase.Tape b c = clones_here
     clones_at phase.Clone b c =
         let count : length m.clones ≡ length (volumes_done j) = clones_count a j m j.hand refl b.hand in
@@ -289,7 +293,7 @@ module _ (once : ReadOnce) (s : Scene) (o : DumpOrder) (contents : Contents) (is
     fair_at phase.PartEnd b = u.fair
     fair_at phase.DumpEnd b =
         (let d = all_done a j m j.hand refl b in
-        done_fair s.cell is_cell grown (basis_of j) o.time o.volumes m u.clones (ended_contents d) made u.records (done_record j) (ended_volumes d) refl goes.new u.fair named)
+        done_fair s.cell is_cell grown (basis_of j) o.time o.volumes m u.clones (ended_contents d) made u.records (done_record j) (ended_volumes d) refl (λ e there. (goes.new e there).0) u.fair named)
     fair_at phase.Over b = u.fair
 
     fair_then : Fair s.cell (dumped_by grown kept.last.records) o.time
@@ -310,7 +314,7 @@ module _ (once : ReadOnce) (s : Scene) (o : DumpOrder) (contents : Contents) (is
     journal = event_journaled p.log (around s p) j forms_then.changes
 
     low_here : (d : DumpRecordFields) → Contains u.records d → IsLow d
-    low_here d there = (let below : d.id < j.head.id = goes.new d there in omega (arith, below, u.id))
+    low_here = u.low
 
     low_at : (ph : Phase) (d : DumpRecordFields) → Contains (dumps_behind u.records j ph) d → IsLow d
     low_at phase.Tape d there = low_here d there
@@ -388,7 +392,7 @@ module _ (once : ReadOnce) (s : Scene) (o : DumpOrder) (contents : Contents) (is
     counted_at phase.DumpEnd run b = with_hand_in (λ h. BeforeDumpEnd a j h m) (IsCounted phase.DumpEnd j p.state) j.hand b (λ h x. open_count _ x.open_part)
     counted_at phase.Over run b = absurd run
 
-    finds_at : (ph : Phase) → Before a j m ph → Asks a u.records (around s p) j ph → Finds ph (around s p) j
+    finds_at : (ph : Phase) → Before a j m ph → Asks a u.known (around s p) j ph → Finds ph (around s p) j
     finds_at phase.Tape b c = tt
     finds_at phase.Clone b c =
         ap (λ (x : Option ℕ). goes_on (clone_from s.cell x j).answer) c.at ∙ ap (λ (x : Option VolEntry). goes_on (clone_by x (clone_at s.cell c.place j.time) j).answer) c.listed
@@ -459,6 +463,10 @@ module _ (once : ReadOnce) (s : Scene) (o : DumpOrder) (contents : Contents) (is
       above = same.above ∙ u.above;
       clones = clones_then;
       fair = fair_then;
+      low = λ d there. low_then d (kept.dumps_are d there);
+      known = u.known;
+      fair_known = u.fair_known;
+      parent_known = λ d is. u.parent_known d (sym same.parent ∙ is);
       heads = heads_then;
       greatest = greatest_then;
       settled = settled_then;

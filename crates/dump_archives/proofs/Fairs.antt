@@ -125,6 +125,6 @@ module _ (cell : List Stored) (is_cell : IsCell cell) (grown : Contents) (b : Ba
         | inr refused ↦ inr (refused.0, told ∙ refused.1, (let past : c.time ≤ now = time_past cell p.0 now c made (clone_there cell is_cell p.0 now c p.2) in omega (arith, past, cloned.time_is)))
       ]
 
-  pub done_fair : (records : List DumpRecordFields) (d : DumpRecordFields) → VolumesFit grown b d.volumes m → d.id ≡ b.id → ((e : DumpRecordFields) → Contains records e → e.id < b.id) → Fair cell (dumped_by grown records) now → NoSourceHasBackupName cell → Fair cell (dumped_by grown (records ++ d ∷ [])) now
+  pub done_fair : (records : List DumpRecordFields) (d : DumpRecordFields) → VolumesFit grown b d.volumes m → d.id ≡ b.id → ((e : DumpRecordFields) → Contains records e → e.id ≡ b.id → ⊥) → Fair cell (dumped_by grown records) now → NoSourceHasBackupName cell → Fair cell (dumped_by grown (records ++ d ∷ [])) now
   done_fair records d fit id new fair named =
-      dump_stays_fair cell grown grown records d now m.clones (λ e there is. absurd (let below : e.id < b.id = new e there in omega (arith, below, is, id))) (λ n name other. refl) (λ v there. volume_clone d.volumes fit d id v there) is_cell fair made named all_taken
+      dump_stays_fair cell grown grown records d now m.clones (λ e there is. new e there (is ∙ id)) (λ n name other. refl) (λ v there. volume_clone d.volumes fit d id v there) is_cell fair made named all_taken

@@ -23,7 +23,7 @@ use Rattle.dump_job.specs.Ending.{part_end_items}
 use Rattle.dump_job.specs.Passing.{next_choice, next_changes, part_passed, part_refused}
 use Rattle.dump_job.specs.Closing.{committing, is_too_long, done_changes, dump_ended}
 use Rattle.dump_job.specs.Events.{Around, Event, putting, items_at, clone_by, clone_from, part_end_by, head_event, piece_event, hand_event, event_by, event}
-use Rattle.dump_commands.specs.Courses.{goes_on}
+use Rattle.dump_courses.specs.Courses.{goes_on}
 
 -- ---- what stays
 

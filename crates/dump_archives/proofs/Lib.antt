@@ -1,16 +1,16 @@
-mod Slots
+pub mod Slots
 pub mod Keeping
 pub mod Staying
 pub mod Growing
-mod Clones
-mod Contents
-mod Fairs
-mod Fields
-mod Formed
-mod Puts
+pub mod Clones
+pub mod Contents
+pub mod Fairs
+pub mod Fields
+pub mod Formed
+pub mod Puts
 pub mod Heads
-mod Ways
-mod Lasts
-mod Lengths
+pub mod Ways
+pub mod Lasts
+pub mod Lengths
 pub mod Courses
 pub mod Answers

@@ -12,7 +12,7 @@ use Rattle.archive_model.specs.Archives.{Archive}
 use Rattle.archive_model.specs.Settled.{HoldsSettled}
 use Rattle.archive_model.specs.Sources.{dumped_by}
 use Rattle.dump_laws.specs.Beginning.{HeadsAreBelow}
-use Rattle.dump_commands.specs.Scenes.{Scene, database_in, slots_in}
+use Rattle.dump_courses.specs.Scenes.{Scene, database_in, slots_in}
 use Rattle.dump_commands.specs.Forms.{IsSceneForm}
 use Rattle.dump_commands.specs.Answers.{Contents}
 

@@ -13,7 +13,7 @@ use Rattle.archive_model.specs.Archives.{Archive}
 use Rattle.archive_model.specs.Settled.{HoldsSettled}
 use Rattle.archive_model.specs.Turns.{StillHeld}
 use Rattle.dump_forms.specs.Journals.{IsJournalAfter}
-use Rattle.dump_commands.specs.Scenes.{Scene}
+use Rattle.dump_courses.specs.Scenes.{Scene}
 use Rattle.dump_commands.specs.Answers.{Contents, Answer}
 use Rattle.dump_archives.specs.Asking.{archive_with, archive_in, AsksOfScene}
 

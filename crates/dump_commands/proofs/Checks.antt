@@ -1,5 +1,5 @@
 -- Answers of the search for the first tape, as a command takes them.
-use Rattle.std.proofs.Common.{◌≡◌, ℕ, List, length, refl, sym, ◌∙◌, ap, subst}
+use Rattle.std.proofs.Common.{◌≡◌, ◌≢◌, ℕ, List, length, refl, sym, ◌∙◌, ap, subst}
 use Rattle.std.specs.Prelude.{◌<◌, Some, None, Result, Ok, Err, All, map}
 use Rattle.std.proofs.lemmas.List.{length-map}
 use Rattle.vnode_model.specs.declared.listed.VolEntry.{VolEntry}
@@ -9,10 +9,11 @@ use Rattle.dump_job.specs.declared.fault.JobFault.{JobFault}
 use Rattle.dump_job.specs.declared.fault.JobFault.TheVariants.{NothingToAppend, NoTape, CapacityTooSmall, IdsSpent, LogFull, Failed, Memory}
 use Rattle.dump_job.specs.declared.first_tapes.FirstTape.{FirstTape}
 use Rattle.dump_job.specs.declared.order.DumpOrder.{DumpOrder}
-use Rattle.dump_job.specs.Faults.{Answers}
+use Rattle.dump_job.specs.Faults.{Answers, UnlessFailed}
 use Rattle.dump_job.specs.Beginning.{Checks, Refuses}
-use Rattle.dump_commands.specs.declared.stop.DumpStop.{DumpStop}
-use Rattle.dump_commands.specs.declared.stop.DumpStop.TheVariants as stop
+use Rattle.dump_courses.specs.declared.stop.DumpStop.{DumpStop}
+use Rattle.dump_courses.specs.declared.stop.DumpStop.TheVariants as stop
+use Rattle.dump_courses.proofs.Stopping.{stop_is}
 use Rattle.dump_commands.specs.Refusals.{passed_on, fault_of, first_bad, trial_refusal}
 use Rattle.dump_commands.proofs.EntryLaws.{IsGoodAt, all_good}
 use Rattle.dump_commands.proofs.Passing.{trial_passes}
@@ -44,6 +45,16 @@ told_some told f r same is = sym (ap fault_of (told_passed told f r (sym same) i
 
 pub told_not : (told : Result FirstTape JobFault) (t : FirstTape) (f r : JobFault) → told ≡ Ok t → Ok r ≡ passed_on f → Refuses told (Err f) → ⊥
 told_not told t f r found same is = no_tape told t r found (told_passed told f r (sym same) is)
+
+-- a search that was stopped otherwise than by the plant didn't fail
+pub search_stopped : (T : Type 0) {U : Type 0} (X : Type 0) (f : JobFault) (s : DumpStop) → Err s ≡ passed_on f → UnlessFailed (let r : Result T JobFault = Err f in r) X → (let q : Result U DumpStop = Err s in q) ≢ Err stop.Plant → X
+search_stopped T X NothingToAppend s is holds other = holds
+search_stopped T X (NoTape name) s is holds other = holds
+search_stopped T X CapacityTooSmall s is holds other = holds
+search_stopped T X IdsSpent s is holds other = holds
+search_stopped T X (LogFull size) s is holds other = holds
+search_stopped T X Failed s is holds other = absurd (other (ap (λ (x : DumpStop). Err x) (stop_is s stop.Plant is)))
+search_stopped T X Memory s is holds other = holds
 
 -- ---- an order that isn't refused has good images alone
 

@@ -18,12 +18,12 @@ use Rattle.dump_forms.proofs.EventForms.{event_forms}
 use Rattle.dump_forms.proofs.JournalLaws.{journal_joined, event_journaled}
 use Rattle.dump_forms.proofs.SlotForms.{tapes_fit}
 use Rattle.dump_forms.proofs.BeginForms.{frames_fit, begin_forms}
-use Rattle.dump_commands.specs.declared.command.DumpCommand.{DumpCommand}
-use Rattle.dump_commands.specs.Scenes.{Scene, database_in, slots_in, entries_in, whole_in}
+use Rattle.dump_courses.specs.Scenes.{Scene, database_in, slots_in, entries_in, whole_in}
+use Rattle.dump_courses.specs.Courses.{Point, around, next_event, behind, Course, goes_on, last_event, event_then, course_within, events_left, course}
+use Rattle.backup_words.specs.declared.command.DumpCommand.{DumpCommand}
 use Rattle.dump_commands.specs.Orders.{asked_port, order_of}
 use Rattle.dump_commands.specs.Refusals.{or_else, early_by, none_of, refusal_by, fault_of, trial_refusal}
 use Rattle.dump_commands.specs.Trials.{trial_text}
-use Rattle.dump_commands.specs.Courses.{Point, around, next_event, behind, Course, goes_on, last_event, event_then, course_within, events_left, course}
 use Rattle.dump_commands.specs.Answers.{said, begin_of, begun_point, begun, tape_for, begun_or, refused_or, real_answer, trial_answer, order_answer, port_answer, dump_answer}
 
 -- ---- the course

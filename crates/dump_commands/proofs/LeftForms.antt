@@ -18,8 +18,8 @@ use Rattle.dump_job.specs.declared.first_tapes.FirstTape.{FirstTape}
 use Rattle.dump_job.specs.declared.order.DumpOrder.{DumpOrder}
 use Rattle.dump_job.specs.Beginning.{id_of}
 use Rattle.cell_core.specs.Forms.{IsVolumeForm, IsImageForm, IsStoredForm}
-use Rattle.dump_commands.specs.declared.command.DumpCommand.{DumpCommand}
-use Rattle.dump_commands.specs.Scenes.{Scene, database_in, entries_in}
+use Rattle.dump_courses.specs.Scenes.{Scene, database_in, entries_in}
+use Rattle.backup_words.specs.declared.command.DumpCommand.{DumpCommand}
 use Rattle.dump_commands.specs.Orders.{asked_port, order_of}
 use Rattle.dump_commands.specs.Refusals.{refusal_by, fault_of, trial_refusal}
 use Rattle.dump_commands.specs.Trials.{trial_text}

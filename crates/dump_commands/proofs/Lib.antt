@@ -1,14 +1,7 @@
 pub mod ExpandingLaws
-pub mod Ahead
-pub mod Stopping
-pub mod Settling
-pub mod CourseLaws
-pub mod SettledCourses
-pub mod Ways
 pub mod EntryLaws
 pub mod Passing
 pub mod Scenes
-pub mod Steps
 pub mod FormLaws
 pub mod ShortTapes
 pub mod LeftForms

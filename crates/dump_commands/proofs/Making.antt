@@ -22,23 +22,23 @@ use Rattle.dump_job.specs.declared.fields.Phase.TheVariants as phase
 use Rattle.dump_job.specs.Jobs.{HasPlaces}
 use Rattle.dump_job.specs.Faults.{LeavesBehindLoads}
 use Rattle.dump_job.specs.Beginning.{id_of, begin_effects, first_tape, IsBegun}
-use Rattle.dump_commands.specs.declared.command.DumpCommand.{DumpCommand}
-use Rattle.dump_commands.specs.declared.stop.DumpStop.{DumpStop}
-use Rattle.dump_commands.specs.declared.stop.DumpStop.TheVariants as stops
+use Rattle.dump_courses.specs.declared.stop.DumpStop.{DumpStop}
+use Rattle.dump_courses.specs.declared.stop.DumpStop.TheVariants as stops
+use Rattle.dump_courses.specs.Ahead.{LeftAhead}
+use Rattle.dump_courses.specs.Scenes.{Scene, database_in, slots_in, whole_in, entries_in, IsScene, Finds}
+use Rattle.dump_courses.specs.Courses.{Point, course}
+use Rattle.dump_courses.specs.Running.{IsAtPoint}
+use Rattle.dump_courses.proofs.Ahead.{standing_ahead, loads_ahead, loads_leave, done_ahead_both, leaves_ahead}
+use Rattle.dump_courses.proofs.Stopping.{stopped_map, left_behind}
+use Rattle.dump_courses.proofs.Ways.{SlotLaws}
+use Rattle.dump_courses.proofs.Steps.{IsReady}
+use Rattle.backup_words.specs.declared.command.DumpCommand.{DumpCommand}
 use Rattle.dump_commands.specs.declared.told.Dumped.{Dumped}
-use Rattle.dump_commands.specs.Ahead.{LeftAhead}
-use Rattle.dump_commands.specs.Scenes.{Scene, database_in, slots_in, whole_in, entries_in, IsScene, Finds}
 use Rattle.dump_commands.specs.Refusals.{refusal_by, trial_refusal, fault_of}
 use Rattle.dump_commands.specs.Orders.{asked_port, order_of}
 use Rattle.dump_commands.specs.Trials.{trial_text}
-use Rattle.dump_commands.specs.Courses.{Point, course}
-use Rattle.dump_commands.specs.Running.{IsAtPoint}
 use Rattle.dump_commands.specs.Answers.{Answer, said, commit_of, begun_point, begun, tape_for, refused_or, begun_or, real_answer, trial_answer, order_answer, port_answer, dump_answer, IsAnswered, IsFinished}
-use Rattle.dump_commands.proofs.Ahead.{standing_ahead, loads_ahead, loads_leave, done_ahead_both, leaves_ahead}
-use Rattle.dump_commands.proofs.Stopping.{stopped_map, left_behind}
 use Rattle.dump_commands.proofs.Passing.{FoundTape, passes, found_tape}
-use Rattle.dump_commands.proofs.Ways.{SlotLaws}
-use Rattle.dump_commands.proofs.Steps.{IsReady}
 use Rattle.dump_commands.proofs.Scenes.{scene_slots, scene_whole, scene_later, tape_told, answered_said, begun_done, begun_at, begin_left, begun_answered}
 
 -- ---- a dump that is begun

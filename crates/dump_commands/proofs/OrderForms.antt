@@ -27,9 +27,9 @@ use Rattle.budb_fold.specs.Lookups.{dumps_at, greatest_id, greatest_at, parent_a
 use Rattle.budb.proofs.FoldForms.{forms_after}
 use Rattle.dump_job.specs.Beginning.{new_id}
 use Rattle.dump_forms.specs.Begins.{IsOrderForm}
-use Rattle.dump_commands.specs.declared.command.DumpCommand.{DumpCommand}
+use Rattle.dump_courses.specs.Scenes.{Scene, database_in, entries_in}
+use Rattle.backup_words.specs.declared.command.DumpCommand.{DumpCommand}
 use Rattle.dump_commands.specs.Expanding.{some_suits, places_from, expansion}
-use Rattle.dump_commands.specs.Scenes.{Scene, database_in, entries_in}
 use Rattle.dump_commands.specs.Orders.{port_at, asked_port, expires_or_none, order_of}
 use Rattle.dump_commands.specs.Forms.{IsSceneForm, IsCommandForm}
 

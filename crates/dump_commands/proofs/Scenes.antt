@@ -23,16 +23,17 @@ use Rattle.dump_job.specs.declared.order.DumpOrder.{DumpOrder}
 use Rattle.dump_job.specs.declared.fields.JobFields.{JobFields}
 use Rattle.dump_job.specs.Faults.{LeavesBehindLoads}
 use Rattle.dump_job.specs.Beginning.{id_of, begin_changes, begin_effects, begun_job, first_tape, IsBegun}
-use Rattle.dump_commands.specs.declared.running.End.{End}
+use Rattle.dump_courses.specs.declared.running.End.{End}
+use Rattle.dump_courses.specs.Scenes.{Scene, slots_in, is_bad, whole_in, IsScene}
+use Rattle.dump_courses.specs.Courses.{Course, course}
+use Rattle.dump_courses.specs.Ahead.{IsAhead, DoneAhead}
+use Rattle.dump_courses.specs.Running.{IsAtPoint, IsEnded, answer_of}
+use Rattle.dump_courses.proofs.Ahead.{ahead_both, ahead_come, nothing_ahead, behind_loads, done_ahead_both, leaves_ahead}
+use Rattle.dump_courses.proofs.Settling.{commit_settled}
+use Rattle.dump_courses.proofs.CourseEnds.{course_settled}
+use Rattle.dump_courses.proofs.Ways.{SlotLaws, has_slots}
 use Rattle.dump_commands.specs.declared.told.Dumped.{Dumped}
-use Rattle.dump_commands.specs.Scenes.{Scene, slots_in, is_bad, whole_in, IsScene}
-use Rattle.dump_commands.specs.Courses.{Course, course}
-use Rattle.dump_commands.specs.Ahead.{IsAhead, DoneAhead}
-use Rattle.dump_commands.specs.Running.{IsAtPoint, IsEnded, answer_of}
 use Rattle.dump_commands.specs.Answers.{said, begin_of, commit_of, begun_point, end_line, ended, begun, tape_for, IsAnswered}
-use Rattle.dump_commands.proofs.Ahead.{ahead_both, ahead_come, nothing_ahead, behind_loads, done_ahead_both, leaves_ahead}
-use Rattle.dump_commands.proofs.Settling.{commit_settled}
-use Rattle.dump_commands.proofs.Ways.{SlotLaws, has_slots}
 
 -- ---- tapes without a bad record
 
@@ -125,7 +126,6 @@ module _ {D E : Type 0} (P : Plant D) (C : Cell E) (s : Scene) where
         record {
           keeps = subst (λ (l : List ℕ). Keeps (s.log ++ begin_of s o t) l budb_after) ahead.log (subst (λ (x : Database × FirstTape). Keeps (s.log ++ begin_changes (id_of o x.0) x.1.take) (state_of P new).log budb_after) (λ i. (is.keeps.fold i, tape i)) kept);
           state = ahead;
-          settled = λ whole. commit_settled (encoded (begin_of s o t)) s.state whole;
           slots = stays.stays.slots ∙ is.slots;
           present = λ k. ap (λ (f : ℕ → Bool). f k) stays.stays.present ∙ is.present k;
           cell = is.cell;
@@ -151,9 +151,9 @@ module _ {D E : Type 0} (P : Plant D) (C : Cell E) (s : Scene) where
         let done : DoneAhead P (commit_of s o t ++ (course s (begun_point s o t)).effects) old new = done_ahead_both P (commit_of s o t) (course s (begun_point s o t)).effects old mid new first ended.done in
         record {
           done = done;
-          text = text ∙ (λ i. end_line o.set o.port.offset (ended.over.keeps.fold i).listed (sym ended.answer i));
+          text = text ∙ (λ i. end_line o.set o.port.offset (ended.keeps.fold i).listed (sym ended.answer i));
           time = time;
-          keeps = subst (λ (l : List ℕ). Keeps (course s (begun_point s o t)).log l budb_after) (sym (ap (λ (u : State). u.log) joined)) ended.over.keeps;
+          keeps = subst (λ (l : List ℕ). Keeps (course s (begun_point s o t)).log l budb_after) (sym (ap (λ (u : State). u.log) joined)) ended.keeps;
           state = ahead_both (come es s.state) (come es (state_of P old)) (state_of P new) (ahead_come es s.state (state_of P old) is.state) (done.state told);
-          settled = λ whole. subst IsSettled (sym joined) (ended.over.settled whole);
+          settled = λ whole. subst IsSettled (sym joined) (course_settled s (begun_point s o t) end (commit_settled (encoded (begin_of s o t)) s.state whole) ended.answer);
         }

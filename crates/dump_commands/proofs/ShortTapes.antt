@@ -47,12 +47,12 @@ use Rattle.dump_forms.specs.Forms.{HasForms}
 use Rattle.dump_forms.specs.Begins.{IsOrderForm}
 use Rattle.dump_forms.proofs.SlotForms.{tapes_fit}
 use Rattle.dump_forms.proofs.BeginForms.{begin_forms}
-use Rattle.dump_commands.specs.declared.command.DumpCommand.{DumpCommand}
-use Rattle.dump_commands.specs.Scenes.{Scene, database_in, slots_in, entries_in, whole_in}
+use Rattle.dump_courses.specs.Scenes.{Scene, database_in, slots_in, entries_in, whole_in}
+use Rattle.dump_courses.specs.Courses.{Point, around, next_event, behind, Course, goes_on, last_event, event_then, course_within, events_left, course}
+use Rattle.backup_words.specs.declared.command.DumpCommand.{DumpCommand}
 use Rattle.dump_commands.specs.Orders.{asked_port, order_of}
 use Rattle.dump_commands.specs.Refusals.{refusal_by, fault_of, trial_refusal}
 use Rattle.dump_commands.specs.Trials.{trial_text}
-use Rattle.dump_commands.specs.Courses.{Point, around, next_event, behind, Course, goes_on, last_event, event_then, course_within, events_left, course}
 use Rattle.dump_commands.specs.Answers.{Answer, said, commit_of, begun_point, begun as begun_answer, tape_for, begun_or, refused_or, real_answer, trial_answer, order_answer, port_answer, dump_answer}
 use Rattle.dump_commands.specs.Forms.{AreShort}
 use Rattle.dump_commands.proofs.FormLaws.{some_volumes, next_forms}

@@ -28,16 +28,16 @@ use Rattle.dump_job.specs.declared.fault.JobFault.{JobFault}
 use Rattle.dump_job.specs.declared.first_tapes.FirstTape.{FirstTape}
 use Rattle.dump_job.specs.declared.order.DumpOrder.{DumpOrder}
 use Rattle.dump_job.specs.Beginning.{id_of, begin_changes, begun_job, first_tape}
-use Rattle.dump_commands.specs.declared.command.DumpCommand.{DumpCommand}
-use Rattle.dump_commands.specs.declared.running.End.{End}
+use Rattle.dump_courses.specs.declared.running.End.{End}
+use Rattle.dump_courses.specs.Ahead.{IsAhead, DoneAhead}
+use Rattle.dump_courses.specs.Scenes.{Scene, database_in, slots_in, entries_in, whole_in}
+use Rattle.dump_courses.specs.Courses.{Point, Course, course}
+use Rattle.dump_courses.specs.Running.{IsEnded, answer_of}
+use Rattle.backup_words.specs.declared.command.DumpCommand.{DumpCommand}
 use Rattle.dump_commands.specs.declared.told.Dumped.{Dumped}
-use Rattle.dump_commands.specs.Ahead.{IsAhead, DoneAhead}
-use Rattle.dump_commands.specs.Scenes.{Scene, database_in, slots_in, entries_in, whole_in}
 use Rattle.dump_commands.specs.Orders.{asked_port, order_of}
 use Rattle.dump_commands.specs.Refusals.{fault_line, fault_text, fault_of, refusal_by, trial_refusal}
 use Rattle.dump_commands.specs.Trials.{trial_text}
-use Rattle.dump_commands.specs.Courses.{Point, Course, course}
-use Rattle.dump_commands.specs.Running.{IsEnded, answer_of}
 
 -- what each dump has of a volume, by its id and the volume's name: its contents, or the refusal by which its play ends
 abbrev pub Contents : Type 0

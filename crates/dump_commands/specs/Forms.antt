@@ -9,8 +9,8 @@ use Rattle.tape_config.specs.declared.port.PortFields.{PortFields}
 use Rattle.tape_config.specs.Configs.{port_in, name_or_nothing}
 use Rattle.budb_changes.specs.Forms.{AreChanges}
 use Rattle.cell_core.specs.Forms.{IsVolumeForm, IsStoredForm}
-use Rattle.dump_commands.specs.declared.command.DumpCommand.{DumpCommand}
-use Rattle.dump_commands.specs.Scenes.{Scene}
+use Rattle.dump_courses.specs.Scenes.{Scene}
+use Rattle.backup_words.specs.declared.command.DumpCommand.{DumpCommand}
 use Rattle.dump_commands.specs.Answers.{Contents}
 
 -- Tapes of a port take at most 4,000,000,000 bytes.

@@ -1,10 +1,6 @@
 pub mod Expanding
-pub mod Ahead
-pub mod Scenes
 pub mod Orders
 pub mod Refusals
 pub mod Trials
-pub mod Courses
-pub mod Running
 pub mod Answers
 pub mod Forms

@@ -16,7 +16,7 @@ use Rattle.dump_job.specs.declared.order.DumpOrder.{DumpOrder}
 use Rattle.dump_job.specs.Beginning.{new_id}
 use Rattle.backup_replies.specs.declared.refusals.Refusal.TheVariants.{NoSuchSet, NoSuchLevel, NoSuchPort}
 use Rattle.backup_replies.specs.Texts.{refused_word, refused_number}
-use Rattle.dump_commands.specs.declared.command.DumpCommand.{DumpCommand}
+use Rattle.backup_words.specs.declared.command.DumpCommand.{DumpCommand}
 use Rattle.dump_commands.specs.Expanding.{expansion}
 
 -- ---- what has to be there: the set, the level, the port

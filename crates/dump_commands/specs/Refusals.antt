@@ -5,8 +5,8 @@ use Rattle.vnode_model.specs.declared.listed.EntryState.{EntryState}
 use Rattle.vnode_model.specs.declared.listed.EntryState.TheVariants.{Good, Bad}
 use Rattle.dump_job.specs.declared.fault.JobFault.{JobFault}
 use Rattle.dump_job.specs.declared.fault.JobFault.TheVariants as fault
-use Rattle.dump_commands.specs.declared.stop.DumpStop.{DumpStop}
-use Rattle.dump_commands.specs.declared.stop.DumpStop.TheVariants as stop
+use Rattle.dump_courses.specs.declared.stop.DumpStop.{DumpStop}
+use Rattle.dump_courses.specs.declared.stop.DumpStop.TheVariants as stop
 use Rattle.dump_job.specs.declared.first_tapes.FirstTape.{FirstTape}
 use Rattle.dump_job.specs.declared.order.DumpOrder.{DumpOrder}
 use Rattle.backup_replies.specs.declared.refusals.Refusal.TheVariants.{NoTape, NothingToAppend, CapacityTooSmall, NoVolumes, IdsSpent, LogFull, BadImage}

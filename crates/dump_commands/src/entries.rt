@@ -5,9 +5,9 @@ ghost use Rattle.crash_moments.specs.Moments.{HasCauseAt};
 ghost use Rattle.cell_core.specs.Calls.{entry_of_stored, entry_at};
 ghost use Rattle.dump_commands.specs.Orders.{volumes_of};
 
-use crate::stop::DumpStop;
 use bk_text::{List, SetName};
 use cell_core::{Cell, CellFault};
+use dump_courses::DumpStop;
 use std::alloc::{AllocError, Global};
 use vnode_model::VolEntry;
 use volume_sets::{Sets, one_expansion};

@@ -1,6 +1,6 @@
 //! Laws, each the contract of a function without a body.
 
-ghost use Rattle.std.specs.Prelude.{◌≡◌, ◌<◌, true, false, List as AnyList, All};
+ghost use Rattle.std.specs.Prelude.{List as AnyList, All};
 ghost use Rattle.byte_formats.specs.Forms.{IsFour};
 ghost use Rattle.plant_core.specs.Effects.{come};
 ghost use Rattle.vnode_model.specs.declared.listed.VolEntry.{VolEntry};
@@ -9,24 +9,16 @@ ghost use Rattle.volume_sets.specs.Expansions.{IsExpansion};
 ghost use Rattle.cell_core.specs.Forms.{IsStoredForm};
 ghost use Rattle.dump_forms.specs.Forms.{HasForms};
 ghost use Rattle.dump_forms.specs.Journals.{IsJournalAfter};
-ghost use Rattle.dump_commands.specs.declared.command.DumpCommand.{DumpCommand as AnyCommand};
+ghost use Rattle.dump_courses.specs.Scenes.{Scene};
+ghost use Rattle.dump_courses.specs.Courses.{Point, course};
+ghost use Rattle.backup_words.specs.declared.command.DumpCommand.{DumpCommand as AnyCommand};
 ghost use Rattle.dump_commands.specs.Expanding.{expansion};
-ghost use Rattle.dump_commands.specs.Scenes.{Scene};
 ghost use Rattle.dump_commands.specs.Forms.{IsSceneForm, IsCommandForm, AreShort, AreVolumes};
-ghost use Rattle.dump_commands.specs.Courses.{Point, goes_on, next_event, behind, last_event, event_then, events_left, course};
 ghost use Rattle.dump_commands.specs.Answers.{Contents, dump_answer};
 
 /// The expansion of a volume set, as a function of its entries, is that of its definition.
 pub fn a_set_is_expanded()
     ensures { (entries : AnyList SetEntry) (cell : AnyList VolEntry) → IsExpansion entries cell (expansion entries cell) }
-{}
-
-/// The course of a dump is its next event and the course behind that, or its last event alone, whatever was bounded: each event that
-/// isn't the last leaves fewer.
-pub fn a_course_goes_by_its_events()
-    ensures more { (s : Scene) (p : Point) → goes_on (next_event s p).answer ≡ true → course s p ≡ event_then (next_event s p) (course s (behind p (next_event s p))) }
-    ensures last { (s : Scene) (p : Point) → goes_on (next_event s p).answer ≡ false → course s p ≡ last_event p (next_event s p) }
-    ensures fewer { (s : Scene) (p : Point) → goes_on (next_event s p).answer ≡ true → events_left s.cell (next_event s p).job < events_left s.cell p.job }
 {}
 
 /// What the course of a dump commits has bytes, from a point on at which the dump has its forms, over a cell of volumes of the types: the

@@ -1,7 +1,6 @@
 //! The command `dump`: what it is refused by, what it orders, what it tells of a trial, and the dump from its begin to its end.
 #![tactic(auto)]
 
-mod command;
 mod commands;
 mod dumping;
 mod entries;
@@ -10,16 +9,12 @@ mod made;
 mod orders;
 mod ports;
 mod refusals;
-mod running;
-mod stop;
 mod told;
 mod trials;
 
-pub use command::DumpCommand;
 pub use commands::dump;
 pub use laws::{
-    a_course_goes_by_its_events, a_set_is_expanded, what_a_course_commits_has_bytes,
-    what_a_dump_commits_has_bytes, what_a_dump_leaves_has_forms,
+    a_set_is_expanded, what_a_course_commits_has_bytes, what_a_dump_commits_has_bytes,
+    what_a_dump_leaves_has_forms,
 };
-pub use stop::DumpStop;
 pub use told::Dumped;

@@ -6,8 +6,8 @@ ghost use Rattle.byte_formats.specs.Forms.{IsMaybe};
 ghost use Rattle.dump_job.specs.Beginning.{new_id};
 ghost use Rattle.dump_commands.specs.Orders.{expires_with, order_of};
 
-use crate::command::DumpCommand;
 use crate::entries::volumes_of;
+use backup_words::DumpCommand;
 use bk_text::{Bytes, LevelPath};
 use budb::Budb;
 use dump_job::DumpOrder;

@@ -5,8 +5,8 @@ ghost use Rattle.volume_sets.specs.Sets.{has_set};
 ghost use Rattle.budb_fold.specs.Database.{has_port};
 ghost use Rattle.dump_commands.specs.Orders.{port_of, asked_port};
 
-use crate::command::DumpCommand;
 use backup_replies::{Refusal, refused_number, refused_word};
+use backup_words::DumpCommand;
 use bk_text::{Bytes, SetName};
 use budb_journal::{Database, HostPort};
 use std::alloc::{AllocError, Global};

@@ -2,15 +2,15 @@
 
 ghost use Rattle.std.specs.Prelude.{◌≡◌, IfOk};
 ghost use Rattle.std.specs.Option.{option_copied};
-ghost use Rattle.dump_commands.specs.Running.{answer_of};
+ghost use Rattle.dump_courses.specs.Running.{answer_of};
 ghost use Rattle.dump_commands.specs.Answers.{made_text, end_line};
 
 use crate::refusals::fault_line;
-use crate::running::End;
 use backup_replies::put_made;
 use bk_text::{Bytes, Out, SetName};
 use budb::Budb;
 use budb_journal::DumpRecord;
+use dump_courses::End;
 use std::alloc::{AllocError, Global};
 
 /// What a dump is answered: a text that is still to be told, and the session's time behind it, in seconds since 1970.

@@ -7,12 +7,12 @@ ghost use Rattle.cell_core.specs.Calls.{entry_of_stored, clone_at, is_good};
 ghost use Rattle.budb_fold.specs.Lookups.{record_of};
 ghost use Rattle.dump_commands.specs.Trials.{line_at, volume_lines, trial_text};
 
-use crate::stop::DumpStop;
 use backup_replies::{put_would_dump, put_would_volume};
 use bk_text::{Bytes, Out};
 use budb_fold::{from_of, record_of};
 use budb_journal::DumpRecord;
 use cell_core::{Cell, CellFault, Taken};
+use dump_courses::DumpStop;
 use dump_job::DumpOrder;
 use std::alloc::Global;
 use vnode_model::VolEntry;

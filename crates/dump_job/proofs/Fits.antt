@@ -126,7 +126,7 @@ module _ {D : Type 0} (P : Plant D) where
       record {
         away = one.away;
         done = subst (λ (xs : List Effect). Done P xs old new) one.is done;
-        leaves = record { crash = λ tells survives. absurd (silent tells); told = λ tells. absurd (silent tells) };
+        leaves = record { crash = λ tells survives. absurd (silent tells); told = λ tells. absurd (silent tells); grows = λ tells. absurd (silent tells) };
         log_size = size;
       }
 

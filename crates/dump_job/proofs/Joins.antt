@@ -116,6 +116,7 @@ module _ {D : Type 0} (P : Plant D) where
     leaves = record {
       crash = λ tells survives. subst (λ (xs : List Effect). Leads P.time old new (Joint (state_of P old) (putting_away (loaded_of P old) slot ++ xs))) (same tells) (turns.leaves.crash tells survives);
       told = λ tells. subst (λ (xs : List Effect). IsStartOf (state_of P new).told (come (putting_away (loaded_of P old) slot ++ xs) (state_of P old)).told) (same tells) (turns.leaves.told tells);
+      grows = turns.leaves.grows;
     };
     loaded = turns.loaded;
     log_size = turns.log_size;

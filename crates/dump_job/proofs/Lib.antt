@@ -14,3 +14,4 @@ pub mod Left
 pub mod Events
 pub mod Fits
 pub mod Turns
+pub mod Elsewhere

@@ -12,3 +12,4 @@ pub mod Beginning
 pub mod Jobs
 pub mod Left
 pub mod Stepping
+pub mod Elsewhere

@@ -1,6 +1,6 @@
 //! A dump is begun: it has a tape, and its begin is committed.
 
-ghost use Rattle.std.specs.Prelude.{◌≡◌, ◌⊎◌, ◌+◌, ◌≤◌, ◌++◌, [], ◌∷◌, ℕ, Bool, List as AnyList, length, IfOk, IfErr, OnOk, OnErr};
+ghost use Rattle.std.specs.Prelude.{◌≡◌, ◌⊎◌, ◌+◌, ◌≤◌, ◌++◌, [], ◌∷◌, ℕ, Bool, List as AnyList, length, Some, None, IfOk, IfErr, OnOk, OnErr};
 ghost use Rattle.bk_text.specs.Alphabets.{IsHost};
 ghost use Rattle.byte_formats.specs.Forms.{IsMaybe};
 ghost use Rattle.crash_moments.specs.Moments.{HasCauseAt};
@@ -20,6 +20,7 @@ ghost use Rattle.dump_job.specs.Faults.{UnlessFailed, LeavesBehindLoads};
 ghost use Rattle.tape_writer.specs.Room.{HasRoom};
 ghost use Rattle.dump_job.specs.Beginning.{id_of, first_tape, begin_changes, begin_effects, fresh, first_head, begun_job, IsReady, IsBegun, Refuses};
 
+use crate::changes::with_change;
 use crate::checking::{new_id, passed_tape};
 use crate::fault::JobFault;
 use crate::fields::{JobFields, Phase};
@@ -36,14 +37,10 @@ use tape_frames::{DumpHead, DumpHeadFields};
 fn begin_changes(alloc: Global, id: u32, take: Option<u32>) -> Result<List<Change>, AllocError>
     ensures { IfOk result (λ changes. changes ≡ begin_changes id take) }
 {
-    let mut changes = List::new(alloc);
-    changes.push(Change::Begin { id })?;
+    let changes = with_change(List::new(alloc), Change::Begin { id })?;
     match take {
         None => Ok(changes),
-        Some(initial) => {
-            changes.push(Change::Take { initial })?;
-            Ok(changes)
-        }
+        Some(initial) => with_change(changes, Change::Take { initial }),
     }
 }
 
@@ -80,29 +77,38 @@ fn parent_record(listed: &[DumpRecord], parent: u32) -> Result<Option<DumpRecord
     }
 }
 
-/// What a dump has when it is begun.
-fn begun_job(
-    alloc: Global,
+/// The record of a dump's parent, and its first head twice.
+fn heads(
     listed: &[DumpRecord],
-    order: DumpOrder,
+    order: &DumpOrder,
     id: u32,
-    tape: FirstTape,
-) -> Result<JobFields, AllocError>
-    requires form { IsDumpHead (first_head order id tape) }
-    requires few { length order.volumes ≤ 4294967295 }
-    ensures { IfOk result (λ job. job ≡ begun_job order listed.now id tape) }
+    tape: &FirstTape,
+) -> Result<(Option<DumpRecord>, DumpHead, DumpHead), AllocError>
+    requires form { IsDumpHead (first_head order.now id tape.now) }
+    requires few { length order.now.volumes ≤ 4294967295 }
+    ensures parent { IfOk result (λ heads. heads.0 ≡ record_of listed.now order.now.parent) }
+    ensures head { IfOk result (λ heads. heads.1 ≡ first_head order.now id tape.now) }
+    ensures spare { IfOk result (λ heads. heads.2 ≡ first_head order.now id tape.now) }
 {
-    let head = first_head(&order, id, &tape)?;
-    let spare = first_head(&order, id, &tape)?;
+    let head = first_head(order, id, tape)?;
+    let spare = first_head(order, id, tape)?;
     let parent = parent_record(listed, order.parent)?;
-    let DumpOrder {
-        port,
-        volumes,
-        time,
-        ..
-    } = order;
-    let FirstTape { label, reel, .. } = tape;
-    Ok(JobFields {
+    Ok((parent, head, spare))
+}
+
+/// What a dump has when it is begun, with its head twice.
+fn with_heads(
+    alloc: Global,
+    order: DumpOrder,
+    tape: FirstTape,
+    heads: (Option<DumpRecord>, DumpHead, DumpHead),
+) -> JobFields
+    ensures { result ≡ record { port = order.port; time = order.time; places = order.volumes; parent = heads.0; head = heads.1; spare = Some heads.2; label = tape.label; reel = tape.reel; first = 0; filled = []; hand = None; volumes = []; phase = Phase.Tape } }
+{
+    let (port, volumes, time) = order.into_parts();
+    let (label, reel) = tape.into_parts();
+    let (parent, head, spare) = heads;
+    JobFields {
         port,
         time,
         places: volumes,
@@ -116,7 +122,23 @@ fn begun_job(
         hand: None,
         volumes: List::new(alloc),
         phase: Phase::Tape,
-    })
+    }
+}
+
+/// What a dump has when it is begun.
+fn begun_job(
+    alloc: Global,
+    listed: &[DumpRecord],
+    order: DumpOrder,
+    id: u32,
+    tape: FirstTape,
+) -> Result<JobFields, AllocError>
+    requires form { IsDumpHead (first_head order id tape) }
+    requires few { length order.volumes ≤ 4294967295 }
+    ensures { IfOk result (λ job. job ≡ begun_job order listed.now id tape) }
+{
+    let heads = heads(listed, &order, id, &tape)?;
+    Ok(with_heads(alloc, order, tape, heads))
 }
 
 /// Commits changes for which the log has room. Memory is refused before anything is written.

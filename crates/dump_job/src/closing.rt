@@ -9,6 +9,7 @@ ghost use Rattle.dump_job.specs.Ending.{part_end_items, all_parts};
 ghost use Rattle.dump_job.specs.Cloning.{volumes_done};
 ghost use Rattle.dump_job.specs.Closing.{done_changes, HasEnded, Commits, Closes, Makes, dump_ended};
 
+use crate::changes::with_change;
 use crate::ending::{dump_record, end_part};
 use crate::fields::{JobFields, Phase};
 use bk_text::List;
@@ -124,9 +125,22 @@ fn done_changes(alloc: Global, job: &JobFields) -> Result<List<Change>, AllocErr
     ensures { IfOk result (λ changes. changes ≡ done_changes job.now) }
 {
     let dump = dump_record(alloc, job)?;
-    let mut changes = List::new(alloc);
-    changes.push(Change::Done(dump))?;
-    Ok(changes)
+    with_change(List::new(alloc), Change::Done(dump))
+}
+
+/// No step is left of a dump whose last part was ended.
+fn pass_over(job: &mut JobFields, ended: &Result<bool, CommitFault>)
+    ensures over { HasEnded ended.now → job.new ≡ record job.old { phase = Phase.Over } }
+    ensures same { ended.now ≡ Ok false → job.new ≡ job.old }
+    ensures memory { ended.now ≡ Err CommitFault.Memory → job.new ≡ job.old }
+{
+    match ended {
+        Ok(true) => job.phase = Phase::Over,
+        Ok(false) => {}
+        Err(CommitFault::LogFull { .. }) => job.phase = Phase::Over,
+        Err(CommitFault::Failed) => {}
+        Err(CommitFault::Memory) => {}
+    }
 }
 
 /// Ends the dump: its record is prepared, its last part is ended, and then its record is committed, by which it is listed.
@@ -157,17 +171,7 @@ pub(crate) fn dump_end_step<P: Plant>(
         Ok(changes) => changes,
         Err(_) => return Err(CommitFault::Memory),
     };
-    match close(job, budb, plant, 0, changes.as_slice()) {
-        Ok(true) => {
-            job.phase = Phase::Over;
-            Ok(true)
-        }
-        Ok(false) => Ok(false),
-        Err(CommitFault::LogFull { length }) => {
-            job.phase = Phase::Over;
-            Err(CommitFault::LogFull { length })
-        }
-        Err(CommitFault::Failed) => Err(CommitFault::Failed),
-        Err(CommitFault::Memory) => Err(CommitFault::Memory),
-    }
+    let ended = close(job, budb, plant, 0, changes.as_slice());
+    pass_over(job, &ended);
+    ended
 }

@@ -63,7 +63,7 @@ pub struct Filled {
 }
 
 /// A dump between two steps.
-#[derive(Debug, Drop)]
+#[derive(Debug)]
 pub struct JobFields {
     /// The port whose slots it fills.
     pub port: Port,
@@ -91,4 +91,25 @@ pub struct JobFields {
     pub volumes: List<VolRecord>,
     /// The next step.
     pub phase: Phase,
+}
+
+/// It is written out, so that who lets a dump go calls it: derived, it would be proved once more at each such place.
+impl Drop for JobFields {
+    fn drop(self) {
+        let JobFields {
+            port,
+            time,
+            places,
+            parent,
+            head,
+            spare,
+            label,
+            reel,
+            first,
+            filled,
+            hand,
+            volumes,
+            phase,
+        } = self;
+    }
 }

@@ -32,7 +32,7 @@ use tape_writer::Writer;
 const LAST_TAPE: u64 = 4_294_967_295;
 
 /// The tape on which a dump begins.
-#[derive(Debug, Drop)]
+#[derive(Debug)]
 pub struct FirstTape {
     /// The initial id of the dump set that the dump goes to.
     pub initial: u32,
@@ -50,6 +50,42 @@ pub struct FirstTape {
     pub reel: Reel,
     /// The dump set that is forgotten when it is taken, by its initial id.
     pub take: Option<u32>,
+}
+
+/// It is written out, as an order's is.
+impl Drop for FirstTape {
+    fn drop(self) {
+        let FirstTape {
+            initial,
+            base,
+            tape,
+            label,
+            permanent,
+            uses,
+            reel,
+            take,
+        } = self;
+    }
+}
+
+impl FirstTape {
+    /// The new label, the slot, and what stays on the tape.
+    pub(crate) fn into_parts(self) -> (Option<Label>, Reel)
+        ensures label { result.0 ≡ self.label }
+        ensures reel { result.1 ≡ self.reel }
+    {
+        let FirstTape {
+            initial,
+            base,
+            tape,
+            label,
+            permanent,
+            uses,
+            reel,
+            take,
+        } = self;
+        (label, reel)
+    }
 }
 
 /// What a dump of this dump set wants of a tape of this name.

@@ -13,6 +13,7 @@ ghost use Rattle.dump_job.specs.Beginning.{id_of, first_tape, begin_effects, IsB
 ghost use Rattle.dump_job.specs.Settling.{last_cut, settling_last};
 ghost use Rattle.dump_job.specs.Events.{Around, event};
 ghost use Rattle.dump_job.specs.Jobs.{FitsJob, HasPlaces};
+ghost use Rattle.dump_job.specs.Elsewhere.{LeavesOthers, LeavesTapes};
 ghost use Rattle.dump_job.specs.Stepping.{IsTold, IsAround, Does, Steps};
 
 use crate::answer::StepAnswer;
@@ -113,6 +114,7 @@ impl Job {
         requires nothing { budb.old.prepared ≡ None }
         requires places { HasPlaces C.Cell self.old.places cell.old }
         ensures does { (around : Around) → IsAround P.Plant C.Cell around budb.old plant.old cell.old → Does P.Plant (event around self.old) result budb.old budb.new plant.old plant.new self.new }
+        ensures elsewhere { P.tells → (slots : AnyList Slot) → HasSlots P.Plant slots plant.old → result ≢ StepAnswer.PlantFailed → LeavesOthers P.Plant plant.old plant.new self.old self.new }
         ensures steps { Steps P.Plant result budb.old budb.new plant.old plant.new self.old self.new }
         ensures nothing { budb.new.prepared ≡ None }
         ensures cell { IsTold StepAnswer.CellFailed (C.faults cell.old) (C.faults cell.new) result }
@@ -122,12 +124,13 @@ impl Job {
         step_fields(&mut self.fields, self.alloc, budb, plant, cell)
     }
 
-    /// Settles the tape that the dump cut last, whose records stay: it is loaded and cut at its own length. Where it has cut none
-    /// no call is made. It takes no memory.
+    /// Settles the tape that the dump cut last, whose records stay, as those of all other tapes do: it is loaded and cut at its
+    /// own length. Where it has cut none no call is made. The dump stays as it is, on its port. It takes no memory.
     pub fn settle<P: Plant>(&self, plant: &mut P) -> Result<(), Failed>
         requires { FitsJob P.Plant self.now plant.old }
         ensures nothing { last_cut self.now ≡ None → plant.new ≡ plant.old }
         ensures done { OnOk result (Done P.Plant (settling_last P.Plant (last_cut self.now) plant.old) plant.old plant.new) }
+        ensures elsewhere { P.tells → OnOk result (LeavesTapes P.Plant plant.old plant.new) }
         ensures leaves { Leaves P.Plant (settling_last P.Plant (last_cut self.now) plant.old) plant.old plant.new }
         ensures stays { StaysQuiet P.Plant plant.old plant.new }
         ensures cause { HasCause (P.view plant.old).faults (P.view plant.new).faults result }

@@ -4,6 +4,7 @@
 
 mod answer;
 mod beginning;
+mod changes;
 mod checking;
 mod cloning;
 mod closing;

@@ -152,11 +152,43 @@ fn next_head(job: &JobFields, permanent: &Bytes) -> Result<DumpHead, AllocError>
 }
 
 /// The next part's label and head, and the head once more.
-#[derive(Debug, Drop)]
+#[derive(Debug)]
 pub(crate) struct NextHeads {
     pub(crate) label: Label,
     pub(crate) head: DumpHead,
     pub(crate) spare: DumpHead,
+}
+
+/// It is written out, so that who lets them go calls it: derived, it would be proved once more at each such place.
+impl Drop for NextHeads {
+    fn drop(self) {
+        let NextHeads { label, head, spare } = self;
+    }
+}
+
+impl NextHeads {
+    /// The label, the head, and the head once more.
+    pub(crate) fn into_parts(self) -> (Label, DumpHead, DumpHead)
+        ensures label { result.0 ≡ self.label }
+        ensures head { result.1 ≡ self.head }
+        ensures spare { result.2 ≡ self.spare }
+    {
+        let NextHeads { label, head, spare } = self;
+        (label, head, spare)
+    }
+}
+
+/// The head of the next part twice.
+fn two_heads(job: &JobFields, permanent: &Bytes) -> Result<(DumpHead, DumpHead), AllocError>
+    requires number { job.now.head.tape + 1 ≤ 4294967295 }
+    requires part { job.now.head.part + 1 ≤ 4294967295 }
+    requires permanent { IsMaybe IsTapeName permanent.now }
+    ensures one { IfOk result (λ heads. heads.0 ≡ record job.now.head { tape = job.now.head.tape + 1; part = job.now.head.part + 1; uses = 1; permanent = permanent.now }) }
+    ensures other { IfOk result (λ heads. heads.1 ≡ record job.now.head { tape = job.now.head.tape + 1; part = job.now.head.part + 1; uses = 1; permanent = permanent.now }) }
+{
+    let one = next_head(job, permanent)?;
+    let other = next_head(job, permanent)?;
+    Ok((one, other))
 }
 
 /// The next part's label and heads, on a tape with this label.
@@ -172,9 +204,7 @@ pub(crate) fn next_heads(
     ensures spare { IfOk result (λ next. next.spare ≡ head_by old job.now) }
 {
     let permanent = permanent_in(alloc, old);
-    Ok(NextHeads {
-        label: next_label(alloc, job, &permanent)?,
-        head: next_head(job, &permanent)?,
-        spare: next_head(job, &permanent)?,
-    })
+    let label = next_label(alloc, job, &permanent)?;
+    let (head, spare) = two_heads(job, &permanent)?;
+    Ok(NextHeads { label, head, spare })
 }

@@ -1,10 +1,12 @@
 //! What a dump is asked to do.
 
+ghost use Rattle.std.specs.Prelude.{◌≡◌};
+
 use bk_text::{Bytes, LevelPath, List, SetName};
 use tape_config::Port;
 
 /// What a dump is asked to do.
-#[derive(Debug, Drop)]
+#[derive(Debug)]
 pub struct DumpOrder {
     /// The volume set.
     pub set: SetName,
@@ -24,4 +26,43 @@ pub struct DumpOrder {
     pub time: u32,
     /// The name of the cell, a `Host`; empty where the configuration names none.
     pub cell: Bytes,
+}
+
+/// It is written out, so that who lets an order go calls it: derived, it would be proved once more at each such place.
+impl Drop for DumpOrder {
+    fn drop(self) {
+        let DumpOrder {
+            set,
+            level,
+            expires,
+            parent,
+            port,
+            append,
+            volumes,
+            time,
+            cell,
+        } = self;
+    }
+}
+
+impl DumpOrder {
+    /// The port, the volumes and the time.
+    pub(crate) fn into_parts(self) -> (Port, List<u32>, u32)
+        ensures port { result.0 ≡ self.port }
+        ensures volumes { result.1 ≡ self.volumes }
+        ensures time { result.2 ≡ self.time }
+    {
+        let DumpOrder {
+            set,
+            level,
+            expires,
+            parent,
+            port,
+            append,
+            volumes,
+            time,
+            cell,
+        } = self;
+        (port, volumes, time)
+    }
 }

@@ -13,6 +13,7 @@ ghost use Rattle.dump_job.specs.Ending.{part_end_items, closed_part};
 ghost use Rattle.dump_job.specs.Closing.{committing, made_of, HasEnded, Closes, Makes};
 ghost use Rattle.dump_job.specs.Passing.{next_choice, next_changes, next_name, label_by, head_by, next_frags, hand_with, closing_of, GoesBy, IsPassed, PartEnds};
 
+use crate::changes::with_change;
 use crate::closing::close;
 use crate::ending::{closed_part, end_part};
 use crate::fault::JobFault;
@@ -59,13 +60,9 @@ fn next_frags(job: &JobFields, cut: bool) -> Result<Option<List<Frag>>, AllocErr
 fn takes(alloc: Global, take: Option<u32>) -> Result<List<Change>, AllocError>
     ensures { IfOk result (λ changes. changes ≡ takes take) }
 {
-    let mut changes = List::new(alloc);
     match take {
-        None => Ok(changes),
-        Some(initial) => {
-            changes.push(Change::Take { initial })?;
-            Ok(changes)
-        }
+        None => Ok(List::new(alloc)),
+        Some(initial) => with_change(List::new(alloc), Change::Take { initial }),
     }
 }
 
@@ -141,7 +138,7 @@ fn go_on(job: &mut JobFields, slot: u32, heads: NextHeads, frags: Option<List<Fr
     requires { IfSome job.old.hand (λ h. h.head.fragment ≤ 4294967294) }
     ensures { job.new ≡ record job.old { head = heads.head; spare = Some heads.spare; label = Some heads.label; reel = record { slot = slot; blocks = 0; marks = 0 }; hand = hand_with frags job.old.hand; phase = Phase.Tape } }
 {
-    let NextHeads { label, head, spare } = heads;
+    let (label, head, spare) = heads.into_parts();
     job.hand = hand_with(frags, job.hand.take());
     job.head = head;
     job.spare = Some(spare);

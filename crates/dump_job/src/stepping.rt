@@ -1,13 +1,16 @@
 //! The step of each phase, with what it answers.
 
-ghost use Rattle.std.specs.Prelude.{◌≡◌, ◌≢◌, ◌≤◌, None, IsTrue};
+ghost use Rattle.std.specs.Prelude.{◌≡◌, ◌≢◌, ◌≤◌, List as AnyList, None, IsTrue};
 ghost use Rattle.budb.specs.Views.{BudbView};
+ghost use Rattle.tape_scan.specs.Slots.{Slot};
+ghost use Rattle.tape_scan.specs.Looking.{HasSlots};
 ghost use Rattle.tape_writer.specs.Room.{HasRoom};
 ghost use Rattle.dump_job.specs.Reels.{counts_on, has_room};
 ghost use Rattle.dump_job.specs.Taping.{uses_for};
 ghost use Rattle.dump_job.specs.Volumes.{head_items, headed, piece_items, pieced, end_items, volume_ended, volume_cut};
 ghost use Rattle.dump_job.specs.Events.{Around, items_at, tape_event, putting, hand_event, head_event, piece_event, part_end_event, dump_end_event, event};
 ghost use Rattle.dump_job.specs.Jobs.{IsAtHead, FitsJob, HasPlaces};
+ghost use Rattle.dump_job.specs.Elsewhere.{LeavesOthers};
 ghost use Rattle.dump_job.specs.Stepping.{IsTold, IsPlantAround, IsAround, Does, TakesMemory, Steps, put_answer, clone_answer, pass_answer, done_answer};
 
 use crate::answer::StepAnswer;
@@ -233,6 +236,7 @@ pub(crate) fn step_fields<P: Plant, C: Cell>(
     requires nothing { budb.old.prepared ≡ None }
     requires places { HasPlaces C.Cell job.old.places cell.old }
     ensures does { (around : Around) → IsAround P.Plant C.Cell around budb.old plant.old cell.old → Does P.Plant (event around job.old) result budb.old budb.new plant.old plant.new job.new }
+    ensures elsewhere { P.tells → (slots : AnyList Slot) → HasSlots P.Plant slots plant.old → result ≢ StepAnswer.PlantFailed → LeavesOthers P.Plant plant.old plant.new job.old job.new }
     ensures steps { Steps P.Plant result budb.old budb.new plant.old plant.new job.old job.new }
     ensures cell { IsTold StepAnswer.CellFailed (C.faults cell.old) (C.faults cell.new) result }
     ensures list { C.tells → C.list cell.new ≡ C.list cell.old }

@@ -259,8 +259,8 @@ pub(crate) fn tape_step<P: Plant>(job: &mut JobFields, plant: &mut P) -> Result<
         None => return Ok(false),
     };
     let head = head_now(&mut job.spare, uses);
-    begin_on(plant, &job.port, &mut job.reel, &job.label, &head)?;
     job.head = head;
+    begin_on(plant, &job.port, &mut job.reel, &job.label, &job.head)?;
     job.first = first;
     job.phase = phase_begun(&job.hand);
     Ok(true)

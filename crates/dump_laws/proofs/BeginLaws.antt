@@ -29,10 +29,10 @@ use Rattle.archive_model.specs.Archives.{Archive, listed_of}
 use Rattle.archive_model.specs.Settled.{HoldsSettled, AreHeld}
 use Rattle.archive_model.specs.Turns.{HasOwnHeads}
 use Rattle.tape_scan.proofs.ListLaws.{of_filter}
-use Rattle.archive_model.proofs.AfterLaws.{untouched_behind, taken_behind}
+use Rattle.archive_model.proofs.AfterLaws.{untouched_behind, taken_behind, above_all}
 use Rattle.archive_model.proofs.GrowLaws.{ids_below, none_of_id}
 use Rattle.archive_model.proofs.JobLaws.{remaining_among}
-use Rattle.archive_model.proofs.ListedLaws.{ids_once, parents_below}
+use Rattle.archive_model.proofs.ListedLaws.{parents_below}
 use Rattle.archive_model.proofs.RecordLaws.{record_is_there}
 use Rattle.archive_model.proofs.SlotLaws.{passes_none}
 use Rattle.archive_model.proofs.StepLaws.{untouched_commit, take_commit}
@@ -52,7 +52,7 @@ use Rattle.dump_laws.specs.Writing.{IsEnded}
 use Rattle.dump_laws.specs.Running.{basis_of, ParentFits, Goes, IsAppended, IsChosen, RunsIn}
 use Rattle.dump_laws.specs.Keeping.{AreAllHeld}
 use Rattle.dump_laws.specs.Beginning.{HeadsAreBelow, HasParent, TakenBy, begun_archive, begun_records, nothing_made}
-use Rattle.dump_laws.proofs.ChosenLaws.{IsChosenOf, chosen_of, without_taken, holds_none, parent_stays}
+use Rattle.dump_laws.proofs.ChosenLaws.{IsChosenOf, chosen_of, without_taken, holds_none}
 use Rattle.dump_laws.proofs.Stepping.{runs_by}
 
 -- ---- the id
@@ -120,18 +120,18 @@ module _ (s : State) (a : Archive) (records : List DumpRecordFields) (held : Hol
     | inr some ↦ (let under : some.0.id < its_id = all_below some.0 (held.seen.kept.dumps.complete some.0 (inl some.1)) in omega (arith, under, some.2))
   ]
 
-  begun_parent : ((p : DumpRecordFields) → Contains (listed_of a) p → p.id ≡ o.parent → Contains (listed_of (begun_archive its_id tape.take a)) p) → ParentFits (listed_of (begun_archive its_id tape.take a)) (basis_of begun)
-  begun_parent stays = record {
+  begun_parent : ParentFits (basis_of begun)
+  begun_parent = record {
     below = parent_below;
     none = λ none. ap (record_of (listed_of a)) none ∙ no_zero a.log;
-    some = λ p is. (let there = record_is_there (listed_of a) o.parent p is in (stays p there.0 there.1, there.1));
+    some = λ p is. (record_is_there (listed_of a) o.parent p is).1;
   }
 
-  pub begun_goes : ((p : DumpRecordFields) → Contains (listed_of a) p → p.id ≡ o.parent → Contains (listed_of (begun_archive its_id tape.take a)) p) → (front : Tape) → Goes begun_state (begun_archive its_id tape.take a) (begun_records tape.take a records) begun (nothing_made front)
-  begun_goes stays front = record {
+  pub begun_goes : (front : Tape) → Goes begun_state (begun_archive its_id tape.take a) (begun_records tape.take a records) begun (nothing_made front)
+  begun_goes front = record {
     held = begun_held tape.take its_id s a records held forms;
-    new = λ e there. all_below e (among_begun tape.take a records e there);
-    parent = begun_parent stays;
+    new = λ e there. above_all (seen_in s) a records its_id held.seen all_below e (among_begun tape.take a records e there);
+    parent = begun_parent;
     ended = record { linked = tt; begins = tt; each = All-nil (IsEnded begun.head 0); next = tt; number = refl };
     filled = refl;
     closed = All-nil (IsClosedAt a.slots);
@@ -150,10 +150,10 @@ module _ (s : State) (a : Archive) (records : List DumpRecordFields) (held : Hol
   begun_own = none_of_id a.slots its_id (heads_below a.slots o.time (after a.log).greatest few more below)
 
   -- Behind its begin a dump runs, where its tape is chosen so.
-  pub begun_runs : ((p : DumpRecordFields) → Contains (listed_of a) p → p.id ≡ o.parent → Contains (listed_of (begun_archive its_id tape.take a)) p) → (front : Tape) (slot : Slot) → slice_get a.slots tape.reel.slot ≡ Some slot
+  pub begun_runs : (front : Tape) (slot : Slot) → slice_get a.slots tape.reel.slot ≡ Some slot
       → IsChosen (begun_archive its_id tape.take a) begun front slot tape.label → RunsIn begun_state (begun_archive its_id tape.take a) (begun_records tape.take a records) begun (nothing_made front)
-  begun_runs stays front slot at chosen_is =
-      runs_by begun_state (begun_archive its_id tape.take a) (begun_records tape.take a records) begun (nothing_made front) phase.Tape refl (begun_goes stays front) (record {
+  begun_runs front slot at chosen_is =
+      runs_by begun_state (begun_archive its_id tape.take a) (begun_records tape.take a records) begun (nothing_made front) phase.Tape refl (begun_goes front) (record {
         slot = slot;
         at = at;
         chosen = chosen_is;
@@ -241,7 +241,7 @@ module _ (s : State) (a : Archive) (records : List DumpRecordFields) (held : Hol
       let x : IsChosenOf (listed_of a) w a.slots c = chosen_of (listed_of a) w o.port a.slots c choice in
       let listed_then : listed_of (begun_archive id c.take a) ≡ without_taken (forgotten (listed_of a) (label_in x.slot.items)) (listed_of a) = listed_begun c.take id a ∙ ap (λ (t : Option ℕ). without_taken t (listed_of a)) x.take in
       begun_runs s a records held o few more below parent (taken_tape initial base number c) forms
-      (λ p there same. subst (λ (l : List DumpRecordFields). Contains l p) (sym listed_then) (parent_stays (listed_of a) w x.slot.items o.parent p (ids_once a.log) refl x.passes there same)) (record { label = new_label initial base number c.label; parts = [] }) x.slot x.at (record {
+      (record { label = new_label initial base number c.label; parts = [] }) x.slot x.at (record {
         blocks = refl;
         marks = refl;
         initial = refl;
@@ -269,7 +269,7 @@ module _ (s : State) (a : Archive) (records : List DumpRecordFields) (held : Hol
       AreChanges (begin_changes id None) → IsAppended (begun_archive id None a) job slot front → RunsIn (come (commits (encoded (begin_changes id None)) ∷ []) s) (begun_archive id None a) records job (nothing_made front)
   appended_runs p front slot at forms appended =
       let id : ℕ = new_id o.time (after a.log).greatest in
-      begun_runs s a records held o few more below parent (place_tape p) forms (λ q there same. subst (λ (l : List DumpRecordFields). Contains l q) (sym (listed_begun None id a)) there) front slot at appended
+      begun_runs s a records held o few more below parent (place_tape p) forms front slot at appended
 
 -- the tape on which a dump begins
 pub first_taken : (a : Archive) (o : DumpOrder) (slots : List Slot) (whole : ℕ → Bool) (size : ℕ) (tape : FirstTape) → first_tape (after a.log) slots whole o size ≡ Ok tape

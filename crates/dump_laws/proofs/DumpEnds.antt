@@ -30,7 +30,6 @@ use Rattle.archive_model.specs.Archives.{Archive, Refusal, listed_of, AreHeldOnc
 use Rattle.archive_model.specs.Settled.{HoldsSettled, AreHeld}
 use Rattle.archive_model.specs.Sources.{over_parent, clone_or_refusal}
 use Rattle.archive_model.specs.Turns.{with_items, with_log, with_slot, with_contents, HasOwnHeads, GivesNext, IsClone}
-use Rattle.archive_model.proofs.AfterLaws.{above_all}
 use Rattle.archive_model.proofs.DumpLaws.{mid_put_holds, dump_end_holds}
 use Rattle.archive_model.proofs.DumpedLaws.{dumped_gives}
 use Rattle.archive_model.proofs.ExampleLaws.{dump_done_holds}
@@ -236,7 +235,7 @@ module _ (s : State) (a : Archive) (records : List DumpRecordFields) (j : JobFie
       own_of slots_marked m.ended j.head.id j.reel.slot j.first (located_with 0 j m) refl (sym b.open_part.first) (own_put slots_with m.ended j.head.id j.reel.slot j.first j.reel.slot slot_put (Filemark ∷ []) there_put two put)
 
   unlisted : has_dump (listed_of a) j.head.id ≡ false
-  unlisted = none_listed (listed_of a) j.head.id (λ e there. g.new e (g.held.seen.kept.dumps.complete e (inl there)))
+  unlisted = none_listed (listed_of a) j.head.id (λ e there. (g.new e (g.held.seen.kept.dumps.complete e (inl there))).0)
 
   settled_there : (l : Located) → Contains all_located l → (l.slot ≡ j.reel.slot → ⊥) → l.found.end ≤ s.settled l.slot
   settled_there l there other = elim (in_more m.ended (located_with 0 j m) l there) [
@@ -276,7 +275,7 @@ module _ (s : State) (a : Archive) (records : List DumpRecordFields) (j : JobFie
   ended_done forms =
       let d : DumpRecordFields = record_done j all_volumes in
       let put : Archive = with_slot a j.reel.slot (b.open_part.slot.items ++ ended_item ∷ []) in
-      let none = above_all (seen_in (comes (puts j.reel.slot (record_for ended_item)) s)) put records j.head.id held_put.seen g.new in (
+      let none = g.new in (
         g.held,
         dump_done_holds (comes (puts j.reel.slot (record_for ended_item)) s) put records held_put j.reel.slot slot_put there_put (found_with 0 j m) d all_located (with_dump a.contents (basis_of j) m.clones) closed_there end_there found_there refl
             (λ e there. (none e there).0) (λ e there. (none e there).1) own_there settled_there fits_there unlisted g.parent.below forms (others_told a.contents (basis_of j) m.clones) gives_there,
@@ -294,7 +293,7 @@ module _ (s : State) (a : Archive) (records : List DumpRecordFields) (j : JobFie
       let put : Archive = with_slot a j.reel.slot (b.open_part.slot.items ++ ended_item ∷ []) in
       let ended : Archive = with_contents (with_slot put j.reel.slot (slot_put.items ++ Filemark ∷ [])) (with_dump a.contents (basis_of j) m.clones) in
       let state : State = comes (puts j.reel.slot (record_for ended_item)) s in
-      let none = above_all (seen_in state) put records j.head.id held_put.seen g.new in
+      let none = g.new in
       let once : AreHeldOnce (d ∷ []) slots_marked = own_held_once slots_marked all_located d found_there own_there in
       let marked : HoldsSettled (comes (puts j.reel.slot (record_for Filemark)) state) ended (records ++ d ∷ []) =
       dump_end_holds state put records held_put j.reel.slot slot_put there_put (found_with 0 j m) d all_located (with_dump a.contents (basis_of j) m.clones) closed_there end_there found_there refl (λ e there. (none e there).0) (λ e there. (none e there).1) unlisted g.parent.below once

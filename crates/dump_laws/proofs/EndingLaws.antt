@@ -135,10 +135,10 @@ own_of slots ended id slot first x slot_is first_is own k t n h at is same = eli
   | inr here ↦ (x, in_last ended x, slot_is ∙ sym here.0, first_is ∙ sym here.1)
 ]
 
--- ---- it fits a database that lists dumps of lesser ids
+-- ---- it fits a database that lists dumps of other ids
 
-pub none_listed : (listed : List DumpRecordFields) (id : ℕ) → ((e : DumpRecordFields) → Contains listed e → e.id < id) → has_dump listed id ≡ false
-none_listed listed id below = elim (cases_Bool (has_dump listed id)) [
-  | inl hit ↦ (let x = any_is (is_dump id) listed hit in absurd (omega (arith, below x.0 x.1, eqb-true x.0.id id x.2)))
+pub none_listed : (listed : List DumpRecordFields) (id : ℕ) → ((e : DumpRecordFields) → Contains listed e → e.id ≡ id → ⊥) → has_dump listed id ≡ false
+none_listed listed id other = elim (cases_Bool (has_dump listed id)) [
+  | inl hit ↦ (let x = any_is (is_dump id) listed hit in absurd (other x.0 x.1 (eqb-true x.0.id id x.2)))
   | inr miss ↦ miss
 ]

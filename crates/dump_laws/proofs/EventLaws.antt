@@ -174,15 +174,15 @@ module _ (s : State) (a : Archive) (records : List DumpRecordFields) (around : A
   part_end_by_hand g form listed slots None is b forms = absurd b
   part_end_by_hand g form listed slots (Some h) is b forms = part_end_keeps s a records around j m g h is b form listed slots forms
 
-  by_phase : RunsIn s a records j m → IsFormed j → around.listed ≡ listed_of a → around.slots ≡ a.slots → (p : Phase) → UnlessOver p (Goes s a records j m) → Before a j m p → Asks a records around j p → AreChanges (event_by p around j).changes → KeepsOver (contents_behind a j m p) (clones_behind around j m p) (dumps_behind records j p) (event_by p around j)
-  by_phase r form listed slots phase.Tape g b asks forms = tape_keeps s a records around j m g b form asks slots
-  by_phase r form listed slots phase.Clone g b asks forms = clone_keeps s a records around j m g b asks
-  by_phase r form listed slots phase.Head g b asks forms = head_by g form listed slots j.hand refl b forms
-  by_phase r form listed slots phase.Piece g b asks forms = piece_by g form j.hand refl b
-  by_phase r form listed slots phase.VolumeEnd g b asks forms = volume_end_by g form j.hand refl b
-  by_phase r form listed slots phase.PartEnd g b asks forms = part_end_by_hand g form listed slots j.hand refl b forms
-  by_phase r form listed slots phase.DumpEnd g b asks forms = dump_end_by g form j.hand refl b forms
-  by_phase r form listed slots phase.Over g b asks forms = record {
+  by_phase : (known : List DumpRecordFields) → RunsIn s a records j m → IsFormed j → around.listed ≡ listed_of a → around.slots ≡ a.slots → (p : Phase) → UnlessOver p (Goes s a records j m) → Before a j m p → Asks a known around j p → AreChanges (event_by p around j).changes → KeepsOver (contents_behind a j m p) (clones_behind around j m p) (dumps_behind records j p) (event_by p around j)
+  by_phase known r form listed slots phase.Tape g b asks forms = tape_keeps s a records around j m g b form asks slots
+  by_phase known r form listed slots phase.Clone g b asks forms = clone_keeps s a records around j m g known b asks
+  by_phase known r form listed slots phase.Head g b asks forms = head_by g form listed slots j.hand refl b forms
+  by_phase known r form listed slots phase.Piece g b asks forms = piece_by g form j.hand refl b
+  by_phase known r form listed slots phase.VolumeEnd g b asks forms = volume_end_by g form j.hand refl b
+  by_phase known r form listed slots phase.PartEnd g b asks forms = part_end_by_hand g form listed slots j.hand refl b forms
+  by_phase known r form listed slots phase.DumpEnd g b asks forms = dump_end_by g form j.hand refl b forms
+  by_phase known r form listed slots phase.Over g b asks forms = record {
     before = [];
     last = record { archive = a; records = records };
     made = m;
@@ -200,8 +200,8 @@ module _ (s : State) (a : Archive) (records : List DumpRecordFields) (around : A
   }
 
   -- Each event keeps the archive: what it puts and commits is held settled, step by step, and the dump runs on.
-  pub each_event : RunsIn s a records j m → MayStep a records around j → KeepsOver (contents_behind a j m j.phase) (clones_behind around j m j.phase) (dumps_behind records j j.phase) (event around j)
-  each_event r may = by_phase r may.form may.listed may.slots j.phase r.goes r.before may.asks may.changes
+  pub each_event : RunsIn s a records j m → (known : List DumpRecordFields) → MayStep a known around j → KeepsOver (contents_behind a j m j.phase) (clones_behind around j m j.phase) (dumps_behind records j j.phase) (event around j)
+  each_event r known may = by_phase known r may.form may.listed may.slots j.phase r.goes r.before may.asks may.changes
 
 -- ---- images
 
@@ -238,10 +238,10 @@ image_holds s a records contents clones dumps effects changes next k old c joint
     }
 
 -- and so each image within an event
-pub event_image : (s : State) (a : Archive) (records : List DumpRecordFields) (around : Around) (j : JobFields) (m : Made) → RunsIn s a records j m → MayStep a records around j → (old c : Stock) → Joint s (event around j).effects old c
+pub event_image : (s : State) (a : Archive) (records : List DumpRecordFields) (around : Around) (j : JobFields) (m : Made) → RunsIn s a records j m → (known : List DumpRecordFields) → MayStep a known around j → (old c : Stock) → Joint s (event around j).effects old c
     → ImageHolds a (a.log ++ (event around j).changes) (contents_behind a j m j.phase) c
-event_image s a records around j m r may old c joint =
-    image_holds s a records (contents_behind a j m j.phase) (clones_behind around j m j.phase) (dumps_behind records j j.phase) (event around j).effects (event around j).changes (event around j).job (each_event s a records around j m r may) old c joint
+event_image s a records around j m r known may old c joint =
+    image_holds s a records (contents_behind a j m j.phase) (clones_behind around j m j.phase) (dumps_behind records j j.phase) (event around j).effects (event around j).changes (event around j).job (each_event s a records around j m r known may) old c joint
 
 -- What keeps an archive keeps all tapes of listed dumps held, and so does what a crash leaves of it.
 pub all_held_on : (s : State) (a : Archive) (records : List DumpRecordFields) (contents : ℕ → List ℕ → Result VolumeFields Refusal) (clones : List Taken) (dumps : List DumpRecordFields) (effects : List Effect) (changes : List Change) (next : JobFields) → (k : Keeps s a records contents clones dumps effects changes next) → AreAllHeld (listed_of a) a.slots

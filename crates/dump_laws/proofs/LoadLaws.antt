@@ -118,14 +118,14 @@ behind_loads (n ∷ away) s a records contents clones dumps effects changes next
     }
 
 -- A step, which is an event behind loads, keeps the archive.
-pub step_keeps : (s : State) (a : Archive) (records : List DumpRecordFields) (around : Around) (j : JobFields) (m : Made) → RunsIn s a records j m → MayStep a records around j → (away : List ℕ)
+pub step_keeps : (s : State) (a : Archive) (records : List DumpRecordFields) (around : Around) (j : JobFields) (m : Made) → RunsIn s a records j m → (known : List DumpRecordFields) → MayStep a known around j → (away : List ℕ)
     → Keeps s a records (contents_behind a j m j.phase) (clones_behind around j m j.phase) (dumps_behind records j j.phase) (map settles away ++ (event around j).effects) (event around j).changes (event around j).job
-step_keeps s a records around j m r may away =
+step_keeps s a records around j m r known may away =
     behind_loads away s a records (contents_behind a j m j.phase) (clones_behind around j m j.phase) (dumps_behind records j j.phase) (event around j).effects (event around j).changes (event around j).job r.held
-    (each_event (come (map settles away) s) a records around j m (loads_run away s a records j m r) may)
+    (each_event (come (map settles away) s) a records around j m (loads_run away s a records j m r) known may)
 
 -- and so does each image within it
-pub step_image : (s : State) (a : Archive) (records : List DumpRecordFields) (around : Around) (j : JobFields) (m : Made) → RunsIn s a records j m → MayStep a records around j → (away : List ℕ) (old c : Stock)
+pub step_image : (s : State) (a : Archive) (records : List DumpRecordFields) (around : Around) (j : JobFields) (m : Made) → RunsIn s a records j m → (known : List DumpRecordFields) → MayStep a known around j → (away : List ℕ) (old c : Stock)
     → Joint s (map settles away ++ (event around j).effects) old c → ImageHolds a (a.log ++ (event around j).changes) (contents_behind a j m j.phase) c
-step_image s a records around j m r may away old c joint =
-    image_holds s a records (contents_behind a j m j.phase) (clones_behind around j m j.phase) (dumps_behind records j j.phase) (map settles away ++ (event around j).effects) (event around j).changes (event around j).job (step_keeps s a records around j m r may away) old c joint
+step_image s a records around j m r known may away old c joint =
+    image_holds s a records (contents_behind a j m j.phase) (clones_behind around j m j.phase) (dumps_behind records j j.phase) (map settles away ++ (event around j).effects) (event around j).changes (event around j).job (step_keeps s a records around j m r known may away) old c joint

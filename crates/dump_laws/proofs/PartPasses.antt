@@ -37,7 +37,6 @@ use Rattle.tape_scan.proofs.ListLaws.{of_filter}
 use Rattle.archive_model.proofs.AfterLaws.{taken_behind}
 use Rattle.archive_model.proofs.CutLaws.{any_from}
 use Rattle.archive_model.proofs.JobLaws.{slot_with, remaining_among}
-use Rattle.archive_model.proofs.ListedLaws.{ids_once}
 use Rattle.archive_model.proofs.PutLaws.{with_other}
 use Rattle.archive_model.proofs.SlotLaws.{in_map}
 use Rattle.archive_model.proofs.StepLaws.{read_length, take_commit}
@@ -50,13 +49,13 @@ use Rattle.dump_job.specs.Passing.{slot_of, slots_taken, next_wanting, head_by, 
 use Rattle.dump_laws.specs.Neighbours.{GoesTo}
 use Rattle.dump_laws.specs.Made.{Made, Basis, MayBegin, part_at, all_fragments, all_lying, going_on, done_lying}
 use Rattle.dump_laws.specs.Writing.{IsEnded, IsNextHead, EndedFit, FragmentsFit, VolumesFit, dumping_of, HasHead, HandStreams, BeginsEnded}
-use Rattle.dump_laws.specs.Running.{basis_of, filled_as, ParentFits, Goes, IsOpen, BeforeTape, BeforeHead, BeforePartEnd, Comes}
+use Rattle.dump_laws.specs.Running.{basis_of, filled_as, Goes, IsOpen, BeforeTape, BeforeHead, BeforePartEnd, Comes}
 use Rattle.dump_laws.proofs.NeighbourLaws.{ends_so, in_more, last_more, all_more, all_so, linked_more, map_more, flat_more}
 use Rattle.dump_laws.proofs.PartLaws.{next_part}
 use Rattle.dump_laws.proofs.OwnLaws.{IsNoHead, own_put, all_closed_elsewhere}
 use Rattle.dump_laws.proofs.GoingLaws.{other_settled}
 use Rattle.dump_laws.proofs.EndingLaws.{part_with, located_with, closed_as, own_of}
-use Rattle.dump_laws.proofs.ChosenLaws.{IsChosenOf, without_taken, holds_none, parent_stays}
+use Rattle.dump_laws.proofs.ChosenLaws.{IsChosenOf, without_taken, holds_none}
 use Rattle.dump_laws.proofs.PartEnds.{EndsEarly, early_some, closed_there, end_there, end_held}
 
 -- what was made when the part in hand is ended
@@ -229,18 +228,6 @@ module _ (s : State) (a : Archive) (records : List DumpRecordFields) (j : JobFie
     listed_then : listed_of (passed_archive c.take ended_archive) ≡ without_taken (forgotten (listed_of a) (label_in chosen.slot.items)) (listed_of a)
     listed_then = listed_passed c.take ended_archive ∙ ap (λ (t : Option ℕ). without_taken t (listed_of a)) chosen.take
 
-    parent_passed : ParentFits (listed_of (passed_archive c.take ended_archive)) (basis_of j)
-    parent_passed = record {
-      below = g.parent.below;
-      none = g.parent.none;
-      some = λ p is.
-          (let old = g.parent.some p is in (
-            subst (λ (l : List DumpRecordFields). Contains l p) (sym listed_then)
-                (parent_stays (listed_of a) (next_wanting (listed_of a) j) chosen.slot.items j.head.parent p (ids_once a.log) refl chosen.passes old.0 old.1),
-            old.1,
-          ));
-    }
-
     filled_passed : j.filled ++ record { slot = j.reel.slot; part = closed_part j } ∷ [] ≡ map filled_as (m.ended ++ located_with 1 j m ∷ [])
     filled_passed =
         ap (λ (fs : List Filled). fs ++ record { slot = j.reel.slot; part = closed_part j } ∷ []) g.filled
@@ -250,7 +237,7 @@ module _ (s : State) (a : Archive) (records : List DumpRecordFields) (j : JobFie
     passed_goes = record {
       held = take_held c.take ended_state ended_archive records ended_held forms;
       new = λ e there. g.new e (among_passed c.take ended_archive records e there);
-      parent = parent_passed;
+      parent = g.parent;
       ended = ended_passed j m c.label g.ended o.fragments (early_some j.head.volumes m.fragments early);
       filled = filled_passed;
       closed = ended_closed;

@@ -159,13 +159,13 @@ module _ (s : State) (a : Archive) (records : List DumpRecordFields) (around : A
     put = same_put s a records g.held next.head.id;
   }
 
-  parent_there : (p : DumpRecordFields) → j.parent ≡ Some p → Contains records p × (p.id ≡ j.head.parent)
-  parent_there p is = (let x = g.parent.some p is in (g.held.seen.kept.dumps.complete p (inl x.0), x.1))
+  parent_known : (known : List DumpRecordFields) → CloneIsFair a known around j → (p : DumpRecordFields) → j.parent ≡ Some p → Contains known p × (p.id ≡ j.head.parent)
+  parent_known known c p is = (c.parent p is, g.parent.some p is)
 
-  clone_by_hand : (c : CloneIsFair a records around j) (o : Option Hand) → j.hand ≡ o → IsOpen a j m [] → CloneGoes a j m o → Keeps s a records a.contents (m.clones ++ c.clone ∷ []) records [] [] (cloned c.entry c.clone j)
-  clone_by_hand c None is open_part n =
+  clone_by_hand : (known : List DumpRecordFields) (c : CloneIsFair a known around j) (o : Option Hand) → j.hand ≡ o → IsOpen a j m [] → CloneGoes a j m o → Keeps s a records a.contents (m.clones ++ c.clone ∷ []) records [] [] (cloned c.entry c.clone j)
+  clone_by_hand known c None is open_part n =
       let none : volumes_done j ≡ j.volumes = ap (λ (o : Option Hand). with_hand j.head.tape o j.volumes) is in
-      let cloned_is = is_cloned around.cell c.cell a.contents records j.time c.place j.time c.entry c.clone c.fair c.listed c.taken (basis_of j) parent_there c.allowed in
+      let cloned_is = is_cloned around.cell c.cell a.contents known j.time c.place j.time c.entry c.clone c.fair c.listed c.taken (basis_of j) (parent_known known c) c.allowed in
       let count : length j.volumes ≡ 0 = ap length n.0.volumes in
       let within : 0 < length j.places = omega (arith, get_within j.places (length (volumes_done j)) c.place c.at) in
       let goes = first_clone_goes s a records j m g open_part c.entry c.clone cloned_is (written_some (selected c.clone.volume (from_time j c.entry c.clone) c.clone.time)) in
@@ -173,10 +173,10 @@ module _ (s : State) (a : Archive) (records : List DumpRecordFields) (around : A
       let m2 : Made = record m { clones = m.clones ++ c.clone ∷ [] } in
       subst (λ (vs : List VolRecordFields). Keeps s a records a.contents (m.clones ++ c.clone ∷ []) records [] [] (clone_with vs c.entry c.clone j)) (sym none)
       (clone_kept (clone_with j.volumes c.entry c.clone j) m2 (runs_by s a records (clone_with j.volumes c.entry c.clone j) m2 phase.Head refl goes before))
-  clone_by_hand c (Some h) is open_part d =
+  clone_by_hand known c (Some h) is open_part d =
       let vs : List VolRecordFields = j.volumes ++ record_with j.head.tape h ∷ [] in
       let none : volumes_done j ≡ vs = ap (λ (o : Option Hand). with_hand j.head.tape o j.volumes) is in
-      let cloned_is = is_cloned around.cell c.cell a.contents records j.time c.place j.time c.entry c.clone c.fair c.listed c.taken (basis_of j) parent_there c.allowed in
+      let cloned_is = is_cloned around.cell c.cell a.contents known j.time c.place j.time c.entry c.clone c.fair c.listed c.taken (basis_of j) (parent_known known c) c.allowed in
       let at = get_within j.places (length (volumes_done j)) c.place c.at in
       let within : length j.volumes + 1 < length j.places = omega (arith, at, ap length none, length-append j.volumes (record_with j.head.tape h ∷ [])) in
       let after : IsBefore h.head.name c.entry.name = subst (λ (o : Option Hand). IfSome o (λ (x : Hand). IsBefore x.head.name c.entry.name)) is c.after in
@@ -193,9 +193,9 @@ module _ (s : State) (a : Archive) (records : List DumpRecordFields) (around : A
   abbrev KeepsBy : Event → Type 0
   KeepsBy e = KeepsOver m.clones e
 
-  pub clone_keeps : BeforeClone a j m → (c : CloneIsFair a records around j) → KeepsOver (one_more m.clones (clone_for around.cell j.time (slice_get j.places (length (volumes_done j))))) (event_by phase.Clone around j)
-  clone_keeps b c =
-      let made : KeepsOver (m.clones ++ c.clone ∷ []) (clone_by (Some c.entry) (Some c.clone) j) = clone_by_hand c j.hand refl b.open_part b.hand in
+  pub clone_keeps : (known : List DumpRecordFields) → BeforeClone a j m → (c : CloneIsFair a known around j) → KeepsOver (one_more m.clones (clone_for around.cell j.time (slice_get j.places (length (volumes_done j))))) (event_by phase.Clone around j)
+  clone_keeps known b c =
+      let made : KeepsOver (m.clones ++ c.clone ∷ []) (clone_by (Some c.entry) (Some c.clone) j) = clone_by_hand known c j.hand refl b.open_part b.hand in
       subst (λ (o : Option ℕ). KeepsOver (one_more m.clones (clone_for around.cell j.time o)) (clone_from around.cell o j)) (sym c.at)
       (subst (λ (o : Option VolEntry). KeepsOver (one_more m.clones (clone_at around.cell c.place j.time)) (clone_by o (clone_at around.cell c.place j.time) j)) (sym c.listed)
       (subst (λ (o : Option Taken). KeepsOver (one_more m.clones o) (clone_by (Some c.entry) o j)) (sym c.taken) made))

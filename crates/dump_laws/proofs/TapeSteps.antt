@@ -136,7 +136,7 @@ empty_snoc (p ∷ before) q is = absurd (cc)
 
 module _ (s : State) (a : Archive) (records : List DumpRecordFields) (j : JobFields) (m : Made) (g : Goes s a records j m) (b : BeforeTape a j m) (uses : ℕ) (fit : IsFitItem (Says (frames.DumpHead (head_with uses j.head)))) where
   new_head : (d : DumpRecordFields) → Contains records d → d.id ≡ j.head.id → ⊥
-  new_head d there same = absurd (omega (arith, g.new d there, same))
+  new_head d there = (g.new d there).0
 
   fresh_head : IsFreshHead a.slots (Says (frames.DumpHead (head_with uses j.head)))
   fresh_head =

@@ -57,8 +57,9 @@ pub record IsFormed (j : JobFields) : Type 0 where
 abbrev pub HasRoomBefore : JobFields → Type 0
 HasRoomBefore j = HasRoom 5 2 (with_label j.label (counts_on j.port j.reel))
 
--- The next volume is a good one of a fair cell, and its name is behind that of the volume in hand.
-pub record CloneIsFair (a : Archive) (records : List DumpRecordFields) (around : Around) (j : JobFields) : Type 0 where
+-- The next volume is a good one of a cell that is fair to dumps that are known, the dump's parent among them, be they dumps of the archive
+-- still or not; and its name is behind that of the volume in hand.
+pub record CloneIsFair (a : Archive) (known : List DumpRecordFields) (around : Around) (j : JobFields) : Type 0 where
   pub place : ℕ
   pub entry : VolEntry
   pub clone : Taken
@@ -67,26 +68,27 @@ pub record CloneIsFair (a : Archive) (records : List DumpRecordFields) (around :
   pub taken : clone_at around.cell place j.time ≡ Some clone
   pub after : IfSome j.hand (λ h. IsBefore h.head.name entry.name)
   pub cell : IsCell around.cell
-  pub fair : Fair around.cell (dumped_by a.contents records) j.time
+  pub fair : Fair around.cell (dumped_by a.contents known) j.time
+  pub parent : (p : DumpRecordFields) → j.parent ≡ Some p → Contains known p
   pub allowed : Allowed (selected clone.volume (from_time j entry clone) clone.time)
 
 abbrev pub Asks : Archive → List DumpRecordFields → Around → JobFields → Phase → Type 0
-Asks a records around j phase.Tape = HasRoomBefore j
-Asks a records around j phase.Clone = CloneIsFair a records around j
-Asks a records around j phase.Head = Unit {0}
-Asks a records around j phase.Piece = Unit {0}
-Asks a records around j phase.VolumeEnd = Unit {0}
-Asks a records around j phase.PartEnd = Unit {0}
-Asks a records around j phase.DumpEnd = Unit {0}
-Asks a records around j phase.Over = Unit {0}
+Asks a known around j phase.Tape = HasRoomBefore j
+Asks a known around j phase.Clone = CloneIsFair a known around j
+Asks a known around j phase.Head = Unit {0}
+Asks a known around j phase.Piece = Unit {0}
+Asks a known around j phase.VolumeEnd = Unit {0}
+Asks a known around j phase.PartEnd = Unit {0}
+Asks a known around j phase.DumpEnd = Unit {0}
+Asks a known around j phase.Over = Unit {0}
 
 -- What stands around a dump is what its archive has; its fields and what it commits have their forms; and the step has what it asks.
-pub record MayStep (a : Archive) (records : List DumpRecordFields) (around : Around) (j : JobFields) : Type 0 where
+pub record MayStep (a : Archive) (known : List DumpRecordFields) (around : Around) (j : JobFields) : Type 0 where
   pub listed : around.listed ≡ listed_of a
   pub slots : around.slots ≡ a.slots
   pub form : IsFormed j
   pub changes : AreChanges (event around j).changes
-  pub asks : Asks a records around j j.phase
+  pub asks : Asks a known around j j.phase
 
 -- ---- what a step makes
 

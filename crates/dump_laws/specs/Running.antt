@@ -39,18 +39,18 @@ basis_of j = record { id = j.head.id; above = j.head.parent; parent = j.parent; 
 abbrev pub filled_as : Located → Filled
 filled_as l = record { slot = l.slot; part = tape_part l.found }
 
--- the parent, as it was when the dump began, is a listed dump below this one
-pub record ParentFits (listed : List DumpRecordFields) (b : Basis) : Type 0 where
+-- the parent's record, as it was when the dump began, is of an id below this one; it may be listed no more
+pub record ParentFits (b : Basis) : Type 0 where
   pub below : b.above < b.id
   pub none : b.above ≡ 0 → b.parent ≡ None
-  pub some : (p : DumpRecordFields) → b.parent ≡ Some p → Contains listed p × (p.id ≡ b.above)
+  pub some : (p : DumpRecordFields) → b.parent ≡ Some p → p.id ≡ b.above
 
--- The plant holds an archive, all of whose dumps have ids below this dump's. The ended parts stand closed and settled on other slots
+-- The plant holds an archive, none of whose dumps has this dump's id, or has it as its parent's. The ended parts stand closed and settled on other slots
 -- than the one in hand, and the volumes that are done stand on the tapes.
 pub record Goes (s : State) (a : Archive) (records : List DumpRecordFields) (j : JobFields) (m : Made) : Type 0 where
   pub held : HoldsSettled s a records
-  pub new : (e : DumpRecordFields) → Contains records e → e.id < j.head.id
-  pub parent : ParentFits (listed_of a) (basis_of j)
+  pub new : (e : DumpRecordFields) → Contains records e → (e.id ≡ j.head.id → ⊥) × (e.parent ≡ j.head.id → ⊥)
+  pub parent : ParentFits (basis_of j)
   pub ended : EndedFit j.head m.ended
   pub filled : j.filled ≡ map filled_as m.ended
   pub closed : All (IsClosedAt a.slots) m.ended

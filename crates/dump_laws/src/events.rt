@@ -29,7 +29,7 @@ ghost use Rattle.dump_laws.specs.Keeping.{MayStep, contents_behind, clones_behin
 /// Each event of a dump that runs keeps the archive: what it puts and commits is held settled, effect by effect, with the
 /// contents that there were; at the dump's end those of the dump join them. The dump, as it is then, runs on.
 pub fn each_event_keeps()
-    ensures { (s : State) (a : Archive) (records : AnyList DumpRecordFields) (around : Around) (j : AnyJob) (m : Made) → RunsIn s a records j m → MayStep a records around j
+    ensures { (s : State) (a : Archive) (records : AnyList DumpRecordFields) (around : Around) (j : AnyJob) (m : Made) → RunsIn s a records j m → (known : AnyList DumpRecordFields) → MayStep a known around j
         → Keeps s a records (contents_behind a j m j.phase) (clones_behind around j m j.phase) (dumps_behind records j j.phase) (event around j).effects (event around j).changes (event around j).job }
 {}
 
@@ -41,7 +41,7 @@ pub fn each_image_holds()
 
 /// And so each image within an event of a dump holds the archive before it or behind it, or one between them.
 pub fn each_image_of_an_event_holds()
-    ensures { (s : State) (a : Archive) (records : AnyList DumpRecordFields) (around : Around) (j : AnyJob) (m : Made) → RunsIn s a records j m → MayStep a records around j
+    ensures { (s : State) (a : Archive) (records : AnyList DumpRecordFields) (around : Around) (j : AnyJob) (m : Made) → RunsIn s a records j m → (known : AnyList DumpRecordFields) → MayStep a known around j
         → (old c : Stock) → Joint s (event around j).effects old c → ImageHolds a (a.log ++ (event around j).changes) (contents_behind a j m j.phase) c }
 {}
 

@@ -29,13 +29,13 @@ pub fn a_dump_runs_behind_loads()
 
 /// A step of a dump that runs is an event behind loads, and keeps the archive as the event does.
 pub fn each_step_keeps()
-    ensures { (s : State) (a : Archive) (records : AnyList DumpRecordFields) (around : Around) (j : AnyJob) (m : Made) → RunsIn s a records j m → MayStep a records around j → (away : AnyList ℕ)
+    ensures { (s : State) (a : Archive) (records : AnyList DumpRecordFields) (around : Around) (j : AnyJob) (m : Made) → RunsIn s a records j m → (known : AnyList DumpRecordFields) → MayStep a known around j → (away : AnyList ℕ)
         → Keeps s a records (contents_behind a j m j.phase) (clones_behind around j m j.phase) (dumps_behind records j j.phase) (map settles away ++ (event around j).effects) (event around j).changes (event around j).job }
 {}
 
 /// What a crash leaves of a step, whole or in part, holds the archive before it or behind it, or one between them.
 pub fn each_image_of_a_step_holds()
-    ensures { (s : State) (a : Archive) (records : AnyList DumpRecordFields) (around : Around) (j : AnyJob) (m : Made) → RunsIn s a records j m → MayStep a records around j → (away : AnyList ℕ) (old c : Stock)
+    ensures { (s : State) (a : Archive) (records : AnyList DumpRecordFields) (around : Around) (j : AnyJob) (m : Made) → RunsIn s a records j m → (known : AnyList DumpRecordFields) → MayStep a known around j → (away : AnyList ℕ) (old c : Stock)
         → Joint s (map settles away ++ (event around j).effects) old c → ImageHolds a (a.log ++ (event around j).changes) (contents_behind a j m j.phase) c }
 {}
 

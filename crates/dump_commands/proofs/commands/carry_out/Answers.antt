@@ -3,11 +3,11 @@ use Rattle.std.specs.Prelude.{IfOk, Err, OnErr}
 use Rattle.plant_effects.specs.Runs.{Leaves}
 use Rattle.plant_effects.proofs.Joining.{nothing_left}
 use Rattle.budb_fold.specs.declared.database.Database.{Database}
+use Rattle.dump_courses.specs.declared.stop.DumpStop.TheVariants as stop
+use Rattle.dump_courses.proofs.Stopping.{on_stop, left_standing}
+use Rattle.dump_courses.specs.Ahead.{LeftAhead}
 use Rattle.dump_commands.specs.Answers.{Answer, order_answer, IsAnswered}
 use Rattle.dump_commands.proofs.Making.{order_real, trial_told}
-use Rattle.dump_commands.specs.declared.stop.DumpStop.TheVariants as stop
-use Rattle.dump_commands.proofs.Stopping.{on_stop, left_standing}
-use Rattle.dump_commands.specs.Ahead.{LeftAhead}
 use Rattle.dump_commands.proofs.commands.carry_out.Goals as goal
 
 pub returns-then-command-clause-answered : goal.returns-then-command-clause-answered

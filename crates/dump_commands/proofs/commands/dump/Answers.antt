@@ -1,11 +1,11 @@
 use Rattle.std.proofs.Common.{refl, sym, ◌∙◌, ap}
 use Rattle.plant_effects.proofs.Joining.{nothing_left}
 use Rattle.budb_fold.specs.declared.database.Database.{Database}
+use Rattle.dump_courses.proofs.Stopping.{on_stop, left_standing}
+use Rattle.dump_courses.specs.declared.stop.DumpStop.TheVariants as stop
 use Rattle.dump_commands.specs.Orders.{asked_port}
 use Rattle.dump_commands.specs.Answers.{dump_answer}
 use Rattle.dump_commands.proofs.Making.{dump_refused}
-use Rattle.dump_commands.proofs.Stopping.{on_stop, left_standing}
-use Rattle.dump_commands.specs.declared.stop.DumpStop.TheVariants as stop
 use Rattle.dump_commands.proofs.commands.dump.Goals as goal
 
 pub dump_to-requires-clause-port : goal.dump_to-requires-clause-port

@@ -3,11 +3,11 @@ use Rattle.std.specs.Prelude.{IfOk, Err, OnErr}
 use Rattle.plant_effects.specs.Runs.{Leaves}
 use Rattle.plant_effects.proofs.Joining.{nothing_left}
 use Rattle.dump_job.specs.declared.order.DumpOrder.{DumpOrder}
+use Rattle.dump_courses.specs.declared.stop.DumpStop.TheVariants as stop
+use Rattle.dump_courses.proofs.Stopping.{on_stop, left_standing}
+use Rattle.dump_courses.specs.Ahead.{LeftAhead}
 use Rattle.dump_commands.specs.Answers.{Answer, dump_answer, IsAnswered}
 use Rattle.dump_commands.proofs.Making.{dump_ordered, scene_read}
-use Rattle.dump_commands.specs.declared.stop.DumpStop.TheVariants as stop
-use Rattle.dump_commands.proofs.Stopping.{on_stop, left_standing}
-use Rattle.dump_commands.specs.Ahead.{LeftAhead}
 use Rattle.dump_commands.proofs.commands.dump_to.Goals as goal
 
 pub returns-clause-answered : goal.returns-clause-answered

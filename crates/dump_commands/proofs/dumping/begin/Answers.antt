@@ -1,8 +1,7 @@
 use Rattle.dump_job.specs.Beginning.{first_tape}
 use Rattle.dump_job.specs.declared.fields.JobFields.{JobFields}
-use Rattle.dump_commands.proofs.Checks.{told_not}
+use Rattle.dump_commands.proofs.Checks.{told_not, search_stopped}
 use Rattle.tape_scan.specs.Looking.{Loads}
-use Rattle.dump_commands.proofs.Stopping.{search_stopped}
 use Rattle.dump_commands.proofs.dumping.begin.Goals as goal
 
 pub returns-in-Ok-pass_on-clause-never : goal.returns-in-Ok-pass_on-clause-never

@@ -1,7 +1,6 @@
 use Rattle.dump_job.specs.Beginning.{first_tape}
-use Rattle.dump_commands.proofs.Checks.{told_none, told_some}
+use Rattle.dump_commands.proofs.Checks.{told_none, told_some, search_stopped}
 use Rattle.tape_scan.specs.Looking.{Loads}
-use Rattle.dump_commands.proofs.Stopping.{search_stopped}
 use Rattle.dump_commands.proofs.dumping.checked.Goals as goal
 
 pub returns-in-Ok-clause-told : goal.returns-in-Ok-clause-told

@@ -1,10 +1,10 @@
 use Rattle.std.proofs.Common.{◌∙◌, ap}
 use Rattle.std.specs.Prelude.{Err}
 use Rattle.std.proofs.lemmas.Result.{err_from_is_err_and}
-use Rattle.dump_commands.specs.declared.stop.DumpStop.TheVariants as stop
-use Rattle.dump_commands.specs.Courses.{course}
-use Rattle.dump_commands.proofs.Steps.{fit_sound}
-use Rattle.dump_commands.proofs.Stopping.{on_stop, handed, left_whole}
+use Rattle.dump_courses.specs.declared.stop.DumpStop.TheVariants as stop
+use Rattle.dump_courses.specs.Courses.{course}
+use Rattle.dump_courses.proofs.Steps.{fit_sound}
+use Rattle.dump_courses.proofs.Stopping.{on_stop, handed, left_whole}
 use Rattle.dump_commands.proofs.dumping.finish.Goals as goal
 
 pub returns-clause-finished : goal.returns-clause-finished

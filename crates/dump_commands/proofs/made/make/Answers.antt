@@ -6,12 +6,12 @@ use Rattle.tape_config.specs.declared.port.PortFields.{PortFields}
 use Rattle.dump_job.specs.declared.fault.JobFault.{JobFault}
 use Rattle.dump_job.specs.declared.fields.JobFields.{JobFields}
 use Rattle.dump_job.specs.Beginning.{IsBegun}
+use Rattle.dump_courses.specs.declared.stop.DumpStop.TheVariants as stop
+use Rattle.dump_courses.proofs.Stopping.{on_stop, handed, left_loads}
+use Rattle.dump_courses.specs.Ahead.{LeftAhead}
 use Rattle.dump_commands.specs.Answers.{begun, IsAnswered}
 use Rattle.dump_commands.proofs.Making.{begun_going, begun_places, make_left, make_never, make_leaves, make_told, make_stopped}
-use Rattle.dump_commands.specs.declared.stop.DumpStop.TheVariants as stop
-use Rattle.dump_commands.proofs.Stopping.{on_stop, handed, left_loads}
 use Rattle.tape_scan.specs.Looking.{Loads}
-use Rattle.dump_commands.specs.Ahead.{LeftAhead}
 use Rattle.dump_commands.proofs.made.make.Goals as goal
 
 pub run-requires-clause-going : goal.run-requires-clause-going

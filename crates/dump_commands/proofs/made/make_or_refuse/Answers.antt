@@ -1,12 +1,12 @@
 use Rattle.std.proofs.Common.{refl, sym, ◌∙◌, subst, ap}
 use Rattle.std.specs.Prelude.{◌<◌, ℕ, All, Err}
+use Rattle.dump_courses.proofs.Ways.{SlotLaws}
+use Rattle.dump_courses.specs.declared.stop.DumpStop.TheVariants as stop
+use Rattle.dump_courses.proofs.Stopping.{on_stop, handed, left_loads}
 use Rattle.dump_commands.proofs.Checks.{good_places}
 use Rattle.dump_commands.proofs.Passing.{passes}
-use Rattle.dump_commands.proofs.Ways.{SlotLaws}
 use Rattle.dump_commands.proofs.Making.{search_told, real_left, refused_answered, passed_told, passed_left, passed_stopped}
 use Rattle.std.proofs.lemmas.Result.{err_from_is_err_and}
-use Rattle.dump_commands.specs.declared.stop.DumpStop.TheVariants as stop
-use Rattle.dump_commands.proofs.Stopping.{on_stop, handed, left_loads}
 use Rattle.tape_scan.specs.Looking.{Loads}
 use Rattle.dump_commands.specs.Answers.{real_answer}
 use Rattle.dump_commands.proofs.made.make_or_refuse.Goals as goal

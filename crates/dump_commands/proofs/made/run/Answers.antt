@@ -1,8 +1,8 @@
 use Rattle.std.proofs.Common.{◌∙◌, ap}
 use Rattle.std.specs.Prelude.{Err}
 use Rattle.std.proofs.lemmas.Result.{err_from_is_err_and}
-use Rattle.dump_commands.specs.declared.stop.DumpStop.TheVariants as stop
-use Rattle.dump_commands.proofs.Stopping.{on_stop, handed}
+use Rattle.dump_courses.specs.declared.stop.DumpStop.TheVariants as stop
+use Rattle.dump_courses.proofs.Stopping.{on_stop, handed}
 use Rattle.dump_commands.proofs.made.run.Goals as goal
 
 pub returns-in_err-text-clause-stopped : goal.returns-in_err-text-clause-stopped

@@ -6,8 +6,14 @@ use Rattle.dump_job.specs.declared.fields.Phase.TheVariants as phase
 use Rattle.cell_core.specs.declared.stored.Stored.{Stored}
 use Rattle.std.specs.Prelude.{List}
 use Rattle.dump_job.specs.Events.{Event, clone_event}
-use Rattle.dump_job.specs.Stepping.{Does, TakesMemory, Steps}
+use Rattle.dump_job.specs.Stepping.{IsPlantAround, Does, TakesMemory, Steps}
 use Rattle.dump_job.proofs.Turns.{event_at, clone_due, few_frags, part_due, sound_job, does_clone, steps_clone}
+use Rattle.budb.specs.Views.{BudbView}
+use Rattle.dump_job.specs.Events.{Around}
+use Rattle.dump_job.specs.Elsewhere.{LeavesOthers}
+use Rattle.dump_job.proofs.Elsewhere.{leaves_others, clone_leaves}
+use Rattle.std.proofs.Common.{refl}
+use Rattle.std.specs.Prelude.{[]}
 use Rattle.dump_job.proofs.stepping.step_fields.Goals as goal
 
 pub clone_step-requires : goal.clone_step-requires
@@ -106,3 +112,52 @@ returns-in-PartEnd-clause-steps g c = c.part_end_turn.ensures.steps
 
 pub returns-in-DumpEnd-clause-steps : goal.returns-in-DumpEnd-clause-steps
 returns-in-DumpEnd-clause-steps g c = c.dump_end_turn.ensures.steps
+
+pub returns-in-Tape-clause-elsewhere : goal.returns-in-Tape-clause-elsewhere
+returns-in-Tape-clause-elsewhere g c = λ told slots has unfailed.
+    let around : Around = record { listed = c.args.budb.now.database.listed; log_size = (g.P.Plant.view c.args.plant.now).log_size; slots = slots; cell = [] } in
+    let near : IsPlantAround g.P.Plant around c.args.budb.now c.args.plant.now = record { tells = told; listed = refl; log_size = refl; slots = has } in
+    let does = subst (λ (e : Event). Does g.P.Plant e c.tape_turn.result c.args.budb.now c.args.budb.now c.args.plant.now c.tape_turn.new.plant c.tape_turn.new.job) (sym (event_at around c.args.job.now phase.Tape c.in-Tape.is)) (c.tape_turn.ensures.does around c.args.budb.now near) in
+    leaves_others g.P.Plant told around c.args.budb.now c.args.budb.now c.args.plant.now c.tape_turn.new.plant c.args.job.now c.tape_turn.new.job c.tape_turn.result does (c.tape_turn.ensures.steps c.args.budb.now c.requires.nothing).same_job (c.tape_turn.ensures.steps c.args.budb.now c.requires.nothing).loads unfailed
+
+pub returns-in-Head-clause-elsewhere : goal.returns-in-Head-clause-elsewhere
+returns-in-Head-clause-elsewhere g c = λ told slots has unfailed.
+    let around : Around = record { listed = c.args.budb.now.database.listed; log_size = (g.P.Plant.view c.args.plant.now).log_size; slots = slots; cell = [] } in
+    let near : IsPlantAround g.P.Plant around c.args.budb.now c.args.plant.now = record { tells = told; listed = refl; log_size = refl; slots = has } in
+    let does = subst (λ (e : Event). Does g.P.Plant e c.head_turn.result c.args.budb.now c.head_turn.new.budb c.args.plant.now c.head_turn.new.plant c.head_turn.new.job) (sym (event_at around c.args.job.now phase.Head c.in-Head.is)) (c.head_turn.ensures.does around near) in
+    leaves_others g.P.Plant told around c.args.budb.now c.head_turn.new.budb c.args.plant.now c.head_turn.new.plant c.args.job.now c.head_turn.new.job c.head_turn.result does c.head_turn.ensures.steps.same_job c.head_turn.ensures.steps.loads unfailed
+
+pub returns-in-Piece-clause-elsewhere : goal.returns-in-Piece-clause-elsewhere
+returns-in-Piece-clause-elsewhere g c = λ told slots has unfailed.
+    let around : Around = record { listed = c.args.budb.now.database.listed; log_size = (g.P.Plant.view c.args.plant.now).log_size; slots = slots; cell = [] } in
+    let near : IsPlantAround g.P.Plant around c.args.budb.now c.args.plant.now = record { tells = told; listed = refl; log_size = refl; slots = has } in
+    let does = subst (λ (e : Event). Does g.P.Plant e c.piece_turn.result c.args.budb.now c.args.budb.now c.args.plant.now c.piece_turn.new.plant c.piece_turn.new.job) (sym (event_at around c.args.job.now phase.Piece c.in-Piece.is)) (c.piece_turn.ensures.does around c.args.budb.now near) in
+    leaves_others g.P.Plant told around c.args.budb.now c.args.budb.now c.args.plant.now c.piece_turn.new.plant c.args.job.now c.piece_turn.new.job c.piece_turn.result does (c.piece_turn.ensures.steps c.args.budb.now c.requires.nothing).same_job (c.piece_turn.ensures.steps c.args.budb.now c.requires.nothing).loads unfailed
+
+pub returns-in-VolumeEnd-clause-elsewhere : goal.returns-in-VolumeEnd-clause-elsewhere
+returns-in-VolumeEnd-clause-elsewhere g c = λ told slots has unfailed.
+    let around : Around = record { listed = c.args.budb.now.database.listed; log_size = (g.P.Plant.view c.args.plant.now).log_size; slots = slots; cell = [] } in
+    let near : IsPlantAround g.P.Plant around c.args.budb.now c.args.plant.now = record { tells = told; listed = refl; log_size = refl; slots = has } in
+    let does = subst (λ (e : Event). Does g.P.Plant e c.volume_end_turn.result c.args.budb.now c.args.budb.now c.args.plant.now c.volume_end_turn.new.plant c.volume_end_turn.new.job) (sym (event_at around c.args.job.now phase.VolumeEnd c.in-VolumeEnd.is)) (c.volume_end_turn.ensures.does around c.args.budb.now near) in
+    leaves_others g.P.Plant told around c.args.budb.now c.args.budb.now c.args.plant.now c.volume_end_turn.new.plant c.args.job.now c.volume_end_turn.new.job c.volume_end_turn.result does (c.volume_end_turn.ensures.steps c.args.budb.now c.requires.nothing).same_job (c.volume_end_turn.ensures.steps c.args.budb.now c.requires.nothing).loads unfailed
+
+pub returns-in-PartEnd-clause-elsewhere : goal.returns-in-PartEnd-clause-elsewhere
+returns-in-PartEnd-clause-elsewhere g c = λ told slots has unfailed.
+    let around : Around = record { listed = c.args.budb.now.database.listed; log_size = (g.P.Plant.view c.args.plant.now).log_size; slots = slots; cell = [] } in
+    let near : IsPlantAround g.P.Plant around c.args.budb.now c.args.plant.now = record { tells = told; listed = refl; log_size = refl; slots = has } in
+    let does = subst (λ (e : Event). Does g.P.Plant e c.part_end_turn.result c.args.budb.now c.part_end_turn.new.budb c.args.plant.now c.part_end_turn.new.plant c.part_end_turn.new.job) (sym (event_at around c.args.job.now phase.PartEnd c.in-PartEnd.is)) (c.part_end_turn.ensures.does around near) in
+    leaves_others g.P.Plant told around c.args.budb.now c.part_end_turn.new.budb c.args.plant.now c.part_end_turn.new.plant c.args.job.now c.part_end_turn.new.job c.part_end_turn.result does c.part_end_turn.ensures.steps.same_job c.part_end_turn.ensures.steps.loads unfailed
+
+pub returns-in-DumpEnd-clause-elsewhere : goal.returns-in-DumpEnd-clause-elsewhere
+returns-in-DumpEnd-clause-elsewhere g c = λ told slots has unfailed.
+    let around : Around = record { listed = c.args.budb.now.database.listed; log_size = (g.P.Plant.view c.args.plant.now).log_size; slots = slots; cell = [] } in
+    let near : IsPlantAround g.P.Plant around c.args.budb.now c.args.plant.now = record { tells = told; listed = refl; log_size = refl; slots = has } in
+    let does = subst (λ (e : Event). Does g.P.Plant e c.dump_end_turn.result c.args.budb.now c.dump_end_turn.new.budb c.args.plant.now c.dump_end_turn.new.plant c.dump_end_turn.new.job) (sym (event_at around c.args.job.now phase.DumpEnd c.in-DumpEnd.is)) (c.dump_end_turn.ensures.does around near) in
+    leaves_others g.P.Plant told around c.args.budb.now c.dump_end_turn.new.budb c.args.plant.now c.dump_end_turn.new.plant c.args.job.now c.dump_end_turn.new.job c.dump_end_turn.result does c.dump_end_turn.ensures.steps.same_job c.dump_end_turn.ensures.steps.loads unfailed
+
+pub returns-in-Clone-clause-elsewhere : goal.returns-in-Clone-clause-elsewhere
+returns-in-Clone-clause-elsewhere g c = λ told slots has unfailed.
+    clone_leaves g.P.Plant g.C.Cell.tells (g.C.Cell.list c.args.cell.now) c.clone_step.result c.args.plant.now c.args.job.now c.clone_step.new.job c.clone_step.ensures.cloned c.clone_step.ensures.err
+
+pub returns-in-Over-clause-elsewhere : goal.returns-in-Over-clause-elsewhere
+returns-in-Over-clause-elsewhere g c = λ told slots has unfailed. absurd (c.requires.going c.in-Over.is)

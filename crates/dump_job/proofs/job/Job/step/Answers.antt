@@ -4,6 +4,7 @@ use Rattle.dump_job.specs.declared.fields.Phase.TheVariants as phase
 use Rattle.dump_job.specs.Events.{event}
 use Rattle.dump_job.specs.Jobs.{FitsJob, HasPlaces}
 use Rattle.dump_job.specs.Stepping.{Does, Steps}
+use Rattle.dump_job.specs.Elsewhere.{LeavesOthers}
 use Rattle.dump_job.proofs.job.Job.step.Goals as goal
 
 pub step_fields-requires-clause-going : goal.step_fields-requires-clause-going
@@ -23,3 +24,8 @@ returns-clause-does g c = λ around a.
 pub returns-clause-steps : goal.returns-clause-steps
 returns-clause-steps g c =
     subst (λ (x : JobFields). Steps g.P.Plant c.step_fields.result c.args.budb.now c.step_fields.new.budb c.args.plant.now c.step_fields.new.plant x c.step_fields.new.job) c.self.view_is c.step_fields.ensures.steps
+
+pub returns-clause-elsewhere : goal.returns-clause-elsewhere
+returns-clause-elsewhere g c = λ told slots has unfailed.
+    subst (λ (x : JobFields). LeavesOthers g.P.Plant c.args.plant.now c.step_fields.new.plant x c.step_fields.new.job) c.self.view_is
+    (c.step_fields.ensures.elsewhere told slots has unfailed)
