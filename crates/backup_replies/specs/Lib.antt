@@ -1,6 +1,5 @@
 pub mod Refusals
 pub mod Texts
-pub mod Streams
 pub mod Levels
 pub mod Volumes
 pub mod Labels

@@ -14,7 +14,6 @@ mod refused;
 mod restores;
 mod scans;
 mod sets;
-mod streams;
 mod told;
 mod volumes;
 
@@ -35,6 +34,5 @@ pub use restores::{
 };
 pub use scans::{put_added, put_found};
 pub use sets::{set_reply, sets_lines};
-pub use streams::{bad_line, cut_line, entry_line, usage_line, volume_line};
 pub use told::has_refusal;
 pub use volumes::put_listed;

@@ -20,7 +20,7 @@ use Rattle.backup_script.specs.declared.serving.ServeStop.TheVariants.{Read, Pla
 use Rattle.backup_script.proofs.LineLaws.{AreLines, no_lines, one_line_more, lines_cut, line_first, ended_first, or_false, one_no_quit}
 use Rattle.backup_script.proofs.ScriptLaws.{script_more}
 use Rattle.backup_script.proofs.HeldLaws.{held_behind}
-use Rattle.backup_script.proofs.PastLaws.{past_whole, past_both}
+use Rattle.backup_script.proofs.PastLaws.{past_whole, past_both, least_whole, least_both}
 use Rattle.backup_script.proofs.StageLaws.{behind, stage_behind, stage_later, stage_last}
 use Rattle.backup_script.proofs.ServingLaws.{no_lines_ran}
 
@@ -143,6 +143,7 @@ module _ {D E : Type 0} (P : Plant D) (C : Cell E) where
             clock = now.clock;
             leaves = leaves_both P s.effects now.stage.effects old mid new so.went.done so.leaves now.leaves;
             past = past_both P s.effects now.stage.effects now.stage.whole old mid new so.went.done so.leaves now.past;
+            least = least_both P s.effects now.stage.whole old mid new so.went.done now.least;
           };
           whole_is = ap (λ (es : List Effect). s.effects ++ es) first.whole_is ∙ append-nil s.effects;
         }
@@ -238,6 +239,7 @@ module _ {D E : Type 0} (P : Plant D) (C : Cell E) where
           clock = ran.went.moments;
           leaves = ran.leaves;
           past = past_whole P s.effects old new ran.went.done ran.leaves fits;
+          least = least_whole P s.effects old new ran.went.done;
         };
         took = took;
         begun = inl refl;

@@ -1,12 +1,12 @@
--- What is done in each image of now: the effects that are whole.
-use Rattle.std.proofs.Common.{◌+◌, List, [], ◌++◌, length, take, sym, subst, arith, length-append}
+-- What is done in each image of now: the effects that are whole. And what they tell was told.
+use Rattle.std.proofs.Common.{◌+◌, ℕ, List, [], ◌++◌, length, take, sym, ◌∙◌, ap, subst, arith, length-append}
 use Rattle.std.proofs.lemmas.List.{take_all}
 use Rattle.std.proofs.Math.Seq.{take-append-add}
 use Rattle.plant_core.specs.declared.plant.Plant.{Ghosts as Plant}
 use Rattle.plant_core.specs.Crashes.{State, LeftIn}
 use Rattle.plant_core.specs.Effects.{Effect, come}
-use Rattle.plant_effects.specs.Runs.{state_of, Done, Leaves}
-use Rattle.plant_effects.proofs.States.{alike_come, come_append, left_alike, grows_twice}
+use Rattle.plant_effects.specs.Runs.{state_of, IsStartOf, Done, Leaves}
+use Rattle.plant_effects.proofs.States.{alike_come, come_append, left_alike, grows_same, grows_twice}
 use Rattle.plant_effects.proofs.Joining.{Fits as FitsPlant}
 use Rattle.backup_script.specs.Running.{LeavesPast}
 
@@ -57,3 +57,18 @@ module _ {D : Type 0} (P : Plant D) where
           low_is = omega (arith, next.step.low_is, length-append es whole);
         };
       }
+
+  -- ---- the least that was told
+
+  pub least_none : (es : List Effect) (old new : D) → Leaves P es old new → P.tells → IsStartOf (come [] (state_of P old)).told (state_of P new).told
+  least_none es old new leaves told = leaves.grows told
+
+  pub least_whole : (es : List Effect) (old new : D) → Done P es old new → P.tells → IsStartOf (come es (state_of P old)).told (state_of P new).told
+  least_whole es old new done told = grows_same (come es (state_of P old)).told (state_of P new).told (done.state told).told
+
+  pub least_both : (es whole : List Effect) (old mid new : D) → Done P es old mid → (P.tells → IsStartOf (come whole (state_of P mid)).told (state_of P new).told)
+      → P.tells → IsStartOf (come (es ++ whole) (state_of P old)).told (state_of P new).told
+  least_both es whole old mid new done least told =
+      subst (λ (l : List ℕ). IsStartOf l (state_of P new).told)
+      ((alike_come whole (come es (state_of P old)) (state_of P mid) (done.state told)).told ∙ ap (λ (s : State). s.told) (sym (come_append es whole (state_of P old))))
+      (least told)

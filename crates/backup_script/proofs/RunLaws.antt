@@ -23,7 +23,7 @@ use Rattle.backup_script.specs.Scripts.{Outcome, between, script}
 use Rattle.backup_script.specs.Running.{Went, LeftAt, WentShort, HasTold}
 use Rattle.backup_script.specs.Ended.{world_on, Ends, EndsShort}
 use Rattle.backup_script.proofs.StageLaws.{stage_front}
-use Rattle.backup_script.proofs.PastLaws.{past_none, past_both}
+use Rattle.backup_script.proofs.PastLaws.{past_none, past_both, least_none, least_both}
 
 -- some contents, which no call reads
 pub no_contents : Contents
@@ -67,6 +67,7 @@ module _ {D E : Type 0} (P : Plant D) (C : Cell E) where
         clock = b.clock;
         leaves = leaves_both P [] b.stage.effects old mid new first first_leaves b.leaves;
         past = past_both P [] b.stage.effects b.stage.whole old mid new first first_leaves b.past;
+        least = least_both P [] b.stage.whole old mid new first b.least;
       };
       took = begun.took;
       begun = begun.begun;
@@ -83,6 +84,7 @@ module _ {D E : Type 0} (P : Plant D) (C : Cell E) where
       clock = refl;
       leaves = leaves;
       past = past_none P [] old new leaves;
+      least = least_none P [] old new leaves;
     };
     took = record { taken = []; is = refl; few = omega arith };
     begun = inr (inl refl);

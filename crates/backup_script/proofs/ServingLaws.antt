@@ -3,8 +3,8 @@ use Rattle.std.proofs.Common.{◌≡◌, inl, ℕ, ◌<◌, Bool, true, false, L
 use Rattle.std.specs.Str.Lines.{lines, strip_carriage_return}
 use Rattle.std.proofs.lemmas.List.{append-nil}
 use Rattle.plant_core.specs.declared.plant.Plant.{Ghosts as Plant}
-use Rattle.plant_core.specs.Effects.{Effect}
-use Rattle.plant_effects.specs.Runs.{Leaves}
+use Rattle.plant_core.specs.Effects.{Effect, come}
+use Rattle.plant_effects.specs.Runs.{state_of, IsStartOf, Leaves}
 use Rattle.plant_effects.proofs.Joining.{Fits as FitsPlant, nothing_done, nothing_left}
 use Rattle.cell_core.specs.declared.cell.Cell.{Ghosts as Cell}
 use Rattle.backup_session.specs.Worlds.{World}
@@ -19,7 +19,7 @@ use Rattle.backup_script.specs.Running.{Went, LeavesPast, LeftWith, LineRan, Lin
 use Rattle.backup_script.proofs.LineLaws.{line_first, line_last}
 use Rattle.backup_script.proofs.ScriptLaws.{script_one, script_ended}
 use Rattle.backup_script.proofs.StageLaws.{stage_front, line_whole}
-use Rattle.backup_script.proofs.PastLaws.{past_none}
+use Rattle.backup_script.proofs.PastLaws.{past_none, least_none}
 use Rattle.backup_script.proofs.HeldLaws.{held_first}
 
 -- the lines of a source of which one was taken
@@ -41,6 +41,10 @@ held_last w ms input line read took some is held = subst (λ (l : List ℕ). Hel
 -- no line is whole while the first one is in progress
 first_past : {D : Type 0} (P : Plant D) (w : World) (ms : List ℕ) (item : Item) (old new : D) (stage : Stage) → OnLine [] w ms item stage → Leaves P stage.effects old new → LeavesPast P stage.whole stage.effects old new
 first_past P w ms item old new stage on leaves = subst (λ (es : List Effect). LeavesPast P es stage.effects old new) (sym (line_whole [] w ms item stage on)) (past_none P stage.effects old new leaves)
+
+first_least : {D : Type 0} (P : Plant D) (w : World) (ms : List ℕ) (item : Item) (old new : D) (stage : Stage) → OnLine [] w ms item stage → Leaves P stage.effects old new
+    → P.tells → IsStartOf (come stage.whole (state_of P old)).told (state_of P new).told
+first_least P w ms item old new stage on leaves told = subst (λ (es : List Effect). IsStartOf (come es (state_of P old)).told (state_of P new).told) (sym (line_whole [] w ms item stage on)) (least_none P stage.effects old new leaves told)
 
 module _ {D E : Type 0} (P : Plant D) (C : Cell E) where
   -- a line alone
@@ -64,6 +68,7 @@ module _ {D E : Type 0} (P : Plant D) (C : Cell E) where
       clock = begun.clock;
       leaves = begun.leaves;
       past = first_past P w ms (item_of line) old new begun.stage begun.on_line begun.leaves;
+      least = first_least P w ms (item_of line) old new begun.stage begun.on_line begun.leaves;
     };
     whole_is = line_whole [] w ms (item_of line) begun.stage begun.on_line;
   }
@@ -120,6 +125,7 @@ module _ {D E : Type 0} (P : Plant D) (C : Cell E) where
       clock = refl;
       leaves = nothing_left P [] s fits_plant;
       past = past_none P [] s s (nothing_left P [] s fits_plant);
+      least = least_none P [] s s (nothing_left P [] s fits_plant);
     };
     whole_is = refl;
   }

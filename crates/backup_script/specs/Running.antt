@@ -3,10 +3,10 @@ use Rattle.std.specs.Prelude.{◌≡◌, ◌⊎◌, ℕ, ◌<◌, ◌≤◌, Lis
 use Rattle.std.specs.Str.Lines.{lines, strip_carriage_return}
 use Rattle.plant_core.specs.declared.plant.Plant.{Ghosts as Plant}
 use Rattle.crash_moments.specs.Moments.{Stepped}
-use Rattle.plant_core.specs.Effects.{Effect, tells, Joint}
+use Rattle.plant_core.specs.Effects.{Effect, tells, come, Joint}
 use Rattle.plant_core.specs.Crashes.{State}
 use Rattle.plant_core.specs.Stock.{Stock}
-use Rattle.plant_effects.specs.Runs.{state_of, Done, Leaves}
+use Rattle.plant_effects.specs.Runs.{state_of, IsStartOf, Done, Leaves}
 use Rattle.cell_core.specs.declared.cell.Cell.{Ghosts as Cell}
 use Rattle.backup_replies.specs.Texts.{has_refusal}
 use Rattle.backup_session.specs.Worlds.{World}
@@ -40,7 +40,7 @@ LeavesPast P whole effects old new =
 
 -- However it ended: the cell has a list of some stage of the script, the clock has the moments of that stage left, and each image since the
 -- start is one of the crash model after the first of the effects that may be done by then. In each image of now the lines before the one in
--- progress are done.
+-- progress are done, and all that they tell was told.
 pub record Left {D E : Type 0} (P : Plant D) (C : Cell E) (w : World) (ms : List ℕ) (lines : List (List ℕ)) (old new : D) (site : E) (left : List ℕ) : Type 0 where
   pub stage : Stage
   pub on_the_way : IsStage [] w ms lines stage
@@ -48,6 +48,7 @@ pub record Left {D E : Type 0} (P : Plant D) (C : Cell E) (w : World) (ms : List
   pub clock : left ≡ stage.moments
   pub leaves : Leaves P stage.effects old new
   pub past : LeavesPast P stage.whole stage.effects old new
+  pub least : P.tells → IsStartOf (come stage.whole (state_of P old)).told (state_of P new).told
 
 -- The last of these lines is `quit`, and no other one.
 pub record EndsAtQuit (these : List (List ℕ)) : Type 0 where

@@ -116,17 +116,16 @@ pub fn serve_line<P: Plant, C: Cell, K: Clock, S: Source>(
     ensures read_cause { HasCauseAt ServeStop.Read (S.faults source.old) (S.faults source.new) result }
 {
     match take_line(alloc, source, taken) {
-        Ok(Next::Ended(line)) => run_line(
-            session,
-            alloc,
-            plant,
-            cell,
-            clock,
-            watch,
-            without_return(line.as_slice()),
-        ),
+        Ok(Next::Ended(line)) => {
+            let text = without_return(line.as_slice());
+            let ran = run_line(session, alloc, plant, cell, clock, watch, text);
+            drop(line);
+            ran
+        }
         Ok(Next::Last(line)) => {
-            run_last(session, alloc, plant, cell, clock, watch, line.as_slice())
+            let ran = run_last(session, alloc, plant, cell, clock, watch, line.as_slice());
+            drop(line);
+            ran
         }
         Ok(Next::End) => Ok(Passed { goes: false }),
         Err(stop) => Err(stop_of(stop)),

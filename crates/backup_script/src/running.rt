@@ -151,7 +151,9 @@ pub fn run_on<P: Plant, C: Cell, K: Clock, S: Source>(
 {
     match Session::open(alloc, config, plant, cell) {
         Ok(mut session) => {
-            match run_script(&mut session, alloc, plant, cell, clock, source) {
+            let ran = run_script(&mut session, alloc, plant, cell, clock, source);
+            drop(session);
+            match ran {
                 Ok(refused) => Ok(refused),
                 Err(stop) => Err(serving_stop(stop)),
             }

@@ -205,8 +205,16 @@ fn run_item<P: Plant, C: Cell, K: Clock>(
     match item {
         Item::Silent => Ok(Passed { goes: true }),
         Item::Quit => Ok(Passed { goes: false }),
-        Item::Refused(text) => tell_refusal(plant, clock, watch, text.as_slice()),
-        Item::Runs(command) => run_next(session, alloc, plant, cell, clock, watch, &command),
+        Item::Refused(text) => {
+            let told = tell_refusal(plant, clock, watch, text.as_slice());
+            drop(text);
+            told
+        }
+        Item::Runs(command) => {
+            let ran = run_next(session, alloc, plant, cell, clock, watch, &command);
+            drop(command);
+            ran
+        }
     }
 }
 

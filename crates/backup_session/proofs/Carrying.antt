@@ -13,28 +13,26 @@ use Rattle.budb_fold.specs.Checkpoints.{checkpoint}
 use Rattle.cell_core.specs.declared.cell.Cell.{Ghosts as Cell}
 use Rattle.cell_core.specs.declared.stored.Stored.{Stored}
 use Rattle.backup_words.specs.declared.command.Command.{Command}
+use Rattle.backup_words.specs.declared.command.TapeCommand.{TapeCommand}
+use Rattle.backup_words.specs.declared.command.TapeCommand.TheVariants.{Labeltape, Readlabel, Scantape}
+use Rattle.backup_words.specs.declared.command.CellCommand.{CellCommand}
 use Rattle.backup_replies.specs.declared.refusals.Refusal.TheVariants.{LogFull}
 use Rattle.backup_replies.specs.Texts.{refused_number}
-use Rattle.dump_commands.proofs.Ahead.{standing_ahead}
+use Rattle.dump_courses.proofs.Ahead.{standing_ahead}
 use Rattle.backup_session.specs.declared.verdict.Verdict.{Verdict}
 use Rattle.backup_session.specs.declared.verdict.Verdict.TheVariants.{Refuses, Makes, Shortens, Shows}
 use Rattle.backup_session.specs.Views.{SessionView, ReplyView}
 use Rattle.backup_session.specs.Worlds.{World, Turn, at_moment, last_cell}
-use Rattle.backup_session.specs.Asks.{asks_cell, asks_archive, asks_dump, asks_tape}
 use Rattle.backup_session.specs.Cells.{CellAnswer, cell_answer, IsAnswer}
-use Rattle.backup_session.specs.Verdicts.{verdict}
 use Rattle.backup_session.specs.Turns.{said, length_with}
 use Rattle.tape_frames.specs.declared.label.LabelFields.{LabelFields}
-use Rattle.backup_words.specs.declared.command.Command.TheVariants.{Labeltape, Readlabel, Scantape}
 use Rattle.backup_session.specs.Labels.{label_of}
 use Rattle.tape_config.specs.declared.port.PortFields.{PortFields}
 use Rattle.backup_session.specs.Scanning.{port_of, scan_turn, slots_here}
 use Rattle.backup_session.proofs.Room.{full_true, room_false}
 use Rattle.backup_session.proofs.ScanLaws.{slots_cells}
 use Rattle.backup_session.specs.Tapes.{slot_of, new_label, taken, labeled, label_turn, read_turn, tape_turn}
-use Rattle.backup_session.specs.Restores.{archive_turn}
-use Rattle.backup_session.specs.Dumps.{dump_turn}
-use Rattle.backup_session.specs.Machine.{committed, replaced, carried, on_cell, on_plant, off_cell, done, turn}
+use Rattle.backup_session.specs.Machine.{committed, replaced, carried, on_cell, done, turn}
 use Rattle.backup_session.specs.Fitting.{Stands, TurnDone, SomeTurnDone, OnTheWay, FitsPlant, TurnedPlant}
 
 choice : World → List Change → List ℕ → Bool → Turn
@@ -58,36 +56,7 @@ pub turn_done : (w : World) (now : ℕ) (command : Command) → turn w now comma
 unfolding turn
 turn_done w now command = refl
 
-module _ (w : World) (command : Command) where
-  abbrev not_on_cell : Turn
-  not_on_cell = if asks_archive command then archive_turn w command else off_cell w command
-
-  pub done_cell : asks_cell command ≡ true → done w command ≡ on_cell w (cell_answer w.cell w.time command)
-  done_cell is = ap (λ (b : Bool). if b then on_cell w (cell_answer w.cell w.time command) else not_on_cell) is
-
-  done_not_cell : asks_cell command ≡ false → done w command ≡ not_on_cell
-  done_not_cell is = ap (λ (b : Bool). if b then on_cell w (cell_answer w.cell w.time command) else not_on_cell) is
-
-  pub done_archive : asks_cell command ≡ false → asks_archive command ≡ true → done w command ≡ archive_turn w command
-  done_archive off is = done_not_cell off ∙ ap (λ (b : Bool). if b then archive_turn w command else off_cell w command) is
-
-  done_off_cell : asks_cell command ≡ false → asks_archive command ≡ false → done w command ≡ off_cell w command
-  done_off_cell off out = done_not_cell off ∙ ap (λ (b : Bool). if b then archive_turn w command else off_cell w command) out
-
-  pub done_dump : asks_cell command ≡ false → asks_archive command ≡ false → asks_dump command ≡ true → done w command ≡ dump_turn w command
-  done_dump off out is = done_off_cell off out ∙ ap (λ (b : Bool). if b then dump_turn w command else on_plant w command) is
-
-  pub done_plant : asks_cell command ≡ false → asks_archive command ≡ false → asks_dump command ≡ false → done w command ≡ on_plant w command
-  done_plant off out is = done_off_cell off out ∙ ap (λ (b : Bool). if b then dump_turn w command else on_plant w command) is
-
 -- a verdict leaves the cell alone
--- a command on tapes, and another one
-pub plant_tape : (w : World) (command : Command) → asks_tape command ≡ true → on_plant w command ≡ tape_turn w command
-plant_tape w command is = ap (λ (b : Bool). if b then tape_turn w command else carried w (verdict (after w.log) command)) is
-
-pub plant_other : (w : World) (command : Command) → asks_tape command ≡ false → on_plant w command ≡ carried w (verdict (after w.log) command)
-plant_other w command is = ap (λ (b : Bool). if b then tape_turn w command else carried w (verdict (after w.log) command)) is
-
 pub carried_cells : (w : World) (v : Verdict) → (carried w v).cells ≡ []
 carried_cells w (Refuses text) = refl
 carried_cells w (Shows text) = refl
@@ -103,7 +72,7 @@ carried_cells w Shortens = go (nat_lt 268435456 (length (encoded (checkpoint (af
     go false = refl
 
 -- neither does a command on a label
-pub tape_cells : (w : World) (command : Command) → (tape_turn w command).cells ≡ []
+pub tape_cells : (w : World) (command : TapeCommand) → (tape_turn w command).cells ≡ []
 tape_cells w (Labeltape name pname offset slot) = go (slot_of w.setting (after w.log).hosts offset slot)
   where
     full : (b : Bool) (x y : Turn) → x.cells ≡ [] → y.cells ≡ [] → (if b then x else y).cells ≡ []
@@ -127,14 +96,6 @@ tape_cells w (Scantape dbadd offset) = go (port_of w.setting.config (after w.log
     go : (r : Result PortFields (List ℕ)) → (scan_turn w dbadd r).cells ≡ []
     go (Err text) = refl
     go (Ok port) = slots_cells w dbadd (slots_here w.setting.present port)
-tape_cells w command = refl
-
-pub plant_cells : (w : World) (command : Command) → (on_plant w command).cells ≡ []
-plant_cells w command = go (asks_tape command)
-  where
-    go : (b : Bool) → (if b then tape_turn w command else carried w (verdict (after w.log) command)).cells ≡ []
-    go true = tape_cells w command
-    go false = carried_cells w (verdict (after w.log) command)
 
 -- ---- what fits
 
@@ -184,7 +145,7 @@ module _ {D E : Type 0} (P : Plant D) (C : Cell E) (w : World) (old : D) (site :
   list_stays cells new is = subst (λ (l : List Stored). OnTheWay w.cell cells l) (sym (is ∙ stands.cell)) (0, omega arith, refl)
 
   -- a turn of the cell alone
-  pub turned_cell : (new : E) (reply : ReplyView) (command : Command) → P.sound old → IsAnswer (cell_answer (C.list site) session.time command) reply (C.list site) (C.list new)
+  pub turned_cell : (new : E) (reply : ReplyView) (command : CellCommand) → P.sound old → IsAnswer (cell_answer (C.list site) session.time command) reply (C.list site) (C.list new)
       → TurnDone P C w (on_cell w (cell_answer w.cell w.time command)) old old new session reply
   turned_cell new reply command sound answer =
       let same : cell_answer (C.list site) session.time command ≡ cell_answer w.cell w.time command = λ i. cell_answer (stands.cell i) (stands.time i) command in
@@ -204,7 +165,7 @@ module _ {D E : Type 0} (P : Plant D) (C : Cell E) (w : World) (old : D) (site :
       }
 
   -- the cell on the way
-  pub cell_way : (new : List Stored) (command : Command) → OnTheWay (C.list site) (cell_answer (C.list site) session.time command).cells new → OnTheWay w.cell (cell_answer w.cell w.time command).cells new
+  pub cell_way : (new : List Stored) (command : CellCommand) → OnTheWay (C.list site) (cell_answer (C.list site) session.time command).cells new → OnTheWay w.cell (cell_answer w.cell w.time command).cells new
   cell_way new command way =
       subst (λ (l : List Stored). OnTheWay l (cell_answer l w.time command).cells new) stands.cell
       (subst (λ (t : ℕ). OnTheWay (C.list site) (cell_answer (C.list site) t command).cells new) stands.time way)

@@ -4,8 +4,8 @@ use Rattle.plant_core.specs.declared.plant.Plant.{Ghosts as Plant}
 use Rattle.plant_effects.specs.Runs.{Stays}
 use Rattle.cell_core.specs.declared.cell.Cell.{Ghosts as Cell}
 use Rattle.budb.specs.Views.{BudbView}
+use Rattle.dump_courses.specs.Scenes.{Finds}
 use Rattle.dump_commands.specs.declared.told.Dumped.{Dumped}
-use Rattle.dump_commands.specs.Scenes.{Finds}
 use Rattle.dump_commands.specs.Answers.{Answer, IsAnswered}
 use Rattle.backup_session.specs.Views.{SessionView, ReplyView}
 use Rattle.backup_session.specs.Worlds.{World}

@@ -1,6 +1,6 @@
 -- How a restore is a turn: the archive of a world stands on the plant, and by loads of tapes no more is done than that more may be settled.
-use Rattle.std.proofs.Common.{◌≡◌, ℕ, Bool, true, false, List, [], ◌∷◌, length, refl, sym, ◌∙◌, ap, subst}
-use Rattle.std.specs.Prelude.{slice_get, Option, Some}
+use Rattle.std.proofs.Common.{◌≡◌, ℕ, Bool, List, [], ◌∷◌, length, refl, sym, ◌∙◌, ap, subst}
+use Rattle.std.specs.Prelude.{slice_get, Some}
 use Rattle.plant_core.specs.declared.plant.Plant.{Ghosts as Plant}
 use Rattle.plant_core.specs.Crashes.{seen_in}
 use Rattle.plant_core.specs.Records.{Record}
@@ -14,25 +14,18 @@ use Rattle.budb_fold.specs.declared.database.Database.{Database}
 use Rattle.budb_fold.specs.Database.{after}
 use Rattle.cell_core.specs.declared.cell.Cell.{Ghosts as Cell}
 use Rattle.cell_core.specs.declared.stored.Stored.{Stored}
-use Rattle.backup_words.specs.declared.command.Command.{Command}
-use Rattle.backup_words.specs.declared.command.Command.TheVariants.{Volrestore, Diskrestore, Volsetrestore}
+use Rattle.backup_words.specs.declared.command.RestoreCommand.{RestoreCommand}
+use Rattle.backup_words.specs.declared.command.RestoredVolumes.{RestoredVolumes}
 use Rattle.volume_sets.specs.declared.sets.VolumeSet.{VolumeSet}
 use Rattle.archive_model.specs.Archives.{Archive}
-use Rattle.dump_commands.proofs.Ahead.{ahead_both, loads_ahead, loads_leave}
-use Rattle.volume_sets.specs.Sets.{entries_of}
-use Rattle.restore_commands.specs.Choices.{disk_choices}
-use Rattle.restore_commands.specs.Answers.{Manner, RestoreAnswer, one_answer, disk_answer, set_answer, last_cell as last_of}
-use Rattle.restore_commands.specs.Leaving.{IsArchiveOf, IsAnswer, MayPut, MayPutEach, MayPutNamed}
+use Rattle.dump_courses.proofs.Ahead.{ahead_both, loads_ahead, loads_leave}
+use Rattle.restore_commands.specs.Answers.{Manner, RestoreAnswer, last_cell as last_of}
+use Rattle.restore_commands.specs.Leaving.{IsArchiveOf, IsAnswer}
 use Rattle.backup_session.specs.Views.{SessionView, ReplyView}
 use Rattle.backup_session.specs.Worlds.{World, archive_of, last_cell}
-use Rattle.backup_session.specs.Held.{HoldsArchive, HeldWhere, HeldFor}
-use Rattle.backup_session.specs.Asks.{asks_archive, asks_cell}
-use Rattle.backup_session.specs.Restores.{manner_at, restore_answer, restored, archive_turn, MayRestore}
+use Rattle.backup_session.specs.Held.{HoldsArchive}
+use Rattle.backup_session.specs.Restores.{manner_at, volumes_answer, restore_answer, restored, archive_turn, MayPutVolumes, MayRestore}
 use Rattle.backup_session.specs.Fitting.{Stands, TurnDone, SomeTurnDone, SomeRestore, OnTheWay}
-
--- what is asked of a world at a command that asks its archive
-pub held_archive : (w : World) (command : Command) → asks_archive command ≡ true → HeldFor w command → HoldsArchive w
-held_archive w command is held = subst (λ (b : Bool). HeldWhere b w) is held
 
 -- a cell's last list is one thing in both words
 lists_same : (cell : List Stored) (cells : List (List Stored)) → last_of cell cells ≡ last_cell cell cells
@@ -91,7 +84,7 @@ module _ {D E : Type 0} (P : Plant D) (C : Cell E) (w : World) (old : D) (site :
   }
 
   -- the answer over the world's database, cell and time
-  module _ (budb : BudbView) (time : ℕ) (command : Command) (budb_is : budb ≡ session.budb) (time_is : time ≡ session.time) where
+  module _ (budb : BudbView) (time : ℕ) (command : RestoreCommand) (budb_is : budb ≡ session.budb) (time_is : time ≡ session.time) where
     sets_are : budb.database ≡ after w.log
     sets_are = ap (λ (b : BudbView). b.database) budb_is ∙ stands.keeps.fold
 
@@ -134,43 +127,14 @@ module _ {D E : Type 0} (P : Plant D) (C : Cell E) (w : World) (old : D) (site :
         subst (λ (l : List Stored). OnTheWay l (restore_answer (archive_of w) (after w.log).sets w.cell w.time command).cells new) stands.cell
         (subst (λ (cs : List (List Stored)). OnTheWay (C.list site) cs new) (λ i. (answer_same i).cells) way)
 
--- ---- each command's answer
+-- ---- what each command's volumes are answered
 
-module _ (a : Archive) (sets : List VolumeSet) (cell : List Stored) (time : ℕ) (command : Command) where
-  pub one_is : (server partition volume : List ℕ) (extension : Option (List ℕ)) (date : Option ℕ) (n : Bool) (manner : Manner) → command ≡ Volrestore server partition volume extension date n → manner ≡ manner_at time extension n
-      → one_answer a cell manner (record { name = volume; before = date; server = server; partition = partition }) ≡ restore_answer a sets cell time command
-  one_is server partition volume extension date n manner is so =
-      ap (λ (m : Manner). one_answer a cell m (record { name = volume; before = date; server = server; partition = partition })) so ∙ ap (restore_answer a sets cell time) (sym is)
-
-  pub disk_is : (server partition : List ℕ) (newserver newpartition extension : Option (List ℕ)) (n : Bool) (manner : Manner) → command ≡ Diskrestore server partition newserver newpartition extension n → manner ≡ manner_at time extension n
-      → disk_answer a cell manner (record { server = server; partition = partition; new_server = newserver; new_partition = newpartition }) ≡ restore_answer a sets cell time command
-  disk_is server partition newserver newpartition extension n manner is so =
-      ap (λ (m : Manner). disk_answer a cell m (record { server = server; partition = partition; new_server = newserver; new_partition = newpartition })) so ∙ ap (restore_answer a sets cell time) (sym is)
-
-  pub set_is : (name : List ℕ) (extension : Option (List ℕ)) (n : Bool) (manner : Manner) → command ≡ Volsetrestore name extension n → manner ≡ manner_at time extension n → set_answer a sets cell manner name ≡ restore_answer a sets cell time command
-  set_is name extension n manner is so = ap (λ (m : Manner). set_answer a sets cell m name) so ∙ ap (restore_answer a sets cell time) (sym is)
+module _ (a : Archive) (sets : List VolumeSet) (cell : List Stored) (time : ℕ) (command : RestoreCommand) (volumes : RestoredVolumes) (manner : Manner) where
+  pub volumes_are : command.volumes ≡ volumes → manner ≡ manner_at time command → volumes_answer a sets cell manner volumes ≡ restore_answer a sets cell time command
+  volumes_are is so = λ i. volumes_answer a sets cell (so i) (sym is i)
 
 -- ---- how each command may leave the cell
 
-module _ (db : Database) (time : ℕ) (command : Command) (old new : List Stored) where
-  pub may_one : (server partition volume : List ℕ) (extension : Option (List ℕ)) (date : Option ℕ) (n : Bool) (manner : Manner) → command ≡ Volrestore server partition volume extension date n → manner ≡ manner_at time extension n
-      → MayPut manner (record { name = volume; before = date; server = server; partition = partition }) old new → MayRestore db time command old new
-  may_one server partition volume extension date n manner is so may =
-      subst (λ (x : Command). MayRestore db time x old new) (sym is) (subst (λ (m : Manner). MayPut m (record { name = volume; before = date; server = server; partition = partition }) old new) so may)
-
-  pub may_disk : (server partition : List ℕ) (newserver newpartition extension : Option (List ℕ)) (n : Bool) (manner : Manner) → command ≡ Diskrestore server partition newserver newpartition extension n → manner ≡ manner_at time extension n
-      → MayPutEach manner (disk_choices db.listed (record { server = server; partition = partition; new_server = newserver; new_partition = newpartition })) old new → MayRestore db time command old new
-  may_disk server partition newserver newpartition extension n manner is so may =
-      subst (λ (x : Command). MayRestore db time x old new) (sym is)
-      (subst (λ (m : Manner). MayPutEach m (disk_choices db.listed (record { server = server; partition = partition; new_server = newserver; new_partition = newpartition })) old new) so may)
-
-  pub may_set : (name : List ℕ) (extension : Option (List ℕ)) (n : Bool) (manner : Manner) → command ≡ Volsetrestore name extension n → manner ≡ manner_at time extension n → MayPutNamed manner db.listed (entries_of name db.sets) old new
-      → MayRestore db time command old new
-  may_set name extension n manner is so may = subst (λ (x : Command). MayRestore db time x old new) (sym is) (subst (λ (m : Manner). MayPutNamed m db.listed (entries_of name db.sets) old new) so may)
-
--- a command that asks the archive isn't one on the cell
-pub not_on_cell : (command : Command) → asks_archive command ≡ true → asks_cell command ≡ false
-not_on_cell (Volrestore server partition volume extension date n) is = refl
-not_on_cell (Diskrestore server partition newserver newpartition extension n) is = refl
-not_on_cell (Volsetrestore name extension n) is = refl
-not_on_cell command is = absurd (cc)
+module _ (db : Database) (time : ℕ) (command : RestoreCommand) (volumes : RestoredVolumes) (manner : Manner) (old new : List Stored) where
+  pub may_volumes : command.volumes ≡ volumes → manner ≡ manner_at time command → MayPutVolumes db manner volumes old new → MayRestore db time command old new
+  may_volumes is so may = subst (λ (v : RestoredVolumes). MayPutVolumes db (manner_at time command) v old new) (sym is) (subst (λ (m : Manner). MayPutVolumes db m volumes old new) so may)

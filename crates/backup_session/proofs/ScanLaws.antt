@@ -32,9 +32,9 @@ use Rattle.budb.specs.Kept.{Keeps}
 use Rattle.backup_replies.specs.declared.refusals.Refusal.TheVariants.{DumpKnown, WrongParent, LogFull}
 use Rattle.backup_replies.specs.Texts.{refused_number, refused_numbers, ok_line}
 use Rattle.backup_replies.specs.Scans.{found_line, added_line}
-use Rattle.dump_commands.specs.Ahead.{IsAhead, DoneAhead, LeftAhead}
-use Rattle.dump_commands.proofs.Stopping.{left_whole, left_more, left_behind}
-use Rattle.dump_commands.proofs.Ahead.{ahead_both, standing_ahead, loads_ahead, loads_leave as loads_leave_ahead, done_ahead_both, leaves_ahead}
+use Rattle.dump_courses.specs.Ahead.{IsAhead, DoneAhead, LeftAhead}
+use Rattle.dump_courses.proofs.Stopping.{left_whole, left_more, left_behind}
+use Rattle.dump_courses.proofs.Ahead.{ahead_both, standing_ahead, loads_ahead, loads_leave as loads_leave_ahead, done_ahead_both, leaves_ahead}
 use Rattle.backup_session.specs.Views.{SessionView, ReplyView}
 use Rattle.backup_session.specs.Worlds.{World, Turn, before_reply}
 use Rattle.backup_session.specs.Turns.{said, length_with}

@@ -10,8 +10,8 @@ use Rattle.plant_effects.specs.Runs.{state_of, Done}
 use Rattle.plant_effects.proofs.States.{alike_come}
 use Rattle.cell_core.specs.declared.cell.Cell.{Ghosts as Cell}
 use Rattle.tape_frames.specs.declared.label.LabelFields.{LabelFields}
-use Rattle.dump_commands.specs.Ahead.{IsAhead, DoneAhead}
-use Rattle.dump_commands.proofs.Ahead.{ahead_within, ahead_itself, ahead_both, ahead_alike, ahead_settled, ahead_come, ahead_done}
+use Rattle.dump_courses.specs.Ahead.{IsAhead, DoneAhead}
+use Rattle.dump_courses.proofs.Ahead.{ahead_within, ahead_itself, ahead_both, ahead_alike, ahead_settled, ahead_come, ahead_done}
 use Rattle.backup_session.specs.Views.{SessionView, ReplyView}
 use Rattle.backup_session.specs.Worlds.{World, Turn, before_reply}
 use Rattle.backup_session.specs.Tapes.{putting_label}

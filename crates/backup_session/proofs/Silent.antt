@@ -37,25 +37,26 @@ use Rattle.dump_job.specs.Passing.{next_choice, next_changes, part_passed, part_
 use Rattle.dump_job.specs.Closing.{committing, made_of, done_changes, dump_ended}
 use Rattle.dump_job.specs.Events.{Around, Event, putting, items_at, clone_by, clone_from, closing, part_end_by, part_end_event, dump_end_event, head_event, piece_event, hand_event, event_by, event}
 use Rattle.tape_choice.specs.declared.choosing.Chosen.{Chosen}
-use Rattle.dump_commands.specs.declared.command.DumpCommand.{DumpCommand}
-use Rattle.dump_commands.specs.Scenes.{Scene}
-use Rattle.dump_commands.specs.Courses.{Point, Course, around, next_event, behind, goes_on, last_event, event_then, course_within, events_left, course}
+use Rattle.backup_words.specs.declared.command.DumpCommand.{DumpCommand}
+use Rattle.dump_courses.specs.Scenes.{Scene}
+use Rattle.dump_courses.specs.Courses.{Point, Course, around, next_event, behind, goes_on, last_event, event_then, course_within, events_left, course}
 use Rattle.dump_commands.specs.Answers.{Answer, begun_point, begun, dump_answer}
 use Rattle.dump_commands.proofs.LeftForms.{by_answer}
 use Rattle.backup_words.specs.declared.command.Command.{Command}
-use Rattle.backup_words.specs.declared.command.Command.TheVariants.{Labeltape, Readlabel, Scantape, Dump}
+use Rattle.backup_words.specs.declared.command.Command.TheVariants as commands
+use Rattle.backup_words.specs.declared.command.TapeCommand.{TapeCommand}
+use Rattle.backup_words.specs.declared.command.TapeCommand.TheVariants.{Labeltape, Readlabel, Scantape}
 use Rattle.backup_session.specs.declared.verdict.Verdict.{Verdict}
 use Rattle.backup_session.specs.declared.verdict.Verdict.TheVariants.{Refuses, Makes, Shortens, Shows}
 use Rattle.backup_session.specs.Views.{SessionView, ReplyView}
-use Rattle.backup_session.specs.Asks.{asks_cell, asks_archive, asks_dump, asks_tape}
 use Rattle.backup_session.specs.Worlds.{World, Turn, before_reply, at_moment}
 use Rattle.backup_session.specs.Turns.{length_with}
 use Rattle.backup_session.specs.Verdicts.{verdict}
 use Rattle.backup_session.specs.Labels.{label_of}
 use Rattle.backup_session.specs.Scanning.{port_of, slots_here, scans_of, Step, says, has_wrong_parent, added, added_if, with_dump, adding, dumps_turn, slots_turn, scan_turn}
 use Rattle.backup_session.specs.Tapes.{slot_of, read_turn, new_label, taken, labeled, label_turn, tape_turn}
-use Rattle.backup_session.specs.Dumps.{scene_of, asked_of, dump_turn}
-use Rattle.backup_session.specs.Machine.{carried, on_plant, done, turn}
+use Rattle.backup_session.specs.Dumps.{scene_of, dump_turn}
+use Rattle.backup_session.specs.Machine.{carried, done, turn}
 use Rattle.backup_session.specs.Fitting.{TurnDone, SomeTurnDone}
 
 -- ---- effects that tell nothing
@@ -227,22 +228,20 @@ carried_silent w (Shows text) = refl
 carried_silent w (Makes changes text) = one_turn (nat_lt 268435456 (length_with w changes)) _ _ refl refl
 carried_silent w Shortens = one_turn (nat_lt 268435456 (length (encoded (checkpoint (after w.log))))) _ _ refl refl
 
-pub tape_silent : (w : World) (command : Command) → told_by (tape_turn w command).effects ≡ []
+pub tape_silent : (w : World) (command : TapeCommand) → told_by (tape_turn w command).effects ≡ []
 tape_silent w (Labeltape name pname offset slot) = label_silent w name pname (slot_of w.setting (after w.log).hosts offset slot)
 tape_silent w (Readlabel offset slot) = read_silent w (slot_of w.setting (after w.log).hosts offset slot)
 tape_silent w (Scantape dbadd offset) = scan_silent w dbadd (port_of w.setting.config (after w.log).hosts offset)
-tape_silent w command = refl
 
-pub plant_silent : (w : World) (command : Command) → told_by (on_plant w command).effects ≡ []
-plant_silent w command = one_turn (asks_tape command) (tape_turn w command) (carried w (verdict (after w.log) command)) (tape_silent w command) (carried_silent w (verdict (after w.log) command))
-
-pub dump_silent : (w : World) (command : Command) → told_by (dump_turn w command).effects ≡ []
-dump_silent w (Dump volumeset dump portoffset append n) = answer_silent (scene_of w) (asked_of volumeset dump portoffset append n)
-dump_silent w command = refl
+pub dump_silent : (w : World) (command : DumpCommand) → told_by (dump_turn w command).effects ≡ []
+dump_silent w command = answer_silent (scene_of w) command
 
 pub done_silent : (w : World) (command : Command) → told_by (done w command).effects ≡ []
-done_silent w command =
-    one_turn (asks_cell command) _ _ refl (one_turn (asks_archive command) _ _ refl (one_turn (asks_dump command) _ _ (dump_silent w command) (plant_silent w command)))
+done_silent w (commands.Database command) = carried_silent w (verdict (after w.log) command)
+done_silent w (commands.Tape command) = tape_silent w command
+done_silent w (commands.Cell command) = refl
+done_silent w (commands.Dump command) = dump_silent w command
+done_silent w (commands.Restore command) = refl
 
 pub turn_silent : (w : World) (now : ℕ) (command : Command) → told_by (turn w now command).effects ≡ []
 unfolding turn

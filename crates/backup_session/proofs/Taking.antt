@@ -16,8 +16,8 @@ use Rattle.budb_fold.specs.declared.database.HostPort.{HostPort}
 use Rattle.budb_changes.specs.declared.records.DumpRecordFields.{DumpRecordFields}
 use Rattle.budb_fold.specs.declared.database.Database.{Database}
 use Rattle.budb_fold.specs.Database.{after, has_port}
-use Rattle.dump_commands.specs.Ahead.{DoneAhead}
-use Rattle.dump_commands.proofs.Ahead.{standing_ahead, done_ahead_both}
+use Rattle.dump_courses.specs.Ahead.{DoneAhead}
+use Rattle.dump_courses.proofs.Ahead.{standing_ahead, done_ahead_both}
 use Rattle.backup_session.specs.Labels.{label_of}
 use Rattle.budb.specs.Kept.{Keeps}
 use Rattle.tape_frames.specs.declared.label.LabelFields.{LabelFields}
@@ -52,7 +52,7 @@ module _ {D : Type 0} (P : Plant D) (w : World) (old : D) (session : SessionView
   full_turn = said w (refused_number LogFull (length_with w (c ∷ [])))
 
   made_turn : Turn
-  made_turn = record { effects = commits (encoded (c ∷ [])) ∷ putting_label slot a; reply = labeled_lines a.afs a.permanent slot; log = w.log ++ c ∷ []; time = w.time; cells = []; contents = w.contents }
+  made_turn = record (said w (labeled_lines a.afs a.permanent slot)) { effects = commits (encoded (c ∷ [])) ∷ putting_label slot a; log = w.log ++ c ∷ [] }
 
   size_is : (P.view old).log_size ≡ length (encoded w.log)
   size_is = size ∙ ap length (fits.state.log ∙ fits.keeps.is)

@@ -20,10 +20,12 @@ use Rattle.budb_changes.specs.Bytes.{encoded}
 use Rattle.budb_fold.specs.Database.{after, has_dump}
 use Rattle.budb_fold.specs.Checkpoints.{checkpoint}
 use Rattle.backup_words.specs.declared.command.Command.{Command}
-use Rattle.backup_words.specs.declared.command.Command.TheVariants.{Labeltape, Readlabel, Scantape}
+use Rattle.backup_words.specs.declared.command.Command.TheVariants as commands
+use Rattle.backup_words.specs.declared.command.TapeCommand.{TapeCommand}
+use Rattle.backup_words.specs.declared.command.TapeCommand.TheVariants.{Labeltape, Readlabel, Scantape}
+use Rattle.backup_words.specs.declared.command.DumpCommand.{DumpCommand}
 use Rattle.backup_session.specs.declared.verdict.Verdict.{Verdict}
 use Rattle.backup_session.specs.declared.verdict.Verdict.TheVariants.{Refuses, Makes, Shortens, Shows}
-use Rattle.backup_session.specs.Asks.{asks_cell, asks_archive, asks_dump, asks_tape}
 use Rattle.backup_session.specs.Worlds.{World, Turn, before_reply, with_told, after_turn, at_moment}
 use Rattle.backup_session.specs.Turns.{length_with}
 use Rattle.backup_session.specs.Verdicts.{verdict}
@@ -31,7 +33,7 @@ use Rattle.backup_session.specs.Labels.{label_of}
 use Rattle.backup_session.specs.Scanning.{port_of, slots_here, scans_of, Step, says, has_wrong_parent, added, added_if, with_dump, adding, dumps_turn, slots_turn, scan_turn}
 use Rattle.backup_session.specs.Tapes.{slot_of, read_turn, new_label, taken, putting_label, labeled, label_turn, tape_turn}
 use Rattle.backup_session.specs.Dumps.{dump_turn}
-use Rattle.backup_session.specs.Machine.{carried, on_plant, off_cell, done, turn}
+use Rattle.backup_session.specs.Machine.{carried, done, turn}
 use Rattle.backup_session.specs.Bounded.{HasTapes}
 use Rattle.backup_session.specs.Views.{SessionView}
 use Rattle.backup_session.specs.Fitting.{Stands}
@@ -117,13 +119,12 @@ module _ (w : World) (short : AreShort w.state.tape) where
   read_stays (Err text) = short
   read_stays (Ok slot) = short
 
-  tape_stays : (command : Command) → Stays (tape_turn w command)
+  tape_stays : (command : TapeCommand) → Stays (tape_turn w command)
   tape_stays (Labeltape name pname offset slot) = label_stays name pname (slot_of w.setting (after w.log).hosts offset slot)
   tape_stays (Readlabel offset slot) = read_stays (slot_of w.setting (after w.log).hosts offset slot)
   tape_stays (Scantape dbadd offset) =
       let port = port_of w.setting.config (after w.log).hosts offset in
       still_short (scan_turn w dbadd port).effects w.state (scan_leaves w dbadd port) short
-  tape_stays command = short
 
   carried_stays : (v : Verdict) → Stays (carried w v)
   carried_stays (Refuses text) = short
@@ -131,24 +132,26 @@ module _ (w : World) (short : AreShort w.state.tape) where
   carried_stays (Makes changes text) = picked (nat_lt 268435456 (length_with w changes)) _ _ short short
   carried_stays Shortens = picked (nat_lt 268435456 (length (encoded (checkpoint (after w.log))))) _ _ short short
 
-  plant_stays : (command : Command) → Stays (on_plant w command)
-  plant_stays command = picked (asks_tape command) _ _ (tape_stays command) (carried_stays (verdict (after w.log) command))
+  done_stays : (command : Command) → ((dump : DumpCommand) → command ≡ commands.Dump dump → Stays (dump_turn w dump)) → Stays (done w command)
+  done_stays (commands.Database command) dumps = carried_stays (verdict (after w.log) command)
+  done_stays (commands.Tape command) dumps = tape_stays command
+  done_stays (commands.Cell command) dumps = short
+  done_stays (commands.Dump command) dumps = dumps command refl
+  done_stays (commands.Restore command) dumps = short
 
-  off_cell_stays : (command : Command) → Stays (dump_turn w command) → Stays (off_cell w command)
-  off_cell_stays command dump = picked (asks_dump command) _ _ dump (plant_stays command)
+-- what is asked of a dump, which only one that dumps is
+abbrev pub DumpStaysShort : World → ℕ → Command → Type 0
+DumpStaysShort w now command = (dump : DumpCommand) → command ≡ commands.Dump dump → AreShort (come (dump_turn (at_moment w now) dump).effects w.state).tape
 
-  done_stays : (command : Command) → Stays (dump_turn w command) → Stays (done w command)
-  done_stays command dump = picked (asks_cell command) _ _ short (picked (asks_archive command) _ _ short (off_cell_stays command dump))
-
-turn_short : (w : World) (now : ℕ) (command : Command) → AreShort w.state.tape → AreShort (come (dump_turn (at_moment w now) command).effects w.state).tape → AreShort (come (turn w now command).effects w.state).tape
+turn_short : (w : World) (now : ℕ) (command : Command) → AreShort w.state.tape → DumpStaysShort w now command → AreShort (come (turn w now command).effects w.state).tape
 unfolding turn
-turn_short w now command short dump = done_stays (at_moment w now) short command dump
+turn_short w now command short dumps = done_stays (at_moment w now) short command dumps
 
 -- ---- worlds
 
 -- behind a turn, and its reply told, where a dump keeps them
-pub turn_has_tapes : (w : World) (now : ℕ) (command : Command) → HasTapes w → AreShort (come (dump_turn (at_moment w now) command).effects w.state).tape → HasTapes (after_turn w (turn w now command))
-turn_has_tapes w now command has dump = record { slots = has.slots; records = turn_short w now command has.records dump }
+pub turn_has_tapes : (w : World) (now : ℕ) (command : Command) → HasTapes w → DumpStaysShort w now command → HasTapes (after_turn w (turn w now command))
+turn_has_tapes w now command has dumps = record { slots = has.slots; records = turn_short w now command has.records dumps }
 
 pub told_has_tapes : (w : World) (text : List ℕ) → HasTapes w → HasTapes (with_told w text)
 told_has_tapes w text has = record { slots = has.slots; records = has.records }

@@ -14,7 +14,8 @@ use Rattle.budb_changes.specs.Bytes.{encoded}
 use Rattle.budb_fold.specs.Database.{after, is_whole}
 use Rattle.budb_fold.proofs.Behind.{each_behind}
 use Rattle.budb_fold.proofs.FoldKeeps.{IsNextDump, fit_parts, kept_after}
-use Rattle.backup_words.specs.declared.command.Command.TheVariants.{Scantape}
+use Rattle.backup_words.specs.declared.command.Command.TheVariants.{Tape}
+use Rattle.backup_words.specs.declared.command.TapeCommand.TheVariants.{Scantape}
 use Rattle.tape_scan.specs.Slots.{Slot, Located}
 use Rattle.tape_scan.specs.Scanned.{IsChosen}
 use Rattle.tape_scan.proofs.ListLaws.{contains_filter, of_filter}
@@ -33,14 +34,14 @@ use Rattle.backup_session.proofs.AgainLaws.{OneReading, found_again}
 
 -- the journal behind the command
 log_is : (w : World) (now offset : ℕ) (port : PortFields) → port_of w.setting.config (after w.log).hosts offset ≡ Ok port
-    → (turn w now (Scantape true offset)).log ≡ (adding (at_moment w now) (found_in (scans_of w.state.tape (slots_here w.setting.present port))).whole).turn.log
+    → (turn w now (Tape (Scantape true offset))).log ≡ (adding (at_moment w now) (found_in (scans_of w.state.tape (slots_here w.setting.present port))).whole).turn.log
 unfolding turn slots_turn
 log_is w now offset port is = ap (λ (r : Result PortFields (List ℕ)). (scan_turn (at_moment w now) true r).log) is
 
 some_ids : (slots : List Slot) (whole : List DumpRecordFields) → All (λ d. (parts : List Located) × IsChosen slots parts d) whole → All (λ d. 0 < d.id) whole
 some_ids slots whole each = All-weaker (λ (d : DumpRecordFields). (parts : List Located) × IsChosen slots parts d) (λ (d : DumpRecordFields). 0 < d.id) (λ d c. found_id slots c.0 d c.1.found) whole each
 
-pub scan_lists : (w : World) (now offset : ℕ) (port : PortFields) → port_of w.setting.config (after w.log).hosts offset ≡ Ok port → ListsWhole w (slots_here w.setting.present port) (turn w now (Scantape true offset))
+pub scan_lists : (w : World) (now offset : ℕ) (port : PortFields) → port_of w.setting.config (after w.log).hosts offset ≡ Ok port → ListsWhole w (slots_here w.setting.present port) (turn w now (Tape (Scantape true offset)))
 scan_lists w now offset port is =
     let slots = slots_here w.setting.present port in
     let scan = scanned_in w.setting.present w.state.tape slots in
@@ -81,10 +82,10 @@ full_at log listed (e ∷ more) d there full = (e, (0, omega arith, refl), full)
 
 pub listed_again : OneReading → (w : World) (now offset : ℕ) (port : PortFields) → port_of w.setting.config (after w.log).hosts offset ≡ Ok port → (after w.log).listed ≡ []
     → (stock : Stock) (a : Archive) (records : List DumpRecordFields) → Holds stock a records → HasTheseTapes w stock a
-    → (d : DumpRecordFields) → Contains (listed_of a) d → IsHeldOn d (slots_here w.setting.present port) a.slots → IsListedBehind w (slots_here w.setting.present port) (turn w now (Scantape true offset)) d
+    → (d : DumpRecordFields) → Contains (listed_of a) d → IsHeldOn d (slots_here w.setting.present port) a.slots → IsListedBehind w (slots_here w.setting.present port) (turn w now (Tape (Scantape true offset))) d
 listed_again reading w now offset port is none stock a records held these d there on =
     let lists = scan_lists w now offset port is in
-    let t : Turn = turn w now (Scantape true offset) in
+    let t : Turn = turn w now (Tape (Scantape true offset)) in
     let whole : Contains lists.whole d = found_again reading w stock a records held these port lists.whole lists.left lists.scanned d there on in
     let may : may_be_listed (after w.log).listed d ≡ true = ap (λ (l : List DumpRecordFields). may_be_listed l d) none ∙ ap not (right_parents a.log d there) in
     let among : Contains (lists.listed ++ lists.room.more) d = subst (λ (ds : List DumpRecordFields). Contains ds d) lists.room.are (contains_filter (may_be_listed (after w.log).listed) lists.whole d whole may) in

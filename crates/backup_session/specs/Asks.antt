@@ -1,40 +1,39 @@
--- What each command asks.
+-- WHAT A COMMAND ASKS OF THE WORLD that it finds. Which commands have to find the archive, which volumes may be put, and which scripts have to
+-- find a world that is fit to be dumped are read from it: a further family of commands is one more row here.
 use Rattle.std.specs.Prelude.{Bool, true, false}
 use Rattle.backup_words.specs.declared.command.Command.{Command}
-use Rattle.backup_words.specs.declared.command.Command.TheVariants.{Labeltape, Readlabel, Scantape, Dump, Deletedump, Dumpinfo, Volinfo, Volrestore, Diskrestore, Volsetrestore, VosCreate, VosWrite, VosRmvnode, VosBackup, VosRemove, VosListvol}
+use Rattle.backup_words.specs.declared.command.Command.TheVariants.{Database, Tape, Cell, Dump, Restore}
+use Rattle.backup_words.specs.declared.command.RestoreCommand.{RestoreCommand}
 
--- a command on listed dumps, which are looked up
-abbrev pub asks_dumps : Command → Bool
-asks_dumps (Deletedump dumpid) = true
-asks_dumps (Dumpinfo ndumps id) = true
-asks_dumps (Volinfo volume) = true
-asks_dumps command = false
+-- Nothing; that the plant holds the archive of the world, in which these volumes are looked up; or that the world is fit to be dumped.
+pub data Asks : Type 0 where
+  AsksNothing : Asks
+  AsksArchive : RestoreCommand → Asks
+  AsksFitness : Asks
+
+abbrev pub asks : Command → Asks
+asks (Database command) = AsksNothing
+asks (Tape command) = AsksNothing
+asks (Cell command) = AsksNothing
+asks (Dump command) = AsksFitness
+asks (Restore command) = AsksArchive command
+
+-- ---- read from it
+
+abbrev pub is_archive : Asks → Bool
+is_archive AsksNothing = false
+is_archive (AsksArchive command) = true
+is_archive AsksFitness = false
+
+abbrev pub is_fitness : Asks → Bool
+is_fitness AsksNothing = false
+is_fitness (AsksArchive command) = false
+is_fitness AsksFitness = true
 
 -- a command that asks the archive: what a dump has of a volume
 abbrev pub asks_archive : Command → Bool
-asks_archive (Volrestore server partition volume extension date n) = true
-asks_archive (Diskrestore server partition newserver newpartition extension n) = true
-asks_archive (Volsetrestore name extension n) = true
-asks_archive command = false
+asks_archive command = is_archive (asks command)
 
--- a command on the cell
-abbrev pub asks_cell : Command → Bool
-asks_cell (VosCreate server partition name) = true
-asks_cell (VosWrite volume vnode text size) = true
-asks_cell (VosRmvnode volume vnode) = true
-asks_cell (VosBackup volume) = true
-asks_cell (VosRemove volume) = true
-asks_cell VosListvol = true
-asks_cell command = false
-
--- a command on tapes: their labels, or what stands on them
-abbrev pub asks_tape : Command → Bool
-asks_tape (Labeltape name pname portoffset slot) = true
-asks_tape (Readlabel portoffset slot) = true
-asks_tape (Scantape dbadd portoffset) = true
-asks_tape command = false
-
--- a command that dumps
+-- a command that asks for a world that is fit to be dumped
 abbrev pub asks_dump : Command → Bool
-asks_dump (Dump volumeset dump portoffset append n) = true
-asks_dump command = false
+asks_dump command = is_fitness (asks command)

@@ -5,8 +5,8 @@ use Rattle.cell_core.specs.declared.fault.CellFault.{CellFault}
 use Rattle.cell_core.specs.declared.fault.CellFault.TheVariants as fault
 use Rattle.cell_core.specs.declared.stored.Stored.{Stored}
 use Rattle.cell_core.specs.Calls.{Creation, entry_of_stored, after_create, after_write, after_remove_vnode, after_backup, after_remove}
-use Rattle.backup_words.specs.declared.command.Command.{Command}
-use Rattle.backup_words.specs.declared.command.Command.TheVariants.{VosCreate, VosWrite, VosRmvnode, VosBackup, VosRemove, VosListvol}
+use Rattle.backup_words.specs.declared.command.CellCommand.{CellCommand}
+use Rattle.backup_words.specs.declared.command.CellCommand.TheVariants.{VosCreate, VosWrite, VosRmvnode, VosBackup, VosRemove, VosListvol}
 use Rattle.backup_replies.specs.declared.refusals.Refusal.TheVariants.{NoVolume, VolumeExists, NoVnode, TooLarge, BadImage}
 use Rattle.backup_replies.specs.Texts.{refused_word, refused_number, refused_at, ok_line}
 use Rattle.backup_replies.specs.Volumes.{listed_lines}
@@ -44,15 +44,13 @@ data_for (Some text) size = text
 data_for None (Some size) = replicate size 120
 data_for None None = []
 
-abbrev pub cell_answer : List Stored → ℕ → Command → CellAnswer
+abbrev pub cell_answer : List Stored → ℕ → CellCommand → CellAnswer
 cell_answer cell time (VosCreate server partition name) = answered name 0 (created (after_create cell server partition name time))
 cell_answer cell time (VosWrite volume vnode text size) = answered volume vnode (after_write cell volume vnode (data_for text size) time)
 cell_answer cell time (VosRmvnode volume vnode) = answered volume vnode (after_remove_vnode cell volume vnode time)
 cell_answer cell time (VosBackup volume) = answered volume 0 (after_backup cell volume time)
 cell_answer cell time (VosRemove volume) = answered volume 0 (after_remove cell volume)
 cell_answer cell time VosListvol = record { reply = listed_lines (map entry_of_stored cell); cells = [] }
--- of other commands it isn't asked
-cell_answer cell time command = record { reply = []; cells = [] }
 
 -- ---- inside the crate
 

@@ -7,7 +7,7 @@ use Rattle.plant_effects.specs.Runs.{state_of, Done}
 use Rattle.cell_core.specs.declared.cell.Cell.{Ghosts as Cell}
 use Rattle.cell_core.specs.declared.stored.Stored.{Stored}
 use Rattle.budb.specs.Kept.{Keeps}
-use Rattle.dump_commands.specs.Ahead.{IsAhead, DoneAhead}
+use Rattle.dump_courses.specs.Ahead.{IsAhead, DoneAhead}
 use Rattle.backup_session.specs.Views.{SessionView, ReplyView}
 use Rattle.restore_commands.specs.Answers.{RestoreAnswer}
 use Rattle.backup_session.specs.Worlds.{World, Turn, before_reply}

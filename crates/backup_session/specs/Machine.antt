@@ -6,11 +6,11 @@ use Rattle.budb_changes.specs.Bytes.{encoded}
 use Rattle.budb_fold.specs.Database.{after}
 use Rattle.budb_fold.specs.Checkpoints.{checkpoint}
 use Rattle.backup_words.specs.declared.command.Command.{Command}
+use Rattle.backup_words.specs.declared.command.Command.TheVariants.{Database, Tape, Cell, Dump, Restore}
 use Rattle.backup_replies.specs.declared.refusals.Refusal.TheVariants.{LogFull}
 use Rattle.backup_replies.specs.Texts.{refused_number, ok_line}
 use Rattle.backup_session.specs.declared.verdict.Verdict.{Verdict}
 use Rattle.backup_session.specs.declared.verdict.Verdict.TheVariants.{Refuses, Makes, Shortens, Shows}
-use Rattle.backup_session.specs.Asks.{asks_cell, asks_archive, asks_dump, asks_tape}
 use Rattle.backup_session.specs.Cells.{CellAnswer, cell_answer}
 use Rattle.backup_session.specs.Verdicts.{verdict}
 use Rattle.backup_session.specs.Worlds.{World, Turn, at_moment}
@@ -21,11 +21,11 @@ use Rattle.backup_session.specs.Dumps.{dump_turn}
 
 -- changes are made by one commit
 abbrev pub committed : World → List Change → List ℕ → Turn
-committed w changes text = record { effects = commits (encoded changes) ∷ []; reply = text; log = w.log ++ changes; time = w.time; cells = []; contents = w.contents }
+committed w changes text = record (said w text) { effects = commits (encoded changes) ∷ []; log = w.log ++ changes }
 
 -- these changes become the whole log, as one effect
 abbrev pub replaced : World → List Change → Turn
-replaced w changes = record { effects = replaces (encoded changes) ∷ []; reply = ok_line; log = changes; time = w.time; cells = []; contents = w.contents }
+replaced w changes = record (said w ok_line) { effects = replaces (encoded changes) ∷ []; log = changes }
 
 -- where they have room
 abbrev pub shortened : World → List Change → Turn
@@ -40,19 +40,15 @@ carried w Shortens = shortened w (checkpoint (after w.log))
 
 -- What a command on the cell is answered: no effect on the plant.
 abbrev pub on_cell : World → CellAnswer → Turn
-on_cell w answer = record { effects = []; reply = answer.reply; log = w.log; time = w.time; cells = answer.cells; contents = w.contents }
+on_cell w answer = record (said w answer.reply) { cells = answer.cells }
 
--- what a command on tapes or on the database makes of it
-abbrev pub on_plant : World → Command → Turn
-on_plant w command = if asks_tape command then tape_turn w command else carried w (verdict (after w.log) command)
-
--- a command that asks neither the cell nor the archive
-abbrev pub off_cell : World → Command → Turn
-off_cell w command = if asks_dump command then dump_turn w command else on_plant w command
-
--- a command at the session's time
+-- A COMMAND at the session's time.
 abbrev pub done : World → Command → Turn
-done w command = if asks_cell command then on_cell w (cell_answer w.cell w.time command) else (if asks_archive command then archive_turn w command else off_cell w command)
+done w (Database command) = carried w (verdict (after w.log) command)
+done w (Tape command) = tape_turn w command
+done w (Cell command) = on_cell w (cell_answer w.cell w.time command)
+done w (Dump command) = dump_turn w command
+done w (Restore command) = archive_turn w command
 
 -- ONE COMMAND at a moment of the clock.
 unfoldable pub turn : World → ℕ → Command → Turn

@@ -72,14 +72,7 @@ pub record Step : Type 0 where
 
 -- its record is one commit
 abbrev pub recorded : World → DumpRecordFields → Turn
-recorded w dump = record {
-  effects = commits (encoded (change.Found dump ∷ [])) ∷ [];
-  reply = added_line dump.id;
-  log = w.log ++ change.Found dump ∷ [];
-  time = time_with w.time dump;
-  cells = [];
-  contents = w.contents;
-}
+recorded w dump = record (said w (added_line dump.id)) { effects = commits (encoded (change.Found dump ∷ [])) ∷ []; log = w.log ++ change.Found dump ∷ []; time = time_with w.time dump }
 
 abbrev pub says : World → Bool → List ℕ → Step
 says w full text = record { turn = said w text; full = full }
@@ -101,7 +94,7 @@ added_if w full dump =
 
 -- one turn after the other, as one turn
 abbrev pub then_turn : Turn → Turn → Turn
-then_turn s t = record { effects = s.effects ++ t.effects; reply = s.reply ++ t.reply; log = t.log; time = t.time; cells = []; contents = t.contents }
+then_turn s t = record t { effects = s.effects ++ t.effects; reply = s.reply ++ t.reply; cells = [] }
 
 -- a text in front of a turn's reply, and one behind it
 abbrev pub with_front : List ℕ → Turn → Turn

@@ -15,8 +15,8 @@ use Rattle.budb_changes.specs.declared.change.Change.TheVariants.{Take}
 use Rattle.budb_changes.specs.Bytes.{encoded}
 use Rattle.budb_fold.specs.declared.database.HostPort.{HostPort}
 use Rattle.budb_fold.specs.Database.{after, has_port, is_initial}
-use Rattle.backup_words.specs.declared.command.Command.{Command}
-use Rattle.backup_words.specs.declared.command.Command.TheVariants.{Labeltape, Readlabel, Scantape}
+use Rattle.backup_words.specs.declared.command.TapeCommand.{TapeCommand}
+use Rattle.backup_words.specs.declared.command.TapeCommand.TheVariants.{Labeltape, Readlabel, Scantape}
 use Rattle.backup_replies.specs.declared.refusals.Refusal.TheVariants.{BadValue, NoSuchPort, SlotEmpty, NoLabel, LogFull}
 use Rattle.backup_replies.specs.Texts.{refused_word, refused_number}
 use Rattle.backup_replies.specs.Labels.{labeled_lines, label_lines}
@@ -74,16 +74,10 @@ putting_label slot a = cuts slot 0 ∷ (puts slot (block_with (spelling (Label a
 
 -- The journal is committed before the tape is cut.
 abbrev pub labeled : World → ℕ → LabelFields → List Change → Turn
-labeled w slot a [] = record { effects = putting_label slot a; reply = labeled_lines a.afs a.permanent slot; log = w.log; time = w.time; cells = []; contents = w.contents }
+labeled w slot a [] = record (said w (labeled_lines a.afs a.permanent slot)) { effects = putting_label slot a }
 labeled w slot a (change ∷ changes) =
-    if nat_lt 268435456 (length_with w (change ∷ changes)) then said w (refused_number LogFull (length_with w (change ∷ changes))) else record {
-      effects = commits (encoded (change ∷ changes)) ∷ putting_label slot a;
-      reply = labeled_lines a.afs a.permanent slot;
-      log = w.log ++ change ∷ changes;
-      time = w.time;
-      cells = [];
-      contents = w.contents;
-    }
+    if nat_lt 268435456 (length_with w (change ∷ changes)) then said w (refused_number LogFull (length_with w (change ∷ changes)))
+    else record (said w (labeled_lines a.afs a.permanent slot)) { effects = commits (encoded (change ∷ changes)) ∷ putting_label slot a; log = w.log ++ change ∷ changes }
 
 abbrev pub label_turn : World → Option (List ℕ) → Option (List ℕ) → Result ℕ (List ℕ) → Turn
 label_turn w name pname (Err text) = said w text
@@ -91,12 +85,10 @@ label_turn w name pname (Ok slot) = labeled w slot (new_label (label_of (w.state
 
 -- ---- the commands
 
-abbrev pub tape_turn : World → Command → Turn
+abbrev pub tape_turn : World → TapeCommand → Turn
 tape_turn w (Labeltape name pname offset slot) = label_turn w name pname (slot_of w.setting (after w.log).hosts offset slot)
 tape_turn w (Readlabel offset slot) = read_turn w (slot_of w.setting (after w.log).hosts offset slot)
 tape_turn w (Scantape dbadd offset) = scan_turn w dbadd (port_of w.setting.config (after w.log).hosts offset)
--- of other commands it isn't asked
-tape_turn w command = said w []
 
 -- ---- inside the crate
 

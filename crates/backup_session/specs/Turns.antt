@@ -4,7 +4,7 @@ use Rattle.budb_changes.specs.declared.change.Change.{Change}
 use Rattle.budb_changes.specs.Bytes.{encoded}
 use Rattle.backup_session.specs.Worlds.{World, Turn}
 
--- nothing but a reply
+-- Nothing but a reply. What turns do besides is said over it.
 abbrev pub said : World → List ℕ → Turn
 said w text = record { effects = []; reply = text; log = w.log; time = w.time; cells = []; contents = w.contents }
 

@@ -15,8 +15,8 @@ use Rattle.budb_fold.specs.declared.database.Database.{Database}
 use Rattle.budb_fold.specs.Database.{has_port, has_dump, is_initial}
 use Rattle.budb_fold.specs.Lookups.{record_of}
 use Rattle.budb.specs.Histories.{descending, ids_of, volume_history}
-use Rattle.backup_words.specs.declared.command.Command.{Command}
-use Rattle.backup_words.specs.declared.command.Command.TheVariants.{Addvolset, Delvolset, Addvolentry, Delvolentry, Listvolsets, Adddump, Setexp, Deldump, Listdumps, Addhost, Delhost, Listhosts, Checkpoint, Deletedump, Dumpinfo, Volinfo}
+use Rattle.backup_words.specs.declared.command.DatabaseCommand.{DatabaseCommand}
+use Rattle.backup_words.specs.declared.command.DatabaseCommand.TheVariants.{Addvolset, Delvolset, Addvolentry, Delvolentry, Listvolsets, Adddump, Setexp, Deldump, Listdumps, Addhost, Delhost, Listhosts, Checkpoint, Deletedump, Dumpinfo, Volinfo}
 use Rattle.backup_replies.specs.declared.refusals.Refusal.TheVariants.{SetExists, NoSuchSet, NoSuchEntry, LevelExists, NoSuchLevel, NoParentLevel, PortTaken, NoSuchPort, NoSuchDump, AppendedDump}
 use Rattle.backup_replies.specs.Texts.{refused_word, refused_number, refused_numbers, ok_line}
 use Rattle.backup_replies.specs.Hosts.{hosts_lines}
@@ -93,7 +93,7 @@ told_dumps listed count (Some id) = one_dump id (record_of listed id)
 
 -- ---- the commands
 
-abbrev pub verdict : Database → Command → Verdict
+abbrev pub verdict : Database → DatabaseCommand → Verdict
 verdict db (Addhost host port) = if has_port db.hosts port then Refuses (refused_number PortTaken port) else Makes (AddHost host port ∷ []) ok_line
 verdict db (Delhost host port) = if has_host_port db.hosts host port then Makes (DelHost port ∷ []) ok_line else Refuses (refused_number NoSuchPort port)
 verdict db Listhosts = Shows (hosts_lines db.hosts)
@@ -111,5 +111,3 @@ verdict db (Deletedump id) = dump_goes db.listed id (record_of db.listed id)
 verdict db (Dumpinfo count id) = told_dumps db.listed count id
 verdict db (Volinfo name) = Shows (history_lines db.listed name (volume_history db.listed name))
 verdict db Checkpoint = Shortens
--- of other commands it isn't asked
-verdict db command = Shows []

@@ -51,7 +51,7 @@ last_cell cell (c ∷ cs) = last_cell c cs
 
 -- the world when a command is done, and its reply isn't told yet
 abbrev pub before_reply : World → Turn → World
-before_reply w t = record { setting = w.setting; log = t.log; time = t.time; cell = last_cell w.cell t.cells; contents = t.contents; state = come t.effects w.state }
+before_reply w t = record w { log = t.log; time = t.time; cell = last_cell w.cell t.cells; contents = t.contents; state = come t.effects w.state }
 
 -- a text is told
 abbrev pub with_told : World → List ℕ → World

@@ -1,15 +1,17 @@
 //! `scantape`: dumps that are found on tapes are told, and may be added.
 
-ghost use Rattle.std.specs.Prelude.{◌≡◌, ◌≢◌, ◌++◌, [], ◌∷◌, max, ℕ, Ok, Err, IfOk, OnOk, OnErr, if◌then◌else◌};
+ghost use Rattle.std.specs.Prelude.{◌≡◌, ◌≢◌, ◌++◌, [], ◌∷◌, max, ℕ, List as AnyList, Ok, Err, IfOk, OnOk, OnErr, if◌then◌else◌};
+ghost use Rattle.std.specs.List.{flat_map};
 ghost use Rattle.crash_moments.specs.Moments.{HasCauseAt};
 ghost use Rattle.plant_effects.specs.Runs.{Leaves, StaysQuiet};
 ghost use Rattle.tape_config.specs.declared.port.PortFields.{PortFields};
 ghost use Rattle.budb_changes.specs.declared.change.Change.TheVariants as change;
 ghost use Rattle.budb_fold.specs.Database.{after};
-ghost use Rattle.dump_commands.specs.Ahead.{LeftAhead};
+ghost use Rattle.backup_replies.specs.Texts.{ok_line};
+ghost use Rattle.dump_courses.specs.Ahead.{LeftAhead};
 ghost use Rattle.backup_session.specs.Opening.{with_clones};
 ghost use Rattle.backup_session.specs.Worlds.{World};
-ghost use Rattle.backup_session.specs.Scanning.{port_of, slots_here, time_with, added, added_if, adding, dumps_turn, slots_turn, scan_turn, with_front};
+ghost use Rattle.backup_session.specs.Scanning.{port_of, slots_here, stopped_line, left_line, time_with, added, added_if, adding, dumps_turn, slots_turn, scan_turn, with_front};
 
 use crate::dumps::any_of_id;
 use crate::opening::with_clones;
@@ -26,6 +28,7 @@ use budb_journal::{Change, DumpRecord};
 use plant_core::Plant;
 use std::alloc::{AllocError, Global};
 use tape_config::Port;
+use tape_scan::{Found, PartId, Sections};
 
 /// The change that lists a dump that was found.
 fn one_found(alloc: Global, dump: &DumpRecord) -> Result<List<Change>, AllocError>
@@ -41,6 +44,15 @@ fn time_with(time: u32, dump: &DumpRecord) -> u32
     ensures { result ≡ time_with time dump.now }
 {
     with_clones(time.max(dump.fields().id), dump)
+}
+
+/// The reply of lines, of a line for each part that is left over, and of `ok`.
+fn with_parts(mut lines: Out, parts: &[PartId]) -> Result<Reply, AllocError>
+    ensures { IfOk result (λ reply. reply.text ≡ lines ++ (flat_map left_line parts.now ++ ok_line)) }
+{
+    put_parts(&mut lines, parts)?;
+    lines.piece(b"ok\n")?;
+    Ok(Reply::new(lines.into_bytes()))
 }
 
 impl Session {
@@ -173,6 +185,31 @@ impl Session {
         }
     }
 
+    /// Tells what was found over tapes that were scanned, and adds the dumps that may be where that is asked for.
+    fn tell_found<P: Plant>(
+        &mut self,
+        alloc: Global,
+        plant: &mut P,
+        dbadd: bool,
+        tapes: &[Sections],
+        found: &Found,
+    ) -> Result<Reply, Stop>
+        requires { P.sound plant.old }
+        ensures sound { OnOk result (P.sound plant.new) }
+        ensures unfailed { result ≢ Err Stop.Plant → P.sound plant.new }
+        ensures stepped { P.tells → (w : World) → FitsPlant P.Plant w plant.old self.old → IfOk result (λ reply. (lines : AnyList ℕ) × Stepped P.Plant w (dumps_turn w dbadd found.now.whole) plant.old plant.new self.new (flat_map stopped_line tapes.now) lines × (reply.text ≡ lines ++ (flat_map left_line found.now.parts ++ ok_line))) }
+        ensures leaves { P.tells → (w : World) → FitsPlant P.Plant w plant.old self.old → Leaves P.Plant (dumps_turn w dbadd found.now.whole).effects plant.old plant.new }
+        ensures stopped { P.tells → (w : World) → FitsPlant P.Plant w plant.old self.old → OnErr result (result ≢ Err Stop.Plant → LeftAhead P.Plant (dumps_turn w dbadd found.now.whole).effects plant.old plant.new) }
+        ensures stays { StaysQuiet P.Plant plant.old plant.new }
+        ensures cause { HasCauseAt Stop.Plant (P.view plant.old).faults (P.view plant.new).faults result }
+        ensures never { result ≢ Err Stop.Cell }
+    {
+        let mut lines = Out::new(alloc);
+        put_stops(&mut lines, tapes)?;
+        self.tell_dumps(alloc, plant, &mut lines, dbadd, found.whole.as_slice())?;
+        Ok(with_parts(lines, found.parts.as_slice())?)
+    }
+
     /// Scans the tapes of a coordinator that are here.
     fn scan_port<P: Plant>(
         &mut self,
@@ -192,14 +229,21 @@ impl Session {
         ensures never { result ≢ Err Stop.Cell }
     {
         let slots = slots_here(alloc, plant, port)?;
-        let tapes = scan_slots(alloc, plant, slots.as_slice())?;
-        let found = found_in(alloc, tapes.as_slice())?;
-        let mut lines = Out::new(alloc);
-        put_stops(&mut lines, tapes.as_slice())?;
-        self.tell_dumps(alloc, plant, &mut lines, dbadd, found.whole.as_slice())?;
-        put_parts(&mut lines, found.parts.as_slice())?;
-        lines.piece(b"ok\n")?;
-        Ok(Reply::new(lines.into_bytes()))
+        let scanned = scan_slots(alloc, plant, slots.as_slice());
+        drop(slots);
+        let tapes = scanned?;
+        match found_in(alloc, tapes.as_slice()) {
+            Ok(found) => {
+                let told = self.tell_found(alloc, plant, dbadd, tapes.as_slice(), &found);
+                drop(found);
+                drop(tapes);
+                told
+            }
+            Err(_) => {
+                drop(tapes);
+                Err(Stop::Memory)
+            }
+        }
     }
 
     /// `scantape`.

@@ -1,22 +1,22 @@
 //! Dumps: a volume set is dumped as the database, the tapes and the cell have it.
 
-ghost use Rattle.std.specs.Prelude.{◌≡◌, ◌≢◌, [], Err, IfOk, OnOk, OnErr};
+ghost use Rattle.std.specs.Prelude.{◌≡◌, ◌≢◌, Err, IfOk, OnOk, OnErr};
 ghost use Rattle.crash_moments.specs.Moments.{HasCauseAt};
 ghost use Rattle.plant_effects.specs.Runs.{Leaves, StaysQuiet};
-ghost use Rattle.dump_commands.specs.Ahead.{LeftAhead};
+ghost use Rattle.dump_courses.specs.Ahead.{LeftAhead};
 ghost use Rattle.dump_commands.specs.Answers.{dump_answer};
 ghost use Rattle.backup_session.specs.Worlds.{World};
-ghost use Rattle.backup_session.specs.Dumps.{scene_of, asked_of, answered, dump_turn};
+ghost use Rattle.backup_session.specs.Dumps.{scene_of, answered};
 
 use crate::reply::Reply;
 use crate::session::Session;
 use crate::stops::Stop;
-use backup_words::Command;
-use bk_text::{Bytes, LevelPath, SetName};
+use backup_words::DumpCommand;
 use cell_core::Cell;
-use dump_commands::{DumpCommand, DumpStop, dump};
+use dump_commands::dump;
+use dump_courses::DumpStop;
 use plant_core::Plant;
-use std::alloc::{AllocError, Global};
+use std::alloc::Global;
 
 /// What a dump stops for, as a session says it.
 fn stop_of(stop: DumpStop) -> Stop
@@ -32,30 +32,11 @@ fn stop_of(stop: DumpStop) -> Stop
     }
 }
 
-/// What a command asks to be dumped, by its fields.
-fn asked_of(
-    volumeset: &SetName,
-    level: &LevelPath,
-    offset: u16,
-    append: bool,
-    trial: bool,
-) -> Result<DumpCommand, AllocError>
-    ensures { IfOk result (λ asked. asked ≡ asked_of volumeset.now level.now offset append trial) }
-{
-    Ok(DumpCommand {
-        set: volumeset.clone()?,
-        level: level.clone()?,
-        offset,
-        append,
-        trial,
-    })
-}
-
 impl Session {
     ghost use Rattle.backup_session.specs.Fitting.{Stands, TurnDone, OnTheWay};
 
     /// Makes a dump, or tells what it is refused by, at the session's time, which takes in the id of a dump that is begun.
-    fn make_dump<P: Plant, C: Cell>(
+    pub(crate) fn make_dump<P: Plant, C: Cell>(
         &mut self,
         alloc: Global,
         plant: &mut P,
@@ -87,67 +68,6 @@ impl Session {
                 Ok(Reply::new(dumped.text))
             }
             Err(stop) => Err(stop_of(stop)),
-        }
-    }
-
-    /// A command that dumps, at the session's time. Another command has no reply.
-    pub(crate) fn on_dump<P: Plant, C: Cell>(
-        &mut self,
-        alloc: Global,
-        plant: &mut P,
-        cell: &mut C,
-        command: &Command,
-    ) -> Result<Reply, Stop>
-        requires { P.sound plant.old }
-        ensures sound { OnOk result (P.sound plant.new) }
-        ensures unfailed { result ≢ Err Stop.Plant → P.sound plant.new }
-        ensures turned { P.tells → C.tells → (w : World) → Stands P.Plant C.Cell w plant.old cell.old self.old → IfOk result (λ reply. TurnDone P.Plant C.Cell w (dump_turn w command.now) plant.old plant.new cell.new self.new reply) }
-        ensures leaves { P.tells → C.tells → (w : World) → Stands P.Plant C.Cell w plant.old cell.old self.old → Leaves P.Plant (dump_turn w command.now).effects plant.old plant.new }
-        ensures stopped { P.tells → C.tells → (w : World) → Stands P.Plant C.Cell w plant.old cell.old self.old → OnErr result (result ≢ Err Stop.Plant → LeftAhead P.Plant (dump_turn w command.now).effects plant.old plant.new) }
-        ensures list { C.tells → C.list cell.new ≡ C.list cell.old }
-        ensures stays { StaysQuiet P.Plant plant.old plant.new }
-        ensures plant_cause { HasCauseAt Stop.Plant (P.view plant.old).faults (P.view plant.new).faults result }
-        ensures cell_cause { HasCauseAt Stop.Cell (C.faults cell.old) (C.faults cell.new) result }
-    {
-        match command {
-            Command::Dump {
-                volumeset,
-                dump,
-                portoffset,
-                append,
-                n,
-            } => {
-                let asked = asked_of(volumeset, dump, *portoffset, *append, *n)?;
-                self.make_dump(alloc, plant, cell, &asked)
-            }
-            Command::Addvolset { .. }
-            | Command::Delvolset { .. }
-            | Command::Addvolentry { .. }
-            | Command::Delvolentry { .. }
-            | Command::Listvolsets { .. }
-            | Command::Adddump { .. }
-            | Command::Setexp { .. }
-            | Command::Deldump { .. }
-            | Command::Listdumps
-            | Command::Listhosts
-            | Command::Checkpoint
-            | Command::Addhost { .. }
-            | Command::Delhost { .. }
-            | Command::Labeltape { .. }
-            | Command::Readlabel { .. }
-            | Command::Scantape { .. }
-            | Command::Deletedump { .. }
-            | Command::Dumpinfo { .. }
-            | Command::Volinfo { .. }
-            | Command::Volrestore { .. }
-            | Command::Diskrestore { .. }
-            | Command::Volsetrestore { .. }
-            | Command::VosCreate { .. }
-            | Command::VosWrite { .. }
-            | Command::VosRmvnode { .. }
-            | Command::VosBackup { .. }
-            | Command::VosRemove { .. }
-            | Command::VosListvol => Ok(Reply::new(Bytes::new(alloc))),
         }
     }
 }

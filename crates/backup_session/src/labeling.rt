@@ -10,7 +10,7 @@ ghost use Rattle.plant_effects.specs.Runs.{Leaves, StaysQuiet};
 ghost use Rattle.budb_changes.specs.declared.change.Change.TheVariants.{Take};
 ghost use Rattle.budb_fold.specs.Database.{after, is_initial};
 ghost use Rattle.backup_replies.specs.Labels.{labeled_lines};
-ghost use Rattle.dump_commands.specs.Ahead.{LeftAhead};
+ghost use Rattle.dump_courses.specs.Ahead.{LeftAhead};
 ghost use Rattle.backup_session.specs.Worlds.{World};
 ghost use Rattle.backup_session.specs.Tapes.{slot_of, permanent_of, new_label, taken, labeled, label_turn, read_turn, tape_turn};
 
@@ -20,7 +20,7 @@ use crate::session::Session;
 use crate::stops::Stop;
 use crate::tapes::{read_label, slot_of, write_label};
 use backup_replies::{Refusal, labeled_lines, refused_number};
-use backup_words::Command;
+use backup_words::TapeCommand;
 use bk_text::{Bytes, List, TapeName};
 use budb::CommitFault;
 use budb_journal::{Change, DumpRecord};
@@ -82,6 +82,28 @@ fn new_label(
         afs,
         permanent,
     }))
+}
+
+/// The new label of a tape, and the reply that tells of it.
+fn label_and_reply(
+    alloc: Global,
+    old: &Option<Label>,
+    name: &Option<TapeName>,
+    pname: &Option<TapeName>,
+    slot: u32,
+) -> Result<(Label, Bytes), AllocError>
+    ensures label { IfOk result (λ made. made.0 ≡ new_label old.now name.now pname.now) }
+    ensures done { IfOk result (λ made. made.1 ≡ labeled_lines made.0.afs made.0.permanent slot) }
+{
+    let label = new_label(alloc, old, name, pname)?;
+    let fields = label.fields();
+    let done = labeled_lines(
+        alloc,
+        fields.afs.as_slice(),
+        fields.permanent.as_slice(),
+        slot,
+    )?;
+    Ok((label, done))
 }
 
 /// Whether some listed dump has this initial id.
@@ -206,17 +228,21 @@ impl Session {
         ensures never { result ≢ Err Stop.Cell }
     {
         let old = label_of(alloc, plant, slot)?;
-        let label = new_label(alloc, &old, name, pname)?;
-        let fields = label.fields();
-        let done = labeled_lines(
-            alloc,
-            fields.afs.as_slice(),
-            fields.permanent.as_slice(),
-            slot,
-        )?;
-        match taken(self.budb.database().listed.as_slice(), &old) {
-            None => self.label_only(plant, slot, &label, done),
-            Some(initial) => self.take_and_label(alloc, plant, slot, &label, initial, done),
+        let made = label_and_reply(alloc, &old, name, pname, slot);
+        let set = taken(self.budb.database().listed.as_slice(), &old);
+        drop(old);
+        let (label, done) = made?;
+        match set {
+            None => {
+                let labeled = self.label_only(plant, slot, &label, done);
+                drop(label);
+                labeled
+            }
+            Some(initial) => {
+                let labeled = self.take_and_label(alloc, plant, slot, &label, initial, done);
+                drop(label);
+                labeled
+            }
         }
     }
 
@@ -270,12 +296,12 @@ impl Session {
         }
     }
 
-    /// A command on tapes. Another command has no reply.
+    /// A command on tapes, at the session's time.
     pub(crate) fn on_tape<P: Plant>(
         &mut self,
         alloc: Global,
         plant: &mut P,
-        command: &Command,
+        command: &TapeCommand,
     ) -> Result<Reply, Stop>
         requires { P.sound plant.old }
         ensures sound { OnOk result (P.sound plant.new) }
@@ -288,42 +314,21 @@ impl Session {
         ensures never { result ≢ Err Stop.Cell }
     {
         match command {
-            Command::Labeltape {
+            TapeCommand::Labeltape {
                 name,
                 pname,
                 portoffset,
                 slot,
             } => self.label(alloc, plant, name, pname, *portoffset, *slot),
-            Command::Readlabel { portoffset, slot } => self.read(alloc, plant, *portoffset, *slot),
-            Command::Scantape { dbadd, portoffset } => {
+            TapeCommand::Readlabel { portoffset, slot } => self.read(
+                alloc,
+                plant,
+                *portoffset,
+                *slot,
+            ),
+            TapeCommand::Scantape { dbadd, portoffset } => {
                 self.scan(alloc, plant, *dbadd, *portoffset)
             }
-            Command::Addvolset { .. }
-            | Command::Delvolset { .. }
-            | Command::Addvolentry { .. }
-            | Command::Delvolentry { .. }
-            | Command::Listvolsets { .. }
-            | Command::Adddump { .. }
-            | Command::Setexp { .. }
-            | Command::Deldump { .. }
-            | Command::Listdumps
-            | Command::Listhosts
-            | Command::Checkpoint
-            | Command::Addhost { .. }
-            | Command::Delhost { .. }
-            | Command::Dump { .. }
-            | Command::Deletedump { .. }
-            | Command::Dumpinfo { .. }
-            | Command::Volinfo { .. }
-            | Command::Volrestore { .. }
-            | Command::Diskrestore { .. }
-            | Command::Volsetrestore { .. }
-            | Command::VosCreate { .. }
-            | Command::VosWrite { .. }
-            | Command::VosRmvnode { .. }
-            | Command::VosBackup { .. }
-            | Command::VosRemove { .. }
-            | Command::VosListvol => Ok(Reply::new(Bytes::new(alloc))),
         }
     }
 }

@@ -10,7 +10,8 @@ ghost use Rattle.tape_scan.specs.Slots.{Slot, Located, IsFound};
 ghost use Rattle.tape_scan.specs.Scanned.{Scanned};
 ghost use Rattle.tape_answers.specs.Slots.{slot_of};
 ghost use Rattle.archive_model.specs.Archives.{Archive, listed_of, Holds};
-ghost use Rattle.backup_words.specs.declared.command.Command.TheVariants.{Scantape};
+ghost use Rattle.backup_words.specs.declared.command.Command.TheVariants.{Tape};
+ghost use Rattle.backup_words.specs.declared.command.TapeCommand.TheVariants.{Scantape};
 ghost use Rattle.backup_session.specs.Worlds.{World};
 ghost use Rattle.backup_session.specs.Scanning.{port_of, slots_here};
 ghost use Rattle.backup_session.specs.Machine.{turn};
@@ -29,7 +30,7 @@ pub fn what_is_found_has_a_form()
 /// coordinator's tapes that are here: those that aren't listed and whose parent isn't wrong, so far as the log has room. Over a database
 /// without listed dumps it passes by those with a wrong parent alone.
 pub fn a_scan_lists_what_is_whole()
-    ensures { (w : World) (now offset : ℕ) (port : PortFields) → port_of w.setting.config (after w.log).hosts offset ≡ Ok port → ListsWhole w (slots_here w.setting.present port) (turn w now (Scantape true offset)) }
+    ensures { (w : World) (now offset : ℕ) (port : PortFields) → port_of w.setting.config (after w.log).hosts offset ≡ Ok port → ListsWhole w (slots_here w.setting.present port) (turn w now (Tape (Scantape true offset))) }
 {}
 
 /// Each dump that any archive with these tapes has listed, and whose tapes are all held in a coordinator's slots that are here, is among
@@ -50,7 +51,7 @@ pub fn recorded_dumps_are_found_again()
 pub fn recorded_dumps_are_listed_again()
     ensures { (w : World) (now offset : ℕ) (port : PortFields) → port_of w.setting.config (after w.log).hosts offset ≡ Ok port → (after w.log).listed ≡ []
         → (stock : Stock) (a : Archive) (records : AnyList DumpRecordFields) → Holds stock a records → HasTheseTapes w stock a
-        → (d : DumpRecordFields) → Contains (listed_of a) d → IsHeldOn d (slots_here w.setting.present port) a.slots → IsListedBehind w (slots_here w.setting.present port) (turn w now (Scantape true offset)) d }
+        → (d : DumpRecordFields) → Contains (listed_of a) d → IsHeldOn d (slots_here w.setting.present port) a.slots → IsListedBehind w (slots_here w.setting.present port) (turn w now (Tape (Scantape true offset))) d }
 {
     one_reading();
 }

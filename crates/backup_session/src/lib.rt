@@ -2,7 +2,6 @@
 #![tactic(auto)]
 
 mod adding;
-mod asks;
 mod decide;
 mod dumping;
 mod dumps;

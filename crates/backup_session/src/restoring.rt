@@ -5,7 +5,7 @@ ghost use Rattle.crash_moments.specs.Moments.{HasCauseAt};
 ghost use Rattle.plant_effects.specs.Runs.{Leaves, StaysQuiet};
 ghost use Rattle.tape_scan.specs.Looking.{Loads, LeavesLoads};
 ghost use Rattle.archive_model.specs.Archives.{Archive};
-ghost use Rattle.dump_commands.specs.Ahead.{LeftAhead};
+ghost use Rattle.dump_courses.specs.Ahead.{LeftAhead};
 ghost use Rattle.restore_commands.specs.Leaving.{IsArchiveOf, IsAnswer, OnTheWay};
 ghost use Rattle.backup_session.specs.Worlds.{World};
 ghost use Rattle.backup_session.specs.Held.{HoldsArchive};
@@ -15,14 +15,12 @@ ghost use Rattle.backup_session.specs.Restores.{manner_at, restore_answer, archi
 use crate::reply::Reply;
 use crate::session::Session;
 use crate::stops::Stop;
-use backup_words::Command;
+use backup_words::{RestoreCommand, RestoredVolumes};
 use bk_text::Bytes;
 use budb::Budb;
 use cell_core::Cell;
 use plant_core::Plant;
-use restore_commands::{
-    Disk, Manner, RestoreStop, Wanted, restore_disk, restore_set, restore_volume,
-};
+use restore_commands::{Manner, RestoreStop, restore_disk, restore_set, restore_volume};
 use std::alloc::Global;
 use tape_answers::the_slots_are_read;
 
@@ -40,14 +38,14 @@ fn stop_of(stop: RestoreStop) -> Stop
     }
 }
 
-/// How a command restores its volumes.
-fn manner(extension: &Option<Bytes>, time: u32, n: bool) -> Manner<'_>
-    ensures { result ≡ manner_at time extension.now n }
+/// How a command restores its volumes, at a time.
+fn manner_at(time: u32, command: &RestoreCommand) -> Manner<'_>
+    ensures { result ≡ manner_at time command.now }
 {
     Manner {
-        extension,
+        extension: &command.extension,
         time,
-        is_trial: n,
+        is_trial: command.trial,
     }
 }
 
@@ -58,7 +56,7 @@ fn restored<P: Plant, C: Cell>(
     plant: &mut P,
     cell: &mut C,
     time: u32,
-    command: &Command,
+    command: &RestoreCommand,
 ) -> Result<Bytes, RestoreStop>
     requires { P.sound plant.old }
     ensures answer { P.tells → C.tells → (a : Archive) → IsArchiveOf P.Plant budb.now.database.listed a plant.old → IfOk result (λ reply. IsAnswer (restore_answer a budb.now.database.sets (C.list cell.old) time command.now) reply (C.list cell.old) (C.list cell.new)) }
@@ -70,82 +68,11 @@ fn restored<P: Plant, C: Cell>(
     ensures cause { HasCauseAt RestoreStop.Plant (P.view plant.old).faults (P.view plant.new).faults result }
     ensures cell_cause { HasCauseAt RestoreStop.Cell (C.faults cell.old) (C.faults cell.new) result }
 {
-    match command {
-        Command::Volrestore {
-            server,
-            partition,
-            volume,
-            extension,
-            date,
-            n,
-        } => {
-            let wanted = Wanted {
-                name: volume,
-                before: *date,
-                server,
-                partition,
-            };
-            restore_volume(
-                alloc,
-                budb,
-                plant,
-                cell,
-                &wanted,
-                &manner(extension, time, *n),
-            )
-        }
-        Command::Diskrestore {
-            server,
-            partition,
-            newserver,
-            newpartition,
-            extension,
-            n,
-        } => {
-            let disk = Disk {
-                server,
-                partition,
-                new_server: newserver,
-                new_partition: newpartition,
-            };
-            restore_disk(
-                alloc,
-                budb,
-                plant,
-                cell,
-                &disk,
-                &manner(extension, time, *n),
-            )
-        }
-        Command::Volsetrestore { name, extension, n } => {
-            restore_set(alloc, budb, plant, cell, name, &manner(extension, time, *n))
-        }
-        Command::Addvolset { .. }
-        | Command::Delvolset { .. }
-        | Command::Addvolentry { .. }
-        | Command::Delvolentry { .. }
-        | Command::Listvolsets { .. }
-        | Command::Adddump { .. }
-        | Command::Setexp { .. }
-        | Command::Deldump { .. }
-        | Command::Listdumps
-        | Command::Listhosts
-        | Command::Checkpoint
-        | Command::Addhost { .. }
-        | Command::Delhost { .. }
-        | Command::Labeltape { .. }
-        | Command::Readlabel { .. }
-        | Command::Scantape { .. }
-        | Command::Dump { .. }
-        | Command::Deletedump { .. }
-        | Command::Dumpinfo { .. }
-        | Command::Volinfo { .. }
-        | Command::VosCreate { .. }
-        | Command::VosWrite { .. }
-        | Command::VosRmvnode { .. }
-        | Command::VosBackup { .. }
-        | Command::VosRemove { .. }
-        | Command::VosListvol => Ok(Bytes::new(alloc)),
+    let manner = manner_at(time, command);
+    match &command.volumes {
+        RestoredVolumes::One(wanted) => restore_volume(alloc, budb, plant, cell, wanted, &manner),
+        RestoredVolumes::OfDisk(disk) => restore_disk(alloc, budb, plant, cell, disk, &manner),
+        RestoredVolumes::OfSet(name) => restore_set(alloc, budb, plant, cell, name, &manner),
     }
 }
 
@@ -158,7 +85,7 @@ impl Session {
         alloc: Global,
         plant: &mut P,
         cell: &mut C,
-        command: &Command,
+        command: &RestoreCommand,
     ) -> Result<Reply, Stop>
         requires { P.sound plant.old }
         ensures sound { OnOk result (P.sound plant.new) }

@@ -13,16 +13,17 @@ ghost use Rattle.plant_core.specs.Stock.{Stock};
 ghost use Rattle.plant_effects.specs.Runs.{state_of, Done, Leaves, OnlyLooks, SameNumbers, StaysQuiet};
 ghost use Rattle.tape_config.specs.declared.port.PortFields.{PortFields};
 ghost use Rattle.archive_model.specs.Archives.{Archive, listed_of, Holds};
-ghost use Rattle.dump_commands.specs.Ahead.{LeftAhead};
-ghost use Rattle.backup_words.specs.declared.command.Command.TheVariants.{Scantape};
+ghost use Rattle.dump_courses.specs.Ahead.{LeftAhead};
+ghost use Rattle.backup_words.specs.declared.command.Command.TheVariants.{Tape as TapeAsked, Restore as RestoreAsked};
+ghost use Rattle.backup_words.specs.declared.command.TapeCommand.TheVariants.{Scantape};
+ghost use Rattle.backup_words.specs.declared.command.RestoreCommand.{RestoreCommand as AnyRestore};
 ghost use Rattle.backup_session.specs.declared.verdict.Verdict.TheVariants.{Makes, Shortens};
 ghost use Rattle.backup_session.specs.Worlds.{World, Contents, at_moment};
 ghost use Rattle.backup_session.specs.Scanning.{port_of, slots_here};
 ghost use Rattle.backup_session.specs.Verdicts.{verdict};
-ghost use Rattle.backup_session.specs.Machine.{carried, on_plant, done, turn};
+ghost use Rattle.backup_session.specs.Machine.{carried, done, turn};
 ghost use Rattle.backup_session.specs.Held.{HeldFor};
 
-use crate::asks::{asks_archive, asks_cell, asks_dump, asks_tape};
 use crate::decide::decide;
 use crate::opening::{first_time, open_database};
 use crate::reply::Reply;
@@ -30,7 +31,7 @@ use crate::stops::{OpenStop, Stop};
 use crate::verdict::Verdict;
 use crate::vos::on_cell;
 use backup_replies::{Refusal, ok_line, refused_number};
-use backup_words::Command;
+use backup_words::{Command, DatabaseCommand};
 use bk_text::Bytes;
 use budb::{Budb, CommitFault};
 use budb_journal::Change;
@@ -95,9 +96,20 @@ impl Session {
         ensures cell_cause { HasCauseAt OpenStop.Cell (C.faults cell.old) (C.faults cell.new) result }
         ensures answers { P.tells → IsLog (state_of P.Plant plant.old).log → (Rose (P.view plant.old).faults (P.view plant.new).faults → ⊥) → (Rose (C.faults cell.old) (C.faults cell.new) → ⊥) → OpensOrLacksMemory result }
     {
-        let budb = open_database(alloc, plant)?;
-        let time = first_time(cell, budb.database())?;
-        Ok(Session { config, budb, time })
+        match open_database(alloc, plant) {
+            Ok(budb) => match first_time(cell, budb.database()) {
+                Ok(time) => Ok(Session { config, budb, time }),
+                Err(stop) => {
+                    drop(budb);
+                    drop(config);
+                    Err(stop)
+                }
+            },
+            Err(stop) => {
+                drop(config);
+                Err(stop)
+            }
+        }
     }
 
     /// Makes changes by one commit, where the log has room for them, and has this reply then.
@@ -181,7 +193,7 @@ impl Session {
         &mut self,
         alloc: Global,
         plant: &mut P,
-        command: &Command,
+        command: &DatabaseCommand,
     ) -> Result<Reply, Stop>
         requires { P.sound plant.old }
         ensures sound { OnOk result (P.sound plant.new) }
@@ -195,30 +207,6 @@ impl Session {
     {
         let verdict = decide(alloc, &self.budb, command)?;
         self.carry(alloc, plant, verdict)
-    }
-
-    /// A command on tapes or on the database, at the session's time.
-    fn on_plant<P: Plant>(
-        &mut self,
-        alloc: Global,
-        plant: &mut P,
-        command: &Command,
-    ) -> Result<Reply, Stop>
-        requires { P.sound plant.old }
-        ensures sound { OnOk result (P.sound plant.new) }
-        ensures unfailed { result ≢ Err Stop.Plant → P.sound plant.new }
-        ensures turned { P.tells → (w : World) → FitsPlant P.Plant w plant.old self.old → IfOk result (λ reply. TurnedPlant P.Plant w (on_plant w command.now) plant.old plant.new self.new reply) }
-        ensures leaves { P.tells → (w : World) → FitsPlant P.Plant w plant.old self.old → Leaves P.Plant (on_plant w command.now).effects plant.old plant.new }
-        ensures stopped { P.tells → (w : World) → FitsPlant P.Plant w plant.old self.old → OnErr result (result ≢ Err Stop.Plant → LeftAhead P.Plant (on_plant w command.now).effects plant.old plant.new) }
-        ensures stays { StaysQuiet P.Plant plant.old plant.new }
-        ensures cause { HasCauseAt Stop.Plant (P.view plant.old).faults (P.view plant.new).faults result }
-        ensures never { result ≢ Err Stop.Cell }
-    {
-        if asks_tape(command) {
-            self.on_tape(alloc, plant, command)
-        } else {
-            self.on_database(alloc, plant, command)
-        }
     }
 
     /// A command at the session's time.
@@ -235,7 +223,7 @@ impl Session {
         ensures turned { P.tells → C.tells → (w : World) → Stands P.Plant C.Cell w plant.old cell.old self.old → HeldFor w command.now → IfOk result (λ reply. TurnDone P.Plant C.Cell w (done w command.now) plant.old plant.new cell.new self.new reply) }
         ensures some_turn { P.tells → C.tells → (w : World) → Stands P.Plant C.Cell w plant.old cell.old self.old → IfOk result (λ reply. SomeTurnDone P.Plant C.Cell w plant.old plant.new cell.new self.new reply) }
         ensures some_restore { P.tells → C.tells → (w : World) → Stands P.Plant C.Cell w plant.old cell.old self.old → asks_archive command.now ≡ true → IfOk result (λ reply. SomeRestore P.Plant C.Cell w plant.old plant.new cell.new self.new reply) }
-        ensures may { P.tells → C.tells → (w : World) → Stands P.Plant C.Cell w plant.old cell.old self.old → asks_archive command.now ≡ true → MayRestore (after w.log) w.time command.now w.cell (C.list cell.new) }
+        ensures may { P.tells → C.tells → (w : World) → Stands P.Plant C.Cell w plant.old cell.old self.old → (asked : AnyRestore) → command.now ≡ RestoreAsked asked → MayRestore (after w.log) w.time asked w.cell (C.list cell.new) }
         ensures leaves { P.tells → C.tells → (w : World) → Stands P.Plant C.Cell w plant.old cell.old self.old → Leaves P.Plant (done w command.now).effects plant.old plant.new }
         ensures stopped { P.tells → C.tells → (w : World) → Stands P.Plant C.Cell w plant.old cell.old self.old → OnErr result (result ≢ Err Stop.Plant → LeftAhead P.Plant (done w command.now).effects plant.old plant.new) }
         ensures cells { P.tells → C.tells → (w : World) → Stands P.Plant C.Cell w plant.old cell.old self.old → HeldFor w command.now → OnTheWay w.cell (done w command.now).cells (C.list cell.new) }
@@ -243,14 +231,12 @@ impl Session {
         ensures plant_cause { HasCauseAt Stop.Plant (P.view plant.old).faults (P.view plant.new).faults result }
         ensures cell_cause { HasCauseAt Stop.Cell (C.faults cell.old) (C.faults cell.new) result }
     {
-        if asks_cell(command) {
-            on_cell(alloc, cell, command, self.time)
-        } else if asks_archive(command) {
-            self.on_archive(alloc, plant, cell, command)
-        } else if asks_dump(command) {
-            self.on_dump(alloc, plant, cell, command)
-        } else {
-            self.on_plant(alloc, plant, command)
+        match command {
+            Command::Database(asked) => self.on_database(alloc, plant, asked),
+            Command::Tape(asked) => self.on_tape(alloc, plant, asked),
+            Command::Cell(asked) => on_cell(alloc, cell, asked, self.time),
+            Command::Dump(asked) => self.make_dump(alloc, plant, cell, asked),
+            Command::Restore(asked) => self.on_archive(alloc, plant, cell, asked),
         }
     }
 
@@ -278,11 +264,11 @@ impl Session {
         ensures stopped { P.tells → C.tells → (w : World) → Stands P.Plant C.Cell w plant.old cell.old self.old → OnErr result (result ≢ Err Stop.Plant → LeftAhead P.Plant (turn w now command.now).effects plant.old plant.new) }
         ensures cells { P.tells → C.tells → (w : World) → Stands P.Plant C.Cell w plant.old cell.old self.old → HeldFor (at_moment w now) command.now → OnTheWay w.cell (turn w now command.now).cells (C.list cell.new) }
         ensures some_restore { P.tells → C.tells → (w : World) → Stands P.Plant C.Cell w plant.old cell.old self.old → asks_archive command.now ≡ true → IfOk result (λ reply. SomeRestore P.Plant C.Cell (at_moment w now) plant.old plant.new cell.new self.new reply) }
-        ensures may { P.tells → C.tells → (w : World) → Stands P.Plant C.Cell w plant.old cell.old self.old → asks_archive command.now ≡ true → MayRestore (after w.log) (at_moment w now).time command.now w.cell (C.list cell.new) }
+        ensures may { P.tells → C.tells → (w : World) → Stands P.Plant C.Cell w plant.old cell.old self.old → (asked : AnyRestore) → command.now ≡ RestoreAsked asked → MayRestore (after w.log) (at_moment w now).time asked w.cell (C.list cell.new) }
         ensures tapes { P.tells → C.tells → (w : World) → Stands P.Plant C.Cell w plant.old cell.old self.old → HasTapes w × ((k : ℕ) → IsTrue (w.setting.present k) → k < w.setting.slots) }
-        ensures scans { P.tells → C.tells → (w : World) → Stands P.Plant C.Cell w plant.old cell.old self.old → (offset : ℕ) (port : PortFields) → command.now ≡ Scantape true offset → port_of w.setting.config (after w.log).hosts offset ≡ Ok port
+        ensures scans { P.tells → C.tells → (w : World) → Stands P.Plant C.Cell w plant.old cell.old self.old → (offset : ℕ) (port : PortFields) → command.now ≡ TapeAsked (Scantape true offset) → port_of w.setting.config (after w.log).hosts offset ≡ Ok port
             → IfOk result (λ reply. ListsWhole w (slots_here w.setting.present port) (turn w now command.now)) }
-        ensures again { P.tells → C.tells → (w : World) → Stands P.Plant C.Cell w plant.old cell.old self.old → (offset : ℕ) (port : PortFields) → command.now ≡ Scantape true offset → port_of w.setting.config (after w.log).hosts offset ≡ Ok port
+        ensures again { P.tells → C.tells → (w : World) → Stands P.Plant C.Cell w plant.old cell.old self.old → (offset : ℕ) (port : PortFields) → command.now ≡ TapeAsked (Scantape true offset) → port_of w.setting.config (after w.log).hosts offset ≡ Ok port
             → (after w.log).listed ≡ [] → (stock : Stock) (a : Archive) (records : AnyList DumpRecordFields) → Holds stock a records → HasTheseTapes w stock a
             → (d : DumpRecordFields) → Contains (listed_of a) d → IsHeldOn d (slots_here w.setting.present port) a.slots → IfOk result (λ reply. IsListedBehind w (slots_here w.setting.present port) (turn w now command.now) d) }
         ensures stays { StaysQuiet P.Plant plant.old plant.new }

@@ -8,7 +8,7 @@ ghost use Rattle.plant_effects.specs.Runs.{state_of, loaded_of, OnLoaded, Done, 
 ghost use Rattle.tape_frames.specs.declared.frame.Frame.TheVariants.{Label as LabelFrame};
 ghost use Rattle.tape_frames.specs.Frames.{spelling};
 ghost use Rattle.backup_replies.specs.Labels.{label_lines};
-ghost use Rattle.dump_commands.specs.Ahead.{DoneAhead};
+ghost use Rattle.dump_courses.specs.Ahead.{DoneAhead};
 ghost use Rattle.backup_session.specs.Labels.{label_of};
 ghost use Rattle.backup_session.specs.Tapes.{slot_in, slot_at, slot_of, label_reply, IsBlank, putting_label};
 

@@ -13,7 +13,7 @@ ghost use Rattle.backup_session.specs.Cells.{answered, created, data_for, cell_a
 use crate::reply::Reply;
 use crate::stops::Stop;
 use backup_replies::{Refusal, ok_line, put_listed, refused_at, refused_number, refused_word};
-use backup_words::Command;
+use backup_words::CellCommand;
 use bk_text::{Bytes, Host, Name, Out, Part};
 use cell_core::{Cell, CellFault};
 use std::alloc::{AllocError, Global};
@@ -219,11 +219,11 @@ fn show<C: Cell>(alloc: Global, cell: &mut C) -> Result<Reply, Stop>
     }
 }
 
-/// A command on the cell, at the session's time. Another command has no reply.
+/// A command on the cell, at the session's time.
 pub(crate) fn on_cell<C: Cell>(
     alloc: Global,
     cell: &mut C,
-    command: &Command,
+    command: &CellCommand,
     now: u32,
 ) -> Result<Reply, Stop>
     ensures answer { C.tells → IfOk result (λ reply. IsAnswer (cell_answer (C.list cell.old) now command.now) reply (C.list cell.old) (C.list cell.new)) }
@@ -232,43 +232,20 @@ pub(crate) fn on_cell<C: Cell>(
     ensures never { result ≢ Err Stop.Plant }
 {
     match command {
-        Command::VosCreate {
+        CellCommand::VosCreate {
             server,
             partition,
             name,
         } => create(alloc, cell, server, partition, name, now),
-        Command::VosWrite {
+        CellCommand::VosWrite {
             volume,
             vnode,
             text,
             size,
         } => write_vnode(alloc, cell, volume, *vnode, text, size, now),
-        Command::VosRmvnode { volume, vnode } => remove_vnode(alloc, cell, volume, *vnode, now),
-        Command::VosBackup { volume } => backup(alloc, cell, volume, now),
-        Command::VosRemove { volume } => remove(alloc, cell, volume),
-        Command::VosListvol => show(alloc, cell),
-        Command::Addvolset { .. }
-        | Command::Delvolset { .. }
-        | Command::Addvolentry { .. }
-        | Command::Delvolentry { .. }
-        | Command::Listvolsets { .. }
-        | Command::Adddump { .. }
-        | Command::Setexp { .. }
-        | Command::Deldump { .. }
-        | Command::Listdumps
-        | Command::Listhosts
-        | Command::Checkpoint
-        | Command::Addhost { .. }
-        | Command::Delhost { .. }
-        | Command::Labeltape { .. }
-        | Command::Readlabel { .. }
-        | Command::Scantape { .. }
-        | Command::Dump { .. }
-        | Command::Deletedump { .. }
-        | Command::Dumpinfo { .. }
-        | Command::Volinfo { .. }
-        | Command::Volrestore { .. }
-        | Command::Diskrestore { .. }
-        | Command::Volsetrestore { .. } => Ok(Reply::new(Bytes::new(alloc))),
+        CellCommand::VosRmvnode { volume, vnode } => remove_vnode(alloc, cell, volume, *vnode, now),
+        CellCommand::VosBackup { volume } => backup(alloc, cell, volume, now),
+        CellCommand::VosRemove { volume } => remove(alloc, cell, volume),
+        CellCommand::VosListvol => show(alloc, cell),
     }
 }

@@ -83,6 +83,14 @@ shown_told {D = D} seen plant back is = ap (λ (m : D). (seen m).told) is
 pub told_to : (before after shown : List ℕ) (es : List Effect) (s : State) → before ≡ s.told → after ≡ shown → IsStartOf shown (come es s).told → IsFront after (before ++ told_by es)
 told_to before after shown es s before_is after_is start = (length shown, after_is ∙ start ∙ ap (take (length shown)) (told_is es s ∙ ap (λ (l : List ℕ). l ++ told_by es) (sym before_is)))
 
+-- and no less
+pub least_to : (before after shown : List ℕ) (es : List Effect) (s : State) → before ≡ s.told → after ≡ shown → IsStartOf (come es s).told shown → IsFront (before ++ told_by es) after
+least_to before after shown es s before_is after_is start =
+    (length (come es s).told, ap (λ (l : List ℕ). l ++ told_by es) before_is ∙ sym (told_is es s) ∙ start ∙ ap (take (length (come es s).told)) (sym after_is))
+
+pub untold_least : (before after : List ℕ) → after ≡ before → IsFront (before ++ []) after
+untold_least before after same = whole_front (before ++ []) after (append-nil before ∙ sym same)
+
 pub untold_to : (before after : List ℕ) → after ≡ before → IsFront after (before ++ [])
 untold_to before after same = whole_front after (before ++ []) (same ∙ sym (append-nil before))
 

@@ -260,7 +260,7 @@ pub record RunsLines (c : Course) (whole : List Effect) : Type 0 where
   pub begun : (whole ≡ (outcome c).effects) ⊎ AreBegun c.world c.moments (lines (ended took.taken)) whole
 
 -- The cell has the list of a stage of the script, the clock has its moments left, and no more was told than its effects tell: so the cell has
--- the changes of each command whose reply was told.
+-- the changes of each command whose reply was told. All was told that the lines before the one in progress tell.
 pub record CellAtStage (c : Course) : Type 0 where
   pub stage : Stage
   pub on_the_way : IsStage [] c.world c.moments (lines c.input) stage
@@ -268,6 +268,7 @@ pub record CellAtStage (c : Course) : Type 0 where
   pub clock : c.left ≡ stage.moments
   pub run : RunsLines c stage.whole
   pub told : IsFront c.after.told (c.before.told ++ told_by stage.effects)
+  pub least : IsFront (c.before.told ++ told_by stage.whole) c.after.told
 
 -- What reads give at the end: such an image, behind all effects of the lines before the one in progress.
 pub record EndImage (c : Course) (stage : Stage) (old new : Stock) : Type 0 where

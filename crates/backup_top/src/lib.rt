@@ -19,10 +19,3 @@ pub use edge::{explain, program, words_of};
 pub use status::Status;
 pub use top::run;
 pub use words::{Asked, asked_by};
-
-#[cfg(test)]
-mod edge_tests;
-#[cfg(test)]
-mod script_tests;
-#[cfg(test)]
-mod tests;

@@ -70,20 +70,35 @@ pub fn line_of_entry(alloc: Global, entry: &Entry) -> Result<Bytes, AllocError>
     Ok(line.into_bytes())
 }
 
+/// Puts a number behind its name.
+fn put_named(line: &mut Out, name: &[u8], number: u32) -> Result<(), AllocError>
+    ensures { OnOk result (line.new ≡ line.old ++ name.now ++ then_number number) }
+{
+    line.piece(name)?;
+    put_number(line, number as u64)?;
+    Ok(())
+}
+
+/// Puts the line of a stream's volume.
+fn put_volume(line: &mut Out, increment: &Increment) -> Result<(), AllocError>
+    ensures { OnOk result (line.new ≡ line.old ++ volume_line increment.now) }
+{
+    let fields = increment.fields();
+    line.piece(b"volume")?;
+    put_word(line, fields.dump_name.bytes())?;
+    put_number(line, fields.dump_id as u64)?;
+    put_named(line, b" from", fields.from)?;
+    put_named(line, b" to", fields.to)?;
+    line.byte(b'\n')?;
+    Ok(())
+}
+
 /// The line of a stream's volume.
 pub fn line_of_volume(alloc: Global, increment: &Increment) -> Result<Bytes, AllocError>
     ensures { IfOk result (λ line. line ≡ volume_line increment.now) }
 {
-    let fields = increment.fields();
     let mut line = Out::new(alloc);
-    line.piece(b"volume")?;
-    put_word(&mut line, fields.dump_name.bytes())?;
-    put_number(&mut line, fields.dump_id as u64)?;
-    line.piece(b" from")?;
-    put_number(&mut line, fields.from as u64)?;
-    line.piece(b" to")?;
-    put_number(&mut line, fields.to as u64)?;
-    line.byte(b'\n')?;
+    put_volume(&mut line, increment)?;
     Ok(line.into_bytes())
 }
 

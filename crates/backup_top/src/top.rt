@@ -65,11 +65,16 @@ fn examine<M: Media, S: Source>(alloc: Global, media: &mut M, source: &mut S) ->
         Err(ReadStop::Failed) => Status::ReadFault,
         Err(ReadStop::TooLong) => Status::ScriptTooLong,
         Err(ReadStop::Memory) => Status::Memory,
-        Ok(input) => match tell_input(alloc, media, &input) {
-            Ok(()) => status_of(&input),
-            Err(TellStop::Refused) => Status::OutputFault,
-            Err(TellStop::Memory) => Status::Memory,
-        },
+        Ok(input) => {
+            let status = status_of(&input);
+            let told = tell_input(alloc, media, &input);
+            drop(input);
+            match told {
+                Ok(()) => status,
+                Err(TellStop::Refused) => Status::OutputFault,
+                Err(TellStop::Memory) => Status::Memory,
+            }
+        }
     }
 }
 

@@ -8,6 +8,13 @@ use Rattle.backup_words.specs.declared.options.OptionName.TheVariants as option
 use Rattle.backup_words.specs.declared.options.Rule.{Rule}
 use Rattle.backup_words.specs.declared.command.Command.{Command}
 use Rattle.backup_words.specs.declared.command.Command.TheVariants as command
+use Rattle.backup_words.specs.declared.command.DatabaseCommand.TheVariants as database
+use Rattle.backup_words.specs.declared.command.TapeCommand.TheVariants as tape
+use Rattle.backup_words.specs.declared.command.CellCommand.TheVariants as cell
+use Rattle.backup_words.specs.declared.command.RestoredVolumes.{RestoredVolumes}
+use Rattle.backup_words.specs.declared.command.RestoredVolumes.TheVariants.{One, OfDisk, OfSet}
+use Rattle.backup_words.specs.declared.command.Wanted.{Wanted}
+use Rattle.backup_words.specs.declared.command.Disk.{Disk}
 use Rattle.backup_words.specs.declared.faults.ValueFault.{ValueFault}
 use Rattle.backup_words.specs.declared.faults.ValueFault.TheVariants.{Unfit, NoPattern, NoDate, TooEarly}
 use Rattle.backup_words.specs.declared.faults.WordFault.{WordFault}
@@ -23,37 +30,54 @@ use Rattle.backup_words.specs.Table.{rules_of}
 abbrev pub port_at : List (List ℕ) → ℕ
 port_at words = unwrap_or (maybe_number option.Portoffset words) 0
 
+-- the volume that is wanted: the last dump before a date, where one is given
+abbrev pub wanted_in : List (List ℕ) → Wanted
+wanted_in w = record { name = word_at option.Volume w; before = maybe_date option.Date w; server = word_at option.Server w; partition = without_slash (word_at option.Partition w) }
+
+-- the partition whose volumes are wanted, and where they are put
+abbrev pub disk_in : List (List ℕ) → Disk
+disk_in w = record {
+  server = word_at option.Server w;
+  partition = without_slash (word_at option.Partition w);
+  new_server = maybe_word option.Newserver w;
+  new_partition = option_map without_slash (maybe_word option.Newpartition w);
+}
+
+-- volumes are restored
+abbrev pub restoring : RestoredVolumes → List (List ℕ) → Command
+restoring volumes w = command.Restore (record { volumes = volumes; extension = maybe_word option.Extension w; trial = has option.N w })
+
 -- THE COMMANDS, of words that fit.
 abbrev pub built : Kind → List (List ℕ) → Command
-built Addvolset w = command.Addvolset (word_at option.Name w)
-built Delvolset w = command.Delvolset (word_at option.Name w)
-built Addvolentry w = command.Addvolentry (word_at option.Name w) (unless_any (word_at option.Server w)) (option_map without_slash (unless_any (word_at option.Partition w))) (word_at option.Volumes w)
-built Delvolentry w = command.Delvolentry (word_at option.Name w) (number_at option.Entry w)
-built Listvolsets w = command.Listvolsets (maybe_word option.Name w)
-built Adddump w = command.Adddump (words_at option.Dump w) (expiry_at option.Expires w)
-built Setexp w = command.Setexp (words_at option.Dump w) (expiry_at option.Expires w)
-built Deldump w = command.Deldump (word_at option.Dump w)
-built Listdumps w = command.Listdumps
-built Listhosts w = command.Listhosts
-built Checkpoint w = command.Checkpoint
-built Addhost w = command.Addhost (word_at option.Tapehost w) (port_at w)
-built Delhost w = command.Delhost (word_at option.Tapehost w) (port_at w)
-built Labeltape w = command.Labeltape (maybe_word option.Name w) (maybe_word option.Pname w) (port_at w) (maybe_number option.Slot w)
-built Readlabel w = command.Readlabel (port_at w) (maybe_number option.Slot w)
-built Scantape w = command.Scantape (has option.Dbadd w) (port_at w)
-built Dump w = command.Dump (word_at option.Volumeset w) (word_at option.Dump w) (port_at w) (has option.Append w) (has option.N w)
-built Deletedump w = command.Deletedump (number_at option.Dumpid w)
-built Dumpinfo w = command.Dumpinfo (maybe_number option.Ndumps w) (maybe_number option.Id w)
-built Volinfo w = command.Volinfo (word_at option.Volume w)
-built Volrestore w = command.Volrestore (word_at option.Server w) (without_slash (word_at option.Partition w)) (word_at option.Volume w) (maybe_word option.Extension w) (maybe_date option.Date w) (has option.N w)
-built Diskrestore w = command.Diskrestore (word_at option.Server w) (without_slash (word_at option.Partition w)) (maybe_word option.Newserver w) (option_map without_slash (maybe_word option.Newpartition w)) (maybe_word option.Extension w) (has option.N w)
-built Volsetrestore w = command.Volsetrestore (word_at option.Name w) (maybe_word option.Extension w) (has option.N w)
-built VosCreate w = command.VosCreate (word_at option.Server w) (without_slash (word_at option.Partition w)) (word_at option.Name w)
-built VosWrite w = command.VosWrite (word_at option.Volume w) (number_at option.Vnode w) (maybe_word option.Text w) (maybe_number option.Size w)
-built VosRmvnode w = command.VosRmvnode (word_at option.Volume w) (number_at option.Vnode w)
-built VosBackup w = command.VosBackup (word_at option.Volume w)
-built VosRemove w = command.VosRemove (word_at option.Volume w)
-built VosListvol w = command.VosListvol
+built Addvolset w = command.Database (database.Addvolset (word_at option.Name w))
+built Delvolset w = command.Database (database.Delvolset (word_at option.Name w))
+built Addvolentry w = command.Database (database.Addvolentry (word_at option.Name w) (unless_any (word_at option.Server w)) (option_map without_slash (unless_any (word_at option.Partition w))) (word_at option.Volumes w))
+built Delvolentry w = command.Database (database.Delvolentry (word_at option.Name w) (number_at option.Entry w))
+built Listvolsets w = command.Database (database.Listvolsets (maybe_word option.Name w))
+built Adddump w = command.Database (database.Adddump (words_at option.Dump w) (expiry_at option.Expires w))
+built Setexp w = command.Database (database.Setexp (words_at option.Dump w) (expiry_at option.Expires w))
+built Deldump w = command.Database (database.Deldump (word_at option.Dump w))
+built Listdumps w = command.Database database.Listdumps
+built Listhosts w = command.Database database.Listhosts
+built Checkpoint w = command.Database database.Checkpoint
+built Addhost w = command.Database (database.Addhost (word_at option.Tapehost w) (port_at w))
+built Delhost w = command.Database (database.Delhost (word_at option.Tapehost w) (port_at w))
+built Labeltape w = command.Tape (tape.Labeltape (maybe_word option.Name w) (maybe_word option.Pname w) (port_at w) (maybe_number option.Slot w))
+built Readlabel w = command.Tape (tape.Readlabel (port_at w) (maybe_number option.Slot w))
+built Scantape w = command.Tape (tape.Scantape (has option.Dbadd w) (port_at w))
+built Dump w = command.Dump (record { set = word_at option.Volumeset w; level = word_at option.Dump w; offset = port_at w; append = has option.Append w; trial = has option.N w })
+built Deletedump w = command.Database (database.Deletedump (number_at option.Dumpid w))
+built Dumpinfo w = command.Database (database.Dumpinfo (maybe_number option.Ndumps w) (maybe_number option.Id w))
+built Volinfo w = command.Database (database.Volinfo (word_at option.Volume w))
+built Volrestore w = restoring (One (wanted_in w)) w
+built Diskrestore w = restoring (OfDisk (disk_in w)) w
+built Volsetrestore w = restoring (OfSet (word_at option.Name w)) w
+built VosCreate w = command.Cell (cell.VosCreate (word_at option.Server w) (without_slash (word_at option.Partition w)) (word_at option.Name w))
+built VosWrite w = command.Cell (cell.VosWrite (word_at option.Volume w) (number_at option.Vnode w) (maybe_word option.Text w) (maybe_number option.Size w))
+built VosRmvnode w = command.Cell (cell.VosRmvnode (word_at option.Volume w) (number_at option.Vnode w))
+built VosBackup w = command.Cell (cell.VosBackup (word_at option.Volume w))
+built VosRemove w = command.Cell (cell.VosRemove (word_at option.Volume w))
+built VosListvol w = command.Cell cell.VosListvol
 
 abbrev pub told : ValueFault → WordFault
 told (Unfit option) = BadValue (option_word option)

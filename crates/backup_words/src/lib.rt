@@ -1,6 +1,7 @@
 //! The commands of a script: their words, and what the words say.
 #![tactic(auto)]
 
+mod building;
 mod checks;
 mod command;
 mod faults;
@@ -14,6 +15,9 @@ mod table;
 mod values;
 mod words;
 
-pub use command::Command;
+pub use command::{
+    CellCommand, Command, DatabaseCommand, Disk, DumpCommand, RestoreCommand, RestoredVolumes,
+    TapeCommand, Wanted,
+};
 pub use faults::WordFault;
 pub use modes::{Mode, OuterFault, outer};

@@ -7,25 +7,59 @@ use Rattle.budb_changes.specs.Printable.{IsPatternBytes}
 use Rattle.budb_changes.specs.Forms.{IsExpiry}
 use Rattle.dump_stream.specs.Forms.{IsBytes}
 use Rattle.backup_words.specs.declared.command.Command.{Command}
-use Rattle.backup_words.specs.declared.command.Command.TheVariants.{Addvolset, Delvolset, Addvolentry, Delvolentry, Adddump, Setexp, Deldump, Addhost, Delhost, Labeltape, Dump, Deletedump, Volrestore, Diskrestore, VosCreate, VosWrite}
+use Rattle.backup_words.specs.declared.command.Command.TheVariants.{Database, Tape, Cell, Dump, Restore}
+use Rattle.backup_words.specs.declared.command.DatabaseCommand.{DatabaseCommand}
+use Rattle.backup_words.specs.declared.command.DatabaseCommand.TheVariants.{Addvolset, Delvolset, Addvolentry, Delvolentry, Listvolsets, Adddump, Setexp, Deldump, Listdumps, Listhosts, Checkpoint, Addhost, Delhost, Deletedump, Dumpinfo, Volinfo}
+use Rattle.backup_words.specs.declared.command.TapeCommand.{TapeCommand}
+use Rattle.backup_words.specs.declared.command.TapeCommand.TheVariants.{Labeltape, Readlabel, Scantape}
+use Rattle.backup_words.specs.declared.command.CellCommand.{CellCommand}
+use Rattle.backup_words.specs.declared.command.CellCommand.TheVariants.{VosCreate, VosWrite, VosRmvnode, VosBackup, VosRemove, VosListvol}
+use Rattle.backup_words.specs.declared.command.RestoredVolumes.{RestoredVolumes}
+use Rattle.backup_words.specs.declared.command.RestoredVolumes.TheVariants.{One, OfDisk, OfSet}
 
--- The fields that go into changes of the journal have the forms in which the journal writes them, those of a label the forms of names of
--- tapes, and those that go into the cell the forms of names of servers, partitions and volumes, of numbers of vnodes, and of data.
+-- Fields that go into changes of the journal have the forms in which the journal writes them.
+abbrev pub DatabaseForms : DatabaseCommand → Type 0
+DatabaseForms (Addvolset name) = IsSetName name
+DatabaseForms (Delvolset name) = IsSetName name
+DatabaseForms (Addvolentry name server partition pattern) = IsSetName name × IsAnyOr IsHost server × IsAnyOr IsName partition × IsPatternBytes pattern
+DatabaseForms (Delvolentry name number) = IsSetName name × IsFour number
+DatabaseForms (Listvolsets name) = Unit {0}
+DatabaseForms (Adddump paths expiry) = All IsLevelPath paths × IsExpiry expiry
+DatabaseForms (Setexp paths expiry) = All IsLevelPath paths × IsExpiry expiry
+DatabaseForms (Deldump path) = IsLevelPath path
+DatabaseForms Listdumps = Unit {0}
+DatabaseForms Listhosts = Unit {0}
+DatabaseForms Checkpoint = Unit {0}
+DatabaseForms (Addhost host port) = IsHost host × IsTwo port
+DatabaseForms (Delhost host port) = IsTwo port
+DatabaseForms (Deletedump id) = IsFour id
+DatabaseForms (Dumpinfo count id) = Unit {0}
+DatabaseForms (Volinfo name) = Unit {0}
+
+-- Fields of a label have the forms of names of tapes.
+abbrev pub TapeForms : TapeCommand → Type 0
+TapeForms (Labeltape name pname portoffset slot) = IfSome name IsTapeName × IfSome pname IsTapeName
+TapeForms (Readlabel portoffset slot) = Unit {0}
+TapeForms (Scantape dbadd portoffset) = Unit {0}
+
+-- Fields that go into the cell have the forms of names of servers, partitions and volumes, of numbers of vnodes, and of data.
+abbrev pub CellForms : CellCommand → Type 0
+CellForms (VosCreate server partition name) = IsHost server × IsName partition × IsName name
+CellForms (VosWrite volume vnode text size) = IsFour vnode × IfSome text IsBytes
+CellForms (VosRmvnode volume vnode) = Unit {0}
+CellForms (VosBackup volume) = Unit {0}
+CellForms (VosRemove volume) = Unit {0}
+CellForms VosListvol = Unit {0}
+
+-- So have servers and partitions that volumes are restored to.
+abbrev pub RestoredForms : RestoredVolumes → Type 0
+RestoredForms (One wanted) = IsHost wanted.server × IsName wanted.partition
+RestoredForms (OfDisk disk) = IsHost disk.server × IsName disk.partition × IfSome disk.new_server IsHost × IfSome disk.new_partition IsName
+RestoredForms (OfSet name) = Unit {0}
+
 abbrev pub HasForms : Command → Type 0
-HasForms (Addvolset name) = IsSetName name
-HasForms (Delvolset name) = IsSetName name
-HasForms (Addvolentry name server partition pattern) = IsSetName name × IsAnyOr IsHost server × IsAnyOr IsName partition × IsPatternBytes pattern
-HasForms (Delvolentry name number) = IsSetName name × IsFour number
-HasForms (Adddump paths expiry) = All IsLevelPath paths × IsExpiry expiry
-HasForms (Setexp paths expiry) = All IsLevelPath paths × IsExpiry expiry
-HasForms (Deldump path) = IsLevelPath path
-HasForms (Addhost host port) = IsHost host × IsTwo port
-HasForms (Delhost host port) = IsTwo port
-HasForms (Labeltape name pname portoffset slot) = IfSome name IsTapeName × IfSome pname IsTapeName
-HasForms (Dump volumeset dump portoffset append n) = IsSetName volumeset × IsLevelPath dump
-HasForms (Deletedump id) = IsFour id
-HasForms (Volrestore server partition volume extension date n) = IsHost server × IsName partition
-HasForms (Diskrestore server partition newserver newpartition extension n) = IsHost server × IsName partition × IfSome newserver IsHost × IfSome newpartition IsName
-HasForms (VosCreate server partition name) = IsHost server × IsName partition × IsName name
-HasForms (VosWrite volume vnode text size) = IsFour vnode × IfSome text IsBytes
-HasForms command = Unit {0}
+HasForms (Database command) = DatabaseForms command
+HasForms (Tape command) = TapeForms command
+HasForms (Cell command) = CellForms command
+HasForms (Dump command) = IsSetName command.set × IsLevelPath command.level
+HasForms (Restore command) = RestoredForms command.volumes

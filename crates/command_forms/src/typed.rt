@@ -7,9 +7,9 @@ ghost use Rattle.byte_formats.specs.Forms.{IsTwo, IsFour, IsAnyOr};
 ghost use Rattle.budb_changes.specs.Printable.{IsPatternBytes};
 ghost use Rattle.budb_changes.specs.Forms.{IsExpiry};
 ghost use Rattle.dump_stream.specs.Forms.{IsBytes};
-ghost use Rattle.command_forms.specs.Forms.{HasForms};
+ghost use Rattle.command_forms.specs.Forms.{DatabaseForms, TapeForms, CellForms, RestoredForms, HasForms};
 
-use backup_words::Command;
+use backup_words::{CellCommand, Command, DatabaseCommand, RestoredVolumes, TapeCommand};
 use bk_text::{Bytes, Expiry, Host, LevelPath, Name, Part, SetName, TapeName};
 use volume_sets::Pattern;
 
@@ -130,15 +130,13 @@ fn expiry_is_formed(expiry: Expiry)
     }
 }
 
-/// The fields of a command have the forms in which the journal, tapes and the cell write them, whoever made the command: their types
-/// allow no others. So no line is needed to know so.
-pub fn commands_have_forms(command: &Command)
-    ensures { HasForms command.now }
+fn database_is_formed(command: &DatabaseCommand)
+    ensures { DatabaseForms command.now }
 {
     match command {
-        Command::Addvolset { name } => set_is_formed(name),
-        Command::Delvolset { name } => set_is_formed(name),
-        Command::Addvolentry {
+        DatabaseCommand::Addvolset { name } => set_is_formed(name),
+        DatabaseCommand::Delvolset { name } => set_is_formed(name),
+        DatabaseCommand::Addvolentry {
             name,
             server,
             partition,
@@ -149,70 +147,55 @@ pub fn commands_have_forms(command: &Command)
             any_part_is_formed(partition);
             pattern_is_formed(volumes);
         }
-        Command::Delvolentry { name, entry } => {
+        DatabaseCommand::Delvolentry { name, entry } => {
             set_is_formed(name);
             number_is_formed(*entry);
         }
-        Command::Listvolsets { .. } => {}
-        Command::Adddump { dump, expires } => {
+        DatabaseCommand::Listvolsets { .. } => {}
+        DatabaseCommand::Adddump { dump, expires } => {
             levels_are_formed(dump.as_slice());
             expiry_is_formed(*expires);
         }
-        Command::Setexp { dump, expires } => {
+        DatabaseCommand::Setexp { dump, expires } => {
             levels_are_formed(dump.as_slice());
             expiry_is_formed(*expires);
         }
-        Command::Deldump { dump } => level_is_formed(dump),
-        Command::Listdumps => {}
-        Command::Listhosts => {}
-        Command::Checkpoint => {}
-        Command::Addhost {
+        DatabaseCommand::Deldump { dump } => level_is_formed(dump),
+        DatabaseCommand::Listdumps => {}
+        DatabaseCommand::Listhosts => {}
+        DatabaseCommand::Checkpoint => {}
+        DatabaseCommand::Addhost {
             tapehost,
             portoffset,
         } => {
             host_is_formed(tapehost);
             short_is_formed(*portoffset);
         }
-        Command::Delhost { portoffset, .. } => short_is_formed(*portoffset),
-        Command::Labeltape { name, pname, .. } => {
+        DatabaseCommand::Delhost { portoffset, .. } => short_is_formed(*portoffset),
+        DatabaseCommand::Deletedump { dumpid } => number_is_formed(*dumpid),
+        DatabaseCommand::Dumpinfo { .. } => {}
+        DatabaseCommand::Volinfo { .. } => {}
+    }
+}
+
+fn tape_command_is_formed(command: &TapeCommand)
+    ensures { TapeForms command.now }
+{
+    match command {
+        TapeCommand::Labeltape { name, pname, .. } => {
             tape_is_formed(name);
             tape_is_formed(pname);
         }
-        Command::Readlabel { .. } => {}
-        Command::Scantape { .. } => {}
-        Command::Dump {
-            volumeset,
-            dump,
-            ..
-        } => {
-            set_is_formed(volumeset);
-            level_is_formed(dump);
-        }
-        Command::Deletedump { dumpid } => number_is_formed(*dumpid),
-        Command::Dumpinfo { .. } => {}
-        Command::Volinfo { .. } => {}
-        Command::Volrestore {
-            server,
-            partition,
-            ..
-        } => {
-            host_is_formed(server);
-            part_is_formed(partition);
-        }
-        Command::Diskrestore {
-            server,
-            partition,
-            newserver,
-            newpartition,
-            ..
-        } => {
-            host_is_formed(server);
-            part_is_formed(partition);
-            any_host_is_formed(newserver);
-            any_part_is_formed(newpartition);
-        }
-        Command::Volsetrestore { .. } => {}
-        Command::VosCreate {
+        TapeCommand::Readlabel { .. } => {}
+        TapeCommand::Scantape { .. } => {}
+    }
+}
+
+fn cell_command_is_formed(command: &CellCommand)
+    ensures { CellForms command.now }
+{
+    match command {
+        CellCommand::VosCreate {
             server,
             partition,
             name,
@@ -221,13 +204,48 @@ pub fn commands_have_forms(command: &Command)
             part_is_formed(partition);
             name_is_formed(name);
         }
-        Command::VosWrite { vnode, text, .. } => {
+        CellCommand::VosWrite { vnode, text, .. } => {
             number_is_formed(*vnode);
             text_is_formed(text);
         }
-        Command::VosRmvnode { .. } => {}
-        Command::VosBackup { .. } => {}
-        Command::VosRemove { .. } => {}
-        Command::VosListvol => {}
+        CellCommand::VosRmvnode { .. } => {}
+        CellCommand::VosBackup { .. } => {}
+        CellCommand::VosRemove { .. } => {}
+        CellCommand::VosListvol => {}
+    }
+}
+
+fn restored_are_formed(volumes: &RestoredVolumes)
+    ensures { RestoredForms volumes.now }
+{
+    match volumes {
+        RestoredVolumes::One(wanted) => {
+            host_is_formed(&wanted.server);
+            part_is_formed(&wanted.partition);
+        }
+        RestoredVolumes::OfDisk(disk) => {
+            host_is_formed(&disk.server);
+            part_is_formed(&disk.partition);
+            any_host_is_formed(&disk.new_server);
+            any_part_is_formed(&disk.new_partition);
+        }
+        RestoredVolumes::OfSet(_) => {}
+    }
+}
+
+/// The fields of a command have the forms in which the journal, tapes and the cell write them, whoever made the command: their types
+/// allow no others. So no line is needed to know so.
+pub fn commands_have_forms(command: &Command)
+    ensures { HasForms command.now }
+{
+    match command {
+        Command::Database(command) => database_is_formed(command),
+        Command::Tape(command) => tape_command_is_formed(command),
+        Command::Cell(command) => cell_command_is_formed(command),
+        Command::Dump(command) => {
+            set_is_formed(&command.set);
+            level_is_formed(&command.level);
+        }
+        Command::Restore(command) => restored_are_formed(&command.volumes),
     }
 }

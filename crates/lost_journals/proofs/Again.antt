@@ -15,7 +15,8 @@ use Rattle.tape_scan.proofs.ListLaws.{of_filter}
 use Rattle.tape_answers.specs.Slots.{slot_of}
 use Rattle.archive_model.specs.Archives.{Archive, listed_of, IsDump, Holds}
 use Rattle.archive_model.proofs.AgainLaws.{found_also}
-use Rattle.backup_words.specs.declared.command.Command.TheVariants.{Scantape}
+use Rattle.backup_words.specs.declared.command.Command.TheVariants.{Tape}
+use Rattle.backup_words.specs.declared.command.TapeCommand.TheVariants.{Scantape}
 use Rattle.backup_session.specs.Worlds.{World, archive_of}
 use Rattle.backup_session.specs.Scanning.{port_of, slots_here, has_wrong_parent}
 use Rattle.backup_session.specs.Machine.{turn}
@@ -33,7 +34,7 @@ abbrev pub ListsAgain : Type 0
 ListsAgain =
     (w : World) (now offset : ℕ) (port : PortFields) → port_of w.setting.config (after w.log).hosts offset ≡ Ok port → (after w.log).listed ≡ []
     → (stock : Stock) (a : Archive) (records : List DumpRecordFields) → Holds stock a records → HasTheseTapes w stock a
-    → (d : DumpRecordFields) → Contains (listed_of a) d → IsHeldOn d (slots_here w.setting.present port) a.slots → IsListedBehind w (slots_here w.setting.present port) (turn w now (Scantape true offset)) d
+    → (d : DumpRecordFields) → Contains (listed_of a) d → IsHeldOn d (slots_here w.setting.present port) a.slots → IsListedBehind w (slots_here w.setting.present port) (turn w now (Tape (Scantape true offset))) d
 
 right_above : (d : DumpRecordFields) → not (has_wrong_parent d) ≡ true → d.parent < d.id
 right_above d right = leb-false d.id d.parent (or_parts (nat_le d.id d.parent) ((d.parent == 0) && not (list_all is_whole d.volumes)) (off (has_wrong_parent d) right)).0
@@ -65,7 +66,7 @@ module _ (w v : World) (held : HoldsWorld w) (has : HasTapesAnywhere w v) where
   module _ (now offset : ℕ) (port : PortFields) (is : port_of v.setting.config (after v.log).hosts offset ≡ Ok port) (none : (after v.log).listed ≡ []) where
     -- each dump that was listed, and whose tapes are here, is listed again
     pub listed_again : ListsAgain → (d : DumpRecordFields) → Contains (listed_of (archive_of w)) d → IsHeldOn d (slots_here v.setting.present port) (archive_of v).slots
-        → IsListedBehind v (slots_here v.setting.present port) (turn v now (Scantape true offset)) d
+        → IsListedBehind v (slots_here v.setting.present port) (turn v now (Tape (Scantape true offset))) d
     listed_again again d there on = again v now offset port is none (seen_in as_if.state) (archive_of as_if) as_if_held.records as_if_held.holds.seen these d there on
 
     -- ---- what is listed was a dump
@@ -83,7 +84,7 @@ module _ (w v : World) (held : HoldsWorld w) (has : HasTapesAnywhere w v) where
         let all = found_also (archive_of v).slots few (λ j. get_or (slots_here v.setting.present port) j 0) (places (slots_here v.setting.present port) (all_here v.setting.present _)) parts d found in
         found_was (seen_in w.state) (archive_of w) (archive_of v) held.records held.holds.seen (its_tapes w v held has) all.0 d all.1 above
 
-    pub was_dump : ListsWhole v (slots_here v.setting.present port) (turn v now (Scantape true offset)) → (d : DumpRecordFields) → Contains (after (turn v now (Scantape true offset)).log).listed d → IsDump (listed_of (archive_of w)) (archive_of w).slots d
+    pub was_dump : ListsWhole v (slots_here v.setting.present port) (turn v now (Tape (Scantape true offset))) → (d : DumpRecordFields) → Contains (after (turn v now (Tape (Scantape true offset))).log).listed d → IsDump (listed_of (archive_of w)) (archive_of w).slots d
     was_dump lists d there =
         let mine : Contains lists.listed d = subst (λ (ds : List DumpRecordFields). Contains ds d) (lists.database ∙ ap (λ (ds : List DumpRecordFields). ds ++ lists.listed) none) there in
         let among = of_filter (may_be_listed (after v.log).listed) lists.whole d (subst (λ (ds : List DumpRecordFields). Contains ds d) (sym lists.room.are) (Contains-append_left lists.listed lists.room.more d mine)) in

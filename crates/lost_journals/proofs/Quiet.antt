@@ -14,7 +14,8 @@ use Rattle.budb_changes.specs.declared.change.Change.TheVariants as change
 use Rattle.budb_fold.specs.Database.{after, has_dump}
 use Rattle.backup_replies.specs.Texts.{ok_line}
 use Rattle.backup_replies.specs.Scans.{found_line}
-use Rattle.backup_words.specs.declared.command.Command.TheVariants.{Scantape}
+use Rattle.backup_words.specs.declared.command.Command.TheVariants.{Tape}
+use Rattle.backup_words.specs.declared.command.TapeCommand.TheVariants.{Scantape}
 use Rattle.backup_session.specs.Worlds.{World, Turn, before_reply, at_moment}
 use Rattle.backup_session.specs.Turns.{said, length_with}
 use Rattle.backup_session.specs.Scanning.{stopped_line, left_line, port_of, slots_here, scans_of, has_wrong_parent, Step, says, recorded, added_if, then_turn, with_front, with_dump, adding, dumps_turn, then_said, tapes_turn, slots_turn, scan_turn}
@@ -81,7 +82,7 @@ scan_quiet : (w : World) (dbadd : Bool) (port : Result PortFields (List ℕ)) �
 scan_quiet w dbadd (Err text) = said_quiet w text
 scan_quiet w dbadd (Ok port) = slots_quiet w dbadd (slots_here w.setting.present port)
 
-pub turn_quiet : (w : World) (now : ℕ) (dbadd : Bool) (offset : ℕ) → IsQuiet w (turn w now (Scantape dbadd offset))
+pub turn_quiet : (w : World) (now : ℕ) (dbadd : Bool) (offset : ℕ) → IsQuiet w (turn w now (Tape (Scantape dbadd offset)))
 unfolding turn
 turn_quiet w now dbadd offset =
     let s = scan_quiet (at_moment w now) dbadd (port_of w.setting.config (after w.log).hosts offset) in

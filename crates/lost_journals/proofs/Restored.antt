@@ -16,7 +16,8 @@ use Rattle.archive_model.specs.Holding.{place_of, holds}
 use Rattle.archive_model.specs.Archives.{Need, listed_of, is_missing, IsDump}
 use Rattle.archive_model.proofs.QuietLaws.{held_place}
 use Rattle.archive_model.proofs.SlotLaws.{find_is, find_slot, slot_found, some_if}
-use Rattle.backup_words.specs.declared.command.Command.TheVariants.{Scantape}
+use Rattle.backup_words.specs.declared.command.Command.TheVariants.{Tape}
+use Rattle.backup_words.specs.declared.command.TapeCommand.TheVariants.{Scantape}
 use Rattle.backup_session.specs.Worlds.{World, Contents, archive_of, after_turn}
 use Rattle.backup_session.specs.Scanning.{port_of, slots_here}
 use Rattle.backup_session.specs.Machine.{turn}
@@ -31,11 +32,11 @@ use Rattle.lost_journals.proofs.Quiet.{turn_quiet}
 use Rattle.lost_journals.proofs.Again.{ListsAgain, listed_again, was_dump}
 
 module _ (w v : World) (held : HoldsWorld w) (has : HasTapesAnywhere w v) (now offset : ℕ) (port : PortFields) (is : port_of v.setting.config (after v.log).hosts offset ≡ Ok port) (none : (after v.log).listed ≡ [])
-    (again : ListsAgain) (lists : ListsWhole v (slots_here v.setting.present port) (turn v now (Scantape true offset)))
+    (again : ListsAgain) (lists : ListsWhole v (slots_here v.setting.present port) (turn v now (Tape (Scantape true offset))))
     (known : (d : DumpRecordFields) → IsDump (listed_of (archive_of w)) (archive_of w).slots d → Contains (listed_of (archive_of w)) d × IsHeldOn d (slots_here v.setting.present port) (archive_of v).slots)
-    (room : (d : DumpRecordFields) (parts : List Located) → IsFound (map (slot_of v.setting.present v.state.tape) (slots_here v.setting.present port)) parts d → length (encoded ((turn v now (Scantape true offset)).log ++ change.Found d ∷ [])) ≤ 268435456) where
+    (room : (d : DumpRecordFields) (parts : List Located) → IsFound (map (slot_of v.setting.present v.state.tape) (slots_here v.setting.present port)) parts d → length (encoded ((turn v now (Tape (Scantape true offset))).log ++ change.Found d ∷ [])) ≤ 268435456) where
   abbrev behind : World
-  behind = after_turn v (turn v now (Scantape true offset))
+  behind = after_turn v (turn v now (Tape (Scantape true offset)))
 
   pub same_list : ListSame (archive_of w) (archive_of behind)
   same_list = record {

@@ -11,7 +11,8 @@ ghost use Rattle.tape_config.specs.declared.port.PortFields.{PortFields};
 ghost use Rattle.tape_scan.specs.Slots.{Located, IsFound};
 ghost use Rattle.tape_answers.specs.Slots.{slot_of};
 ghost use Rattle.archive_model.specs.Archives.{listed_of, IsDump, LooksUp};
-ghost use Rattle.backup_words.specs.declared.command.Command.TheVariants.{Scantape};
+ghost use Rattle.backup_words.specs.declared.command.Command.TheVariants.{Tape};
+ghost use Rattle.backup_words.specs.declared.command.TapeCommand.TheVariants.{Scantape};
 ghost use Rattle.backup_session.specs.Worlds.{World, archive_of, after_turn};
 ghost use Rattle.backup_session.specs.Scanning.{port_of, slots_here};
 ghost use Rattle.backup_session.specs.Machine.{turn};
@@ -42,9 +43,9 @@ pub fn tapes_hold_without_their_journal()
 /// command that asks it, and holds it behind all of its lines; so it is where the journal was lost behind a script.
 pub fn a_lost_journal_is_scanned_again()
     ensures listed { (w v : World) (now offset : ℕ) (port : PortFields) → HoldsWorld w → HasTapesAnywhere w v → ListsNothing v → port_of v.setting.config (after v.log).hosts offset ≡ Ok port
-        → (d : DumpRecordFields) → Contains (listed_of (archive_of w)) d → IsHeldOn d (slots_here v.setting.present port) (archive_of v).slots → IsListedBehind v (slots_here v.setting.present port) (turn v now (Scantape true offset)) d }
+        → (d : DumpRecordFields) → Contains (listed_of (archive_of w)) d → IsHeldOn d (slots_here v.setting.present port) (archive_of v).slots → IsListedBehind v (slots_here v.setting.present port) (turn v now (Tape (Scantape true offset))) d }
     ensures own { (w v : World) (now offset : ℕ) (port : PortFields) → HoldsWorld w → HasTapesAnywhere w v → ListsNothing v → port_of v.setting.config (after v.log).hosts offset ≡ Ok port
-        → ListsDumpsOf (archive_of w) (archive_of (after_turn v (turn v now (Scantape true offset)))) }
+        → ListsDumpsOf (archive_of w) (archive_of (after_turn v (turn v now (Tape (Scantape true offset))))) }
     ensures throughout { (w v : World) (moments : AnyList ℕ) (lines : AnyList (AnyList ℕ)) → HoldsWorld w → HasTapesAnywhere w v → ListsNothing v → IsReadyFor v moments lines → IsHeldThroughout v moments lines }
     ensures after_a_script { (w v : World) (moments later : AnyList ℕ) (lines more : AnyList (AnyList ℕ)) → HoldsWorld w → IsReadyFor w moments lines → HasTapesAnywhere (script w moments lines).world v → ListsNothing v → IsReadyFor v later more → IsHeldThroughout v later more }
     ensures behind { (w v : World) (moments : AnyList ℕ) (lines : AnyList (AnyList ℕ)) → HoldsWorld w → HasTapesAnywhere w v → ListsNothing v → IsReadyFor v moments lines → HoldsWorld (script v moments lines).world }
@@ -59,8 +60,8 @@ pub fn a_lost_journal_is_scanned_again()
 pub fn what_is_scanned_again_is_restored_again()
     ensures { (w v : World) (now offset : ℕ) (port : PortFields) → HoldsWorld w → HasTapesAnywhere w v → ListsNothing v → port_of v.setting.config (after v.log).hosts offset ≡ Ok port
         → ((d : DumpRecordFields) → IsDump (listed_of (archive_of w)) (archive_of w).slots d → Contains (listed_of (archive_of w)) d × IsHeldOn d (slots_here v.setting.present port) (archive_of v).slots)
-        → ((d : DumpRecordFields) (parts : AnyList Located) → IsFound (map (slot_of v.setting.present v.state.tape) (slots_here v.setting.present port)) parts d → length (encoded ((turn v now (Scantape true offset)).log ++ Found d ∷ [])) ≤ 268435456)
-        → (name : AnyList ℕ) (before : Option ℕ) (volume : VolumeFields) → LooksUp (archive_of w) name before (Ok volume) → LooksUp (archive_of (after_turn v (turn v now (Scantape true offset)))) name before (Ok volume) }
+        → ((d : DumpRecordFields) (parts : AnyList Located) → IsFound (map (slot_of v.setting.present v.state.tape) (slots_here v.setting.present port)) parts d → length (encoded ((turn v now (Tape (Scantape true offset))).log ++ Found d ∷ [])) ≤ 268435456)
+        → (name : AnyList ℕ) (before : Option ℕ) (volume : VolumeFields) → LooksUp (archive_of w) name before (Ok volume) → LooksUp (archive_of (after_turn v (turn v now (Tape (Scantape true offset))))) name before (Ok volume) }
 {
     a_scan_lists_what_is_whole();
     recorded_dumps_are_listed_again();

@@ -12,7 +12,6 @@ use Rattle.bk_text.specs.LevelPaths.{IsLevelPath}
 use Rattle.bk_text.specs.Tests.{word_test, name_test, host_test, set_name_test, level_path_test}
 use Rattle.budb_changes.specs.Printable.{IsPatternBytes}
 use Rattle.backup_words.specs.declared.command.Command.{Command}
-use Rattle.backup_words.specs.declared.command.Command.TheVariants.{Addhost, Scantape}
 use Rattle.backup_words.specs.Forms.{ends_in_backup}
 use Rattle.backup_session.specs.Asks.{asks_dump}
 use Rattle.backup_session.specs.Worlds.{World}
@@ -21,7 +20,7 @@ use Rattle.command_forms.specs.NewNames.{IsApart, NamesApart}
 use Rattle.session_archives.specs.Ready.{RestoresApart}
 use Rattle.rehearsal.specs.declared.batch.Batch.{Batch}
 use Rattle.rehearsal.specs.Names.{tape_host, server, partition, volumes, volume_name, set_name, pattern, full_level, first_level, second_level, third_level}
-use Rattle.rehearsal.specs.Commands.{at, adding, writing, making, dumping, restoring, is_changed, changing, round, first_session, second_session, third_session}
+use Rattle.rehearsal.specs.Commands.{at, hosting, scanning, adding, writing, making, dumping, restoring, is_changed, changing, round, first_session, second_session, third_session}
 
 -- what the tests of forms tell
 pub record Tests : Type 0 where
@@ -200,13 +199,13 @@ module _ (tests : Tests) where
       All-map IsRead restoring (volumes n)
       (of_all (λ k. IsRead (restoring k)) (λ k is. record { forms = ((tests.host server).0 server_fine, (tests.name partition).0 partition_fine); no_dump = refl }) (volumes n) (volumes_fine n few))
 
-  scans : (n : ℕ) → n ≤ 200 → All IsRead (Scantape true 0 ∷ map restoring (volumes n))
-  scans n few = All-cons IsRead (Scantape true 0) (map restoring (volumes n)) (record { forms = tt; no_dump = refl }) (restores n few)
+  scans : (n : ℕ) → n ≤ 200 → All IsRead (scanning ∷ map restoring (volumes n))
+  scans n few = All-cons IsRead scanning (map restoring (volumes n)) (record { forms = tt; no_dump = refl }) (restores n few)
 
   pub second_read : (n : ℕ) → n ≤ 200 → All AreRead (second_session n)
   second_read n few =
-      All-cons AreRead (at 1000500 (Addhost tape_host 0 ∷ (Scantape true 0 ∷ map restoring (volumes n)))) []
-      (All-cons IsRead (Addhost tape_host 0) (Scantape true 0 ∷ map restoring (volumes n)) (record { forms = ((tests.host tape_host).0 host_fine, omega arith); no_dump = refl }) (scans n few)) (All-nil AreRead)
+      All-cons AreRead (at 1000500 (hosting ∷ (scanning ∷ map restoring (volumes n)))) []
+      (All-cons IsRead hosting (scanning ∷ map restoring (volumes n)) (record { forms = ((tests.host tape_host).0 host_fine, omega arith); no_dump = refl }) (scans n few)) (All-nil AreRead)
 
   pub third_read : (n : ℕ) → n ≤ 200 → All AreRead (third_session n)
-  third_read n few = All-cons AreRead (at 1000600 (Scantape true 0 ∷ map restoring (volumes n))) [] (scans n few) (All-nil AreRead)
+  third_read n few = All-cons AreRead (at 1000600 (scanning ∷ map restoring (volumes n))) [] (scans n few) (All-nil AreRead)

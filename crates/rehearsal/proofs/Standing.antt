@@ -54,7 +54,7 @@ world_same : (w : World) (config : Settings) (slots : ℕ) (here : ℕ → Bool)
     → w.time ≡ first_time w.log w.cell → w.state ≡ shown → opened (record { config = config; slots = slots; present = here }) w.log cell w.contents shown ≡ w
 world_same w config slots here cell shown config_is slots_is here_is cell_is time_is state_is =
     let time : first_time w.log cell ≡ w.time = ap (first_time w.log) cell_is ∙ sym time_is in
-    λ i. record { setting = record { config = config_is i; slots = slots_is i; present = λ k. here_is k i }; log = w.log; time = time i; cell = cell_is i; contents = w.contents; state = sym state_is i }
+    λ i. record w { setting = record { config = config_is i; slots = slots_is i; present = λ k. here_is k i }; time = time i; cell = cell_is i; state = sym state_is i }
 
 module _ {D E : Type 0} (P : Plant D) (C : Cell E) where
   -- the session that is opened fits the world

@@ -3,7 +3,12 @@ use Rattle.std.specs.Prelude.{ℕ, ◌+◌, ◌*◌, ◌%◌, List, [], ◌∷�
 use Rattle.std.specs.List.{filter, flat_map}
 use Rattle.bk_text.specs.declared.expiry.Expiry.TheVariants.{Unset}
 use Rattle.backup_words.specs.declared.command.Command.{Command}
-use Rattle.backup_words.specs.declared.command.Command.TheVariants.{Addhost, Addvolset, Addvolentry, Adddump, Scantape, Dump, Volrestore, VosCreate, VosWrite}
+use Rattle.backup_words.specs.declared.command.Command.TheVariants.{Database, Tape, Cell, Dump, Restore}
+use Rattle.backup_words.specs.declared.command.DatabaseCommand.TheVariants.{Addhost, Addvolset, Addvolentry, Adddump}
+use Rattle.backup_words.specs.declared.command.TapeCommand.TheVariants.{Scantape}
+use Rattle.backup_words.specs.declared.command.CellCommand.TheVariants.{VosCreate, VosWrite}
+use Rattle.backup_words.specs.declared.command.RestoredVolumes.TheVariants.{One}
+use Rattle.backup_words.specs.declared.command.Wanted.{Wanted}
 use Rattle.rehearsal.specs.declared.batch.Batch.{Batch}
 use Rattle.rehearsal.specs.Names.{tape_host, server, partition, volumes, volume_name, extension, set_name, pattern, full_level, first_level, second_level, third_level}
 
@@ -14,10 +19,10 @@ at now commands = record { now = now; commands = commands }
 
 -- vnode 2 of a volume gets so many bytes
 abbrev pub writing : ℕ → ℕ → Command
-writing k size = VosWrite (volume_name k) 2 None (Some size)
+writing k size = Cell (VosWrite (volume_name k) 2 None (Some size))
 
 abbrev pub creating : ℕ → Command
-creating k = VosCreate server partition (volume_name k)
+creating k = Cell (VosCreate server partition (volume_name k))
 
 -- a volume is created, and its vnode written
 abbrev pub making : ℕ → List Command
@@ -25,17 +30,38 @@ making k = creating k ∷ (writing k (1000 * k) ∷ [])
 
 -- the set is dumped at a level
 abbrev pub dumping : List ℕ → Command
-dumping level = Dump set_name level 0 false false
+dumping level = Dump (record { set = set_name; level = level; offset = 0; append = false; trial = false })
 
--- a volume is restored beside itself
+-- a volume is restored beside itself, as it is now
+abbrev pub wanted : ℕ → Wanted
+wanted k = record { name = volume_name k; before = None; server = server; partition = partition }
+
 abbrev pub restoring : ℕ → Command
-restoring k = Volrestore server partition (volume_name k) (Some extension) None false
+restoring k = Restore (record { volumes = One (wanted k); extension = Some extension; trial = false })
+
+-- a tape host is added
+abbrev pub hosting : Command
+hosting = Database (Addhost tape_host 0)
+
+-- the tapes are scanned, and the dumps that are found are added
+abbrev pub scanning : Command
+scanning = Tape (Scantape true 0)
 
 -- ---- the first session: volumes are made, dumped, changed and dumped
 
+-- the volume set is added, its entry, and the levels
+abbrev pub adding_set : Command
+adding_set = Database (Addvolset set_name)
+
+abbrev pub adding_entry : Command
+adding_entry = Database (Addvolentry set_name None None pattern)
+
+abbrev pub adding_levels : Command
+adding_levels = Database (Adddump (full_level ∷ (first_level ∷ (second_level ∷ (third_level ∷ [])))) Unset)
+
 -- a tape host, the volume set and the levels are added
 abbrev pub adding : List Command
-adding = Addhost tape_host 0 ∷ (Addvolset set_name ∷ (Addvolentry set_name None None pattern ∷ (Adddump (full_level ∷ (first_level ∷ (second_level ∷ (third_level ∷ [])))) Unset ∷ [])))
+adding = hosting ∷ (adding_set ∷ (adding_entry ∷ (adding_levels ∷ [])))
 
 -- in a round each third volume is changed
 abbrev pub is_changed : ℕ → ℕ → Bool
@@ -55,7 +81,7 @@ first_session n =
 -- ---- the second and the third session: the tapes are scanned, and each volume is restored
 
 abbrev pub second_session : ℕ → List Batch
-second_session n = at 1000500 (Addhost tape_host 0 ∷ (Scantape true 0 ∷ map restoring (volumes n))) ∷ []
+second_session n = at 1000500 (hosting ∷ (scanning ∷ map restoring (volumes n))) ∷ []
 
 abbrev pub third_session : ℕ → List Batch
-third_session n = at 1000600 (Scantape true 0 ∷ map restoring (volumes n)) ∷ []
+third_session n = at 1000600 (scanning ∷ map restoring (volumes n)) ∷ []

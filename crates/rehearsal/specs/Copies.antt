@@ -91,9 +91,13 @@ abbrev pub StandsAt : List ℕ → List Stored → Option ℕ → Type 0
 StandsAt name cell None = volume_under name cell ≡ None
 StandsAt name cell (Some i) = IsPlace name cell i
 
--- the data of a copy that is equal
+-- the data of a copy that is equal to its source
+abbrev pub data_beside : Option VolumeFields → Option VolumeFields → Option ℕ
+data_beside source copy = if are_equal source copy then Some (data_of copy) else None
+
+-- the data of a restored volume
 abbrev pub data_at : List Stored → ℕ → Option ℕ
-data_at cell k = if is_restored_equal cell k then Some (data_of (volume_under (copy_name k) cell)) else None
+data_at cell k = data_beside (volume_under (volume_name k) cell) (volume_under (copy_name k) cell)
 
 -- one more copy, where it is equal
 abbrev pub with_data : Copies → Option ℕ → Copies

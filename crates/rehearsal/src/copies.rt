@@ -2,7 +2,7 @@
 
 ghost use Rattle.std.specs.Prelude.{◌≡◌, ◌≤◌, ◌<◌, ◌*◌, length, IfOk, IfSome};
 ghost use Rattle.rehearsal.specs.Names.{volume_name, copy_name};
-ghost use Rattle.rehearsal.specs.Copies.{is_same_kind, is_same_vnode, are_same, volume_under, are_equal, bytes_in, data_of, data_at, equal_copies, copied_data, with_data, StandsAt};
+ghost use Rattle.rehearsal.specs.Copies.{is_same_kind, is_same_vnode, are_same, volume_under, are_equal, bytes_in, data_of, data_beside, data_at, equal_copies, copied_data, with_data, StandsAt};
 
 use crate::names;
 use cell_core::{Cell, CellFault};
@@ -127,6 +127,37 @@ fn data_of(volume: &Option<Volume>) -> u64
     }
 }
 
+/// The data of a copy, where it is equal to its source.
+fn data_beside(source: &Option<Volume>, copy: &Option<Volume>) -> Option<u64>
+    ensures bytes { result ≡ data_beside source.now copy.now }
+    ensures few { IfSome result (λ bytes. bytes ≤ 268435456) }
+{
+    if are_equal(source, copy) {
+        Some(data_of(copy))
+    } else {
+        None
+    }
+}
+
+/// The data of the copy under a name, where it is equal to the source under another.
+fn data_named<C: Cell>(cell: &mut C, name: &[u8], copied: &[u8]) -> Result<Option<u64>, AllocError>
+    ensures bytes { C.tells → IfOk result (λ found. found ≡ data_beside (volume_under name.now (C.list cell.old)) (volume_under copied.now (C.list cell.old))) }
+    ensures few { IfOk result (λ found. IfSome found (λ bytes. bytes ≤ 268435456)) }
+    ensures list { C.tells → C.list cell.new ≡ C.list cell.old }
+{
+    let Ok(source) = volume_under(cell, name) else {
+        return Err(AllocError);
+    };
+    let Ok(copy) = volume_under(cell, copied) else {
+        drop(source);
+        return Err(AllocError);
+    };
+    let found = data_beside(&source, &copy);
+    drop(source);
+    drop(copy);
+    Ok(found)
+}
+
 /// The data of a restored volume, where it is equal to the one that it was dumped from.
 fn equal_data<C: Cell>(alloc: Global, cell: &mut C, volume: u32) -> Result<Option<u64>, AllocError>
     ensures bytes { C.tells → IfOk result (λ found. found ≡ data_at (C.list cell.old) volume) }
@@ -135,17 +166,7 @@ fn equal_data<C: Cell>(alloc: Global, cell: &mut C, volume: u32) -> Result<Optio
 {
     let name = names::volume_name(alloc, volume)?;
     let copied = names::copy_name(alloc, volume)?;
-    let Ok(source) = volume_under(cell, name.bytes()) else {
-        return Err(AllocError);
-    };
-    let Ok(copy) = volume_under(cell, copied.as_slice()) else {
-        return Err(AllocError);
-    };
-    if are_equal(&source, &copy) {
-        Ok(Some(data_of(&copy)))
-    } else {
-        Ok(None)
-    }
+    data_named(cell, name.bytes(), copied.as_slice())
 }
 
 impl Copies {

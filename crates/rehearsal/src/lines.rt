@@ -52,18 +52,23 @@ fn put_number(lines: &mut Out, number: u64) -> Result<(), AllocError>
     Ok(())
 }
 
+/// Puts a text and a number.
+fn put_told(lines: &mut Out, text: &[u8], number: u64) -> Result<(), AllocError>
+    ensures { OnOk result (lines.new ≡ lines.old ++ text.now ++ then_number number) }
+{
+    lines.piece(text)?;
+    put_number(lines, number)?;
+    Ok(())
+}
+
 /// Puts the lines on the dumps.
 fn put_dumps(lines: &mut Out, tally: &Tally) -> Result<(), AllocError>
     ensures { OnOk result (lines.new ≡ lines.old ++ dump_lines tally.now) }
 {
-    lines.piece(b"rehearse")?;
-    put_number(lines, tally.volumes)?;
-    lines.piece(b"\ndumps")?;
-    put_number(lines, tally.dumps)?;
-    lines.piece(b" blocks")?;
-    put_number(lines, tally.blocks)?;
-    lines.piece(b" marks")?;
-    put_number(lines, tally.marks)?;
+    put_told(lines, b"rehearse", tally.volumes)?;
+    put_told(lines, b"\ndumps", tally.dumps)?;
+    put_told(lines, b" blocks", tally.blocks)?;
+    put_told(lines, b" marks", tally.marks)?;
     lines.byte(b'\n')?;
     Ok(())
 }
@@ -72,18 +77,12 @@ fn put_dumps(lines: &mut Out, tally: &Tally) -> Result<(), AllocError>
 fn put_restores(lines: &mut Out, tally: &Tally) -> Result<(), AllocError>
     ensures { OnOk result (lines.new ≡ lines.old ++ restore_lines tally.now) }
 {
-    lines.piece(b"added")?;
-    put_number(lines, tally.found)?;
-    lines.piece(b" missing")?;
-    put_number(lines, tally.missing)?;
-    lines.piece(b"\nadded")?;
-    put_number(lines, tally.added)?;
-    lines.piece(b" restored")?;
-    put_number(lines, tally.restored)?;
-    lines.piece(b" equal")?;
-    put_number(lines, tally.equal)?;
-    lines.piece(b" bytes")?;
-    put_number(lines, tally.bytes)?;
+    put_told(lines, b"added", tally.found)?;
+    put_told(lines, b" missing", tally.missing)?;
+    put_told(lines, b"\nadded", tally.added)?;
+    put_told(lines, b" restored", tally.restored)?;
+    put_told(lines, b" equal", tally.equal)?;
+    put_told(lines, b" bytes", tally.bytes)?;
     lines.piece(b"\nok\n")?;
     Ok(())
 }

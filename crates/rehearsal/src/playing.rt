@@ -115,7 +115,9 @@ fn play_on<P: Plant, C: Cell>(
         return Err(AllocError);
     };
     let mut told = Out::new(alloc);
-    play(&mut session, alloc, plant, cell, batches, &mut told)?;
+    let played = play(&mut session, alloc, plant, cell, batches, &mut told);
+    drop(session);
+    played?;
     Ok(told.into_bytes())
 }
 

@@ -84,29 +84,48 @@ fn count_lines(front: &[u8], told: &Bytes) -> u64
     lines_with(front, told.as_slice())
 }
 
+/// Counts what comes of the three sessions, over an empty cell.
+fn count_over(alloc: Global, cell: &mut CellMem, volumes: u32) -> Result<Tally, AllocError>
+    requires few { volumes ≤ 200 }
+    requires empty { cell_list cell.old ≡ [] }
+    ensures { IfOk result (λ counts. counts ≡ tally volumes) }
+{
+    let (dumped, media) = dump_all(alloc, cell, volumes)?;
+    let dumps = count_lines(b"dump ", &dumped);
+    drop(dumped);
+    let (records, media) = count_records(media)?;
+    let (lost, media) = scan_all(alloc, media, cell, volumes)?;
+    let found = count_lines(b"added ", &lost);
+    let missing = count_lines(b"refused 61 ", &lost);
+    drop(lost);
+    let told = restore_all(alloc, media, cell, volumes)?;
+    let added = count_lines(b"added ", &told);
+    let restored = count_lines(b"restored ", &told);
+    drop(told);
+    let copies = compare(alloc, cell, volumes)?;
+    Ok(Tally {
+        volumes: u64::from(volumes),
+        dumps,
+        blocks: records.blocks,
+        marks: records.marks,
+        found,
+        missing,
+        added,
+        restored,
+        equal: copies.equal,
+        bytes: copies.bytes,
+    })
+}
+
 /// Counts what comes of the three sessions.
 fn count_sessions(alloc: Global, volumes: u32) -> Result<Tally, AllocError>
     requires { volumes ≤ 200 }
     ensures { IfOk result (λ counts. counts ≡ tally volumes) }
 {
     let mut cell = CellMem::new(alloc);
-    let (dumped, media) = dump_all(alloc, &mut cell, volumes)?;
-    let (records, media) = count_records(media)?;
-    let (lost, media) = scan_all(alloc, media, &mut cell, volumes)?;
-    let restored = restore_all(alloc, media, &mut cell, volumes)?;
-    let copies = compare(alloc, &mut cell, volumes)?;
-    Ok(Tally {
-        volumes: u64::from(volumes),
-        dumps: count_lines(b"dump ", &dumped),
-        blocks: records.blocks,
-        marks: records.marks,
-        found: count_lines(b"added ", &lost),
-        missing: count_lines(b"refused 61 ", &lost),
-        added: count_lines(b"added ", &restored),
-        restored: count_lines(b"restored ", &restored),
-        equal: copies.equal,
-        bytes: copies.bytes,
-    })
+    let counts = count_over(alloc, &mut cell, volumes);
+    drop(cell);
+    counts
 }
 
 /// Rehearses with so many volumes, 1 to 200, over media and a cell of its own in memory, and hands back the five lines that tell of it. It

@@ -28,7 +28,8 @@ use Rattle.restore_commands.specs.declared.stops.RestoreStop.{RestoreStop}
 use Rattle.restore_commands.specs.declared.stops.RestoreStop.TheVariants as stops
 use Rattle.restore_commands.specs.declared.told.Told.{Told}
 use Rattle.restore_commands.specs.declared.told.Told.TheVariants.{Refused}
-use Rattle.restore_commands.specs.Answers.{Wanted, Manner, VolumeAnswer, look_up_refusal, lines_of, put_answer, found_answer, volume_answer}
+use Rattle.backup_words.specs.declared.command.Wanted.{Wanted}
+use Rattle.restore_commands.specs.Answers.{Manner, VolumeAnswer, look_up_refusal, lines_of, put_answer, found_answer, volume_answer}
 use Rattle.restore_commands.specs.Leaving.{IsArchiveOf, OnTheWay}
 use Rattle.restore_commands.specs.Steps.{planned_lines, fault_line, IsToldSo}
 use Rattle.restore_commands.proofs.LineLaws.{told_by_plan}

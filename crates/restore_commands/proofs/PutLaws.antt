@@ -12,7 +12,8 @@ use Rattle.restore_commands.specs.declared.stops.RestoreStop.{RestoreStop}
 use Rattle.restore_commands.specs.declared.stops.RestoreStop.TheVariants as stops
 use Rattle.restore_commands.specs.declared.told.Told.{Told}
 use Rattle.restore_commands.specs.declared.told.Told.TheVariants.{Restored, Refused}
-use Rattle.restore_commands.specs.Answers.{Wanted, Manner, put_answer, target_refusal}
+use Rattle.backup_words.specs.declared.command.Wanted.{Wanted}
+use Rattle.restore_commands.specs.Answers.{Manner, put_answer, target_refusal}
 use Rattle.restore_commands.specs.Leaving.{OnTheWay, MayPut}
 use Rattle.restore_commands.specs.Steps.{told_by, tried, IsToldSo}
 

@@ -15,20 +15,14 @@ use Rattle.archive_model.specs.Plays.{BadOnTape, Lacks, Large}
 use Rattle.archive_model.specs.Archives.{Archive, Refusal, NoDump, MissingDump, MissingTape, Fault, Need, listed_of, needs}
 use Rattle.restore_chain.specs.Answers.{chain_in, looked_up}
 use Rattle.restore_target.specs.Targets.{target_text, after_restore}
+use Rattle.backup_words.specs.declared.command.Disk.{Disk}
+use Rattle.backup_words.specs.declared.command.Wanted.{Wanted}
 use Rattle.backup_replies.specs.declared.refusals.Refusal.TheVariants as refusals
 use Rattle.backup_replies.specs.Texts.{refused_word, refused_number, refused_at, ok_line}
 use Rattle.backup_replies.specs.Restores.{restored_line, would_restore_line, need_line}
 use Rattle.restore_commands.specs.declared.told.Told.{Told}
 use Rattle.restore_commands.specs.declared.told.Told.TheVariants.{Restored, Refused}
-use Rattle.restore_commands.specs.declared.choices.Choice.{Choice}
-use Rattle.restore_commands.specs.Choices.{Disk, disk_choices, set_choices}
-
--- a volume that is wanted, as it was before a time where one is given, and where it is put
-pub record Wanted : Type 0 where
-  pub name : List ℕ
-  pub before : Option ℕ
-  pub server : List ℕ
-  pub partition : List ℕ
+use Rattle.restore_commands.specs.Choices.{disk_choices, set_choices}
 
 -- How a command restores its volumes: what is put behind their base names, the time as which they are made, and whether it is only
 -- told what would be restored.
@@ -133,15 +127,11 @@ told_lines (Refused line) = line
 abbrev pub behind : VolumeAnswer → RestoreAnswer → RestoreAnswer
 behind first rest = record { reply = told_lines first.told ++ rest.reply; cells = first.cells ++ rest.cells }
 
--- as it is now
-abbrev pub wanted_of : Choice → Wanted
-wanted_of choice = record { name = choice.name; before = None; server = choice.server; partition = choice.partition }
-
 -- One volume after the other, into the cell that those before have left.
-abbrev pub all_answer : Archive → List Stored → Manner → List Choice → RestoreAnswer
+abbrev pub all_answer : Archive → List Stored → Manner → List Wanted → RestoreAnswer
 all_answer a cell manner [] = record { reply = ok_line; cells = [] }
 all_answer a cell manner (choice ∷ choices) =
-    let first = volume_answer a cell manner (wanted_of choice) in behind first (all_answer a (last_cell cell first.cells) manner choices)
+    let first = volume_answer a cell manner choice in behind first (all_answer a (last_cell cell first.cells) manner choices)
 
 -- `diskrestore`
 abbrev pub disk_answer : Archive → List Stored → Manner → Disk → RestoreAnswer

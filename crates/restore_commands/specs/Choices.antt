@@ -10,29 +10,24 @@ use Rattle.volume_sets.specs.Matching.{match_items}
 use Rattle.volume_sets.specs.declared.sets.SetEntry.{SetEntry}
 use Rattle.budb_changes.specs.declared.records.DumpRecordFields.{DumpRecordFields}
 use Rattle.budb_fold.specs.Lookups.{VolumeDump, latest}
-use Rattle.restore_commands.specs.declared.choices.Choice.{Choice}
+use Rattle.backup_words.specs.declared.command.Disk.{Disk}
+use Rattle.backup_words.specs.declared.command.Wanted.{Wanted}
 use Rattle.restore_commands.specs.Bases.{base_names}
 
 -- ---- a partition
-
--- a partition of a server, and where its volumes are put: at a new server, in a new partition, or where they lay
-pub record Disk : Type 0 where
-  pub server : List ℕ
-  pub partition : List ℕ
-  pub new_server : Option (List ℕ)
-  pub new_partition : Option (List ℕ)
 
 -- the volume lay there
 abbrev pub lay_on : Disk → VolumeDump → Bool
 lay_on disk one = is_same_text one.volume.server disk.server && is_same_text one.volume.partition disk.partition
 
-abbrev pub disk_choice : Disk → List ℕ → Option VolumeDump → List Choice
+abbrev pub disk_choice : Disk → List ℕ → Option VolumeDump → List Wanted
 disk_choice disk name None = []
 disk_choice disk name (Some one) =
-    if lay_on disk one then record { name = name; server = unwrap_or disk.new_server disk.server; partition = unwrap_or disk.new_partition disk.partition } ∷ [] else []
+    if lay_on disk one then record { name = name; before = None; server = unwrap_or disk.new_server disk.server; partition = unwrap_or disk.new_partition disk.partition } ∷ [] else []
 
--- each base name whose latest dump names that server and that partition
-abbrev pub disk_choices : List DumpRecordFields → Disk → List Choice
+-- Each base name whose latest dump names that server and that partition is wanted as it is now, at a new server, in a new partition, or where
+-- it lay.
+abbrev pub disk_choices : List DumpRecordFields → Disk → List Wanted
 disk_choices listed disk = flat_map (λ name. disk_choice disk name (latest listed name None)) (base_names listed)
 
 -- ---- a volume set
@@ -55,10 +50,10 @@ is_any_or (Some wanted) found = is_same_text wanted found
 abbrev pub suits : VolumeDump → SetEntry → Bool
 suits one entry = is_any_or entry.server one.volume.server && (is_any_or entry.partition one.volume.partition && is_matched entry.pattern one.volume.name)
 
-abbrev pub set_choice : List SetEntry → List ℕ → Option VolumeDump → List Choice
+abbrev pub set_choice : List SetEntry → List ℕ → Option VolumeDump → List Wanted
 set_choice entries name None = []
-set_choice entries name (Some one) = if list_any (suits one) entries then record { name = name; server = one.volume.server; partition = one.volume.partition } ∷ [] else []
+set_choice entries name (Some one) = if list_any (suits one) entries then record { name = name; before = None; server = one.volume.server; partition = one.volume.partition } ∷ [] else []
 
 -- each base name whose latest dump's server, partition and volume name some entry has, for the place where the volume lay
-abbrev pub set_choices : List DumpRecordFields → List SetEntry → List Choice
+abbrev pub set_choices : List DumpRecordFields → List SetEntry → List Wanted
 set_choices listed entries = flat_map (λ name. set_choice entries name (latest listed name None)) (base_names listed)

@@ -9,9 +9,9 @@ use Rattle.tape_scan.specs.Looking.{HasSlots}
 use Rattle.cell_core.specs.declared.stored.Stored.{Stored}
 use Rattle.archive_model.specs.Archives.{Archive, Holds, listed_of}
 use Rattle.restore_target.specs.Targets.{target_text, after_restore}
-use Rattle.restore_commands.specs.declared.choices.Choice.{Choice}
+use Rattle.backup_words.specs.declared.command.Wanted.{Wanted}
 use Rattle.restore_commands.specs.Choices.{set_choices}
-use Rattle.restore_commands.specs.Answers.{Wanted, Manner, RestoreAnswer, last_cell, wanted_of}
+use Rattle.restore_commands.specs.Answers.{Manner, RestoreAnswer, last_cell}
 
 -- The archive stands on the plant, and the database lists its dumps: its slots are the plant's, and a log and tapes hold it, as those of
 -- the plant do.
@@ -46,9 +46,9 @@ abbrev pub MayPut : Manner → Wanted → List Stored → List Stored → Type 0
 MayPut manner wanted old new = (new ≡ old) ⊎ IsPut manner wanted old new
 
 -- one after the other, for each of some that were chosen
-abbrev pub MayPutEach : Manner → List Choice → List Stored → List Stored → Type 0
+abbrev pub MayPutEach : Manner → List Wanted → List Stored → List Stored → Type 0
 MayPutEach manner [] old new = new ≡ old
-MayPutEach manner (choice ∷ choices) old new = (mid : List Stored) × MayPut manner (wanted_of choice) old mid × MayPutEach manner choices mid new
+MayPutEach manner (choice ∷ choices) old new = (mid : List Stored) × MayPut manner choice old mid × MayPutEach manner choices mid new
 
 -- the same by the entries of a volume set, where it is there
 abbrev pub MayPutNamed : Manner → List DumpRecordFields → Option (List SetEntry) → List Stored → List Stored → Type 0

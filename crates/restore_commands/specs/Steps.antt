@@ -14,7 +14,7 @@ use Rattle.backup_replies.specs.Texts.{refused_word, refused_number, refused_at}
 use Rattle.backup_replies.specs.Restores.{restored_line, would_restore_line, need_line}
 use Rattle.restore_commands.specs.declared.told.Told.{Told}
 use Rattle.restore_commands.specs.declared.told.Told.TheVariants.{Restored, Refused}
-use Rattle.restore_commands.specs.declared.choices.Choice.{Choice}
+use Rattle.backup_words.specs.declared.command.Wanted.{Wanted}
 use Rattle.restore_commands.specs.Answers.{Manner, VolumeAnswer, RestoreAnswer, target_refusal, last_cell, all_answer}
 
 -- ---- what is told by a plan
@@ -67,7 +67,7 @@ in_front lines cells rest = record { reply = lines ++ rest.reply; cells = cells 
 
 -- So many of them were restored, or refused: these lines were told, and the cell is left so; what is due of all is that in front of what
 -- is due of the rest.
-pub record SoFar (a : Archive) (manner : Manner) (choices : List Choice) (old : List Stored) (count : ℕ) (lines : List ℕ) (now : List Stored) : Type 0 where
+pub record SoFar (a : Archive) (manner : Manner) (choices : List Wanted) (old : List Stored) (count : ℕ) (lines : List ℕ) (now : List Stored) : Type 0 where
   pub cells : List (List Stored)
   pub list : now ≡ last_cell old cells
   pub rest : all_answer a old manner choices ≡ in_front lines cells (all_answer a now manner (drop count choices))

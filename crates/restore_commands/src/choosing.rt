@@ -9,7 +9,7 @@ ghost use Rattle.budb_fold.specs.Lookups.{latest};
 ghost use Rattle.restore_commands.specs.Choices.{lay_on, disk_choice, disk_choices, is_matched, suits, set_choice, set_choices};
 
 use crate::bases::base_names;
-use crate::choices::{Choice, Disk};
+use backup_words::{Disk, Wanted};
 use bk_text::{Host, List, Name, Part};
 use budb_changes::DumpRecord;
 use budb_fold::{VolumeDump, latest};
@@ -17,7 +17,7 @@ use std::alloc::{AllocError, Global};
 use volume_sets::SetEntry;
 
 /// Whether the volume of a dump lay in the partition.
-fn lay_on(disk: &Disk<'_>, one: &VolumeDump<'_>) -> bool
+fn lay_on(disk: &Disk, one: &VolumeDump<'_>) -> bool
     ensures { result ≡ lay_on disk.now one.now }
 {
     let volume = one.volume.fields();
@@ -26,20 +26,20 @@ fn lay_on(disk: &Disk<'_>, one: &VolumeDump<'_>) -> bool
 }
 
 /// The server that the volumes of a partition are put at.
-fn server_for(disk: &Disk<'_>) -> Result<Host, AllocError>
+fn server_for(disk: &Disk) -> Result<Host, AllocError>
     ensures { IfOk result (λ server. server ≡ unwrap_or disk.now.new_server disk.now.server) }
 {
-    match disk.new_server {
+    match &disk.new_server {
         Some(server) => server.clone(),
         None => disk.server.clone(),
     }
 }
 
 /// The partition that the volumes of a partition are put in.
-fn partition_for(disk: &Disk<'_>) -> Result<Part, AllocError>
+fn partition_for(disk: &Disk) -> Result<Part, AllocError>
     ensures { IfOk result (λ partition. partition ≡ unwrap_or disk.now.new_partition disk.now.partition) }
 {
-    match disk.new_partition {
+    match &disk.new_partition {
         Some(partition) => partition.clone(),
         None => disk.partition.clone(),
     }
@@ -47,8 +47,8 @@ fn partition_for(disk: &Disk<'_>) -> Result<Part, AllocError>
 
 /// Puts a base name behind those that are chosen, where its latest dump's volume lay in the partition.
 fn choose_on(
-    choices: &mut List<Choice>,
-    disk: &Disk<'_>,
+    choices: &mut List<Wanted>,
+    disk: &Disk,
     name: &Name,
     one: Option<VolumeDump<'_>>,
 ) -> Result<(), AllocError>
@@ -58,8 +58,9 @@ fn choose_on(
         return Ok(());
     };
     if lay_on(disk, &one) {
-        choices.push(Choice {
+        choices.push(Wanted {
             name: name.clone()?,
+            before: None,
             server: server_for(disk)?,
             partition: partition_for(disk)?,
         })?;
@@ -72,8 +73,8 @@ fn choose_on(
 pub(crate) fn disk_choices(
     alloc: Global,
     listed: &[DumpRecord],
-    disk: &Disk<'_>,
-) -> Result<List<Choice>, AllocError>
+    disk: &Disk,
+) -> Result<List<Wanted>, AllocError>
     ensures { IfOk result (λ choices. choices ≡ disk_choices listed.now disk.now) }
 {
     let names = base_names(alloc, listed)?;
@@ -112,7 +113,7 @@ fn some_suits(one: &VolumeDump<'_>, entries: &[SetEntry]) -> bool
 
 /// Puts a base name behind those that are chosen, where some entry has its latest dump's volume.
 fn choose_in(
-    choices: &mut List<Choice>,
+    choices: &mut List<Wanted>,
     entries: &[SetEntry],
     name: &Name,
     one: Option<VolumeDump<'_>>,
@@ -124,8 +125,9 @@ fn choose_in(
     };
     if some_suits(&one, entries) {
         let volume = one.volume.fields();
-        choices.push(Choice {
+        choices.push(Wanted {
             name: name.clone()?,
+            before: None,
             server: volume.server.clone()?,
             partition: volume.partition.clone()?,
         })?;
@@ -139,7 +141,7 @@ pub(crate) fn set_choices(
     alloc: Global,
     listed: &[DumpRecord],
     entries: &[SetEntry],
-) -> Result<List<Choice>, AllocError>
+) -> Result<List<Wanted>, AllocError>
     ensures { IfOk result (λ choices. choices ≡ set_choices listed.now entries.now) }
 {
     let names = base_names(alloc, listed)?;

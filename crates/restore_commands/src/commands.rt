@@ -14,12 +14,12 @@ ghost use Rattle.restore_commands.specs.Choices.{disk_choices, set_choices};
 ghost use Rattle.restore_commands.specs.Answers.{all_answer, one_answer, disk_answer, set_answer};
 ghost use Rattle.restore_commands.specs.Leaving.{IsArchiveOf, IsAnswer, OnTheWay, MayPut, MayPutEach, MayPutNamed};
 
-use crate::choices::Disk;
 use crate::choosing::{disk_choices, set_choices};
+use crate::manner::Manner;
 use crate::restoring::{restore_all, restore_one};
 use crate::stops::RestoreStop;
-use crate::volumes::{Manner, Wanted};
 use backup_replies::{Refusal, refused_word};
+use backup_words::{Disk, Wanted};
 use bk_text::{Bytes, SetName};
 use budb::Budb;
 use cell_core::Cell;
@@ -34,7 +34,7 @@ pub fn restore_volume<P: Plant, C: Cell>(
     budb: &Budb,
     plant: &mut P,
     cell: &mut C,
-    wanted: &Wanted<'_>,
+    wanted: &Wanted,
     manner: &Manner<'_>,
 ) -> Result<Bytes, RestoreStop>
     requires { P.sound plant.old }
@@ -63,7 +63,7 @@ pub fn restore_disk<P: Plant, C: Cell>(
     budb: &Budb,
     plant: &mut P,
     cell: &mut C,
-    disk: &Disk<'_>,
+    disk: &Disk,
     manner: &Manner<'_>,
 ) -> Result<Bytes, RestoreStop>
     requires { P.sound plant.old }

@@ -3,19 +3,17 @@
 #![tactic(auto)]
 
 mod bases;
-mod choices;
 mod choosing;
 mod commands;
 mod lines;
+mod manner;
 mod places;
 mod restoring;
 mod stops;
 mod told;
-mod volumes;
 
 pub use bases::names_stand_once_in_order;
-pub use choices::Disk;
 pub use choosing::a_match_is_tested;
 pub use commands::{restore_disk, restore_set, restore_volume};
+pub use manner::Manner;
 pub use stops::RestoreStop;
-pub use volumes::{Manner, Wanted};

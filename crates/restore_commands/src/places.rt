@@ -10,9 +10,10 @@ ghost use Rattle.restore_commands.specs.Leaving.{OnTheWay, MayPut};
 ghost use Rattle.restore_commands.specs.Steps.{tried, IsToldSo};
 
 use crate::lines::told_of;
+use crate::manner::Manner;
 use crate::stops::RestoreStop;
 use crate::told::Told;
-use crate::volumes::{Manner, Wanted};
+use backup_words::Wanted;
 use bk_text::Bytes;
 use cell_core::{Cell, CellFault};
 use restore_target::{put_restored, target_id};
@@ -34,7 +35,7 @@ fn try_volume<C: Cell>(alloc: Global, cell: &mut C, target: &[u8]) -> Result<(),
 fn take_volume<C: Cell>(
     alloc: Global,
     cell: &mut C,
-    wanted: &Wanted<'_>,
+    wanted: &Wanted,
     manner: &Manner<'_>,
     target: &[u8],
     volume: Volume,
@@ -48,8 +49,8 @@ fn take_volume<C: Cell>(
         put_restored(
             alloc,
             cell,
-            wanted.server,
-            wanted.partition,
+            &wanted.server,
+            &wanted.partition,
             target,
             manner.time,
             volume,
@@ -61,7 +62,7 @@ fn take_volume<C: Cell>(
 pub(crate) fn place_volume<C: Cell>(
     alloc: Global,
     cell: &mut C,
-    wanted: &Wanted<'_>,
+    wanted: &Wanted,
     manner: &Manner<'_>,
     target: &[u8],
     lines: Bytes,

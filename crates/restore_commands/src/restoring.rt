@@ -6,16 +6,16 @@ ghost use Rattle.tape_scan.specs.Looking.{LooksAt};
 ghost use Rattle.archive_model.specs.Archives.{Archive};
 ghost use Rattle.restore_chain.specs.Planning.{Plans};
 ghost use Rattle.restore_target.specs.Targets.{target_text, after_restore};
-ghost use Rattle.restore_commands.specs.Answers.{put_answer, volume_answer, wanted_of, told_lines, last_cell, all_answer};
+ghost use Rattle.restore_commands.specs.Answers.{put_answer, volume_answer, told_lines, last_cell, all_answer};
 ghost use Rattle.restore_commands.specs.Leaving.{IsArchiveOf, IsAnswer, OnTheWay, MayPut, MayPutEach};
 ghost use Rattle.restore_commands.specs.Steps.{planned_lines, IsToldSo};
 
-use crate::choices::Choice;
 use crate::lines::{planned_lines, refuse};
+use crate::manner::Manner;
 use crate::places::place_volume;
 use crate::stops::RestoreStop;
 use crate::told::Told;
-use crate::volumes::{Manner, Wanted};
+use backup_words::Wanted;
 use bk_text::{Bytes, Out};
 use budb::Budb;
 use cell_core::Cell;
@@ -29,7 +29,7 @@ use vnode_model::Volume;
 fn place_planned<C: Cell>(
     alloc: Global,
     cell: &mut C,
-    wanted: &Wanted<'_>,
+    wanted: &Wanted,
     manner: &Manner<'_>,
     target: &[u8],
     plan: &ChainPlan,
@@ -54,7 +54,7 @@ fn restore_planned<P: Plant, C: Cell>(
     budb: &Budb,
     plant: &mut P,
     cell: &mut C,
-    wanted: &Wanted<'_>,
+    wanted: &Wanted,
     manner: &Manner<'_>,
     target: &[u8],
     plan: &ChainPlan,
@@ -69,7 +69,7 @@ fn restore_planned<P: Plant, C: Cell>(
 {
     match play(alloc, plan, budb, plant) {
         Ok(volume) => place_planned(alloc, cell, wanted, manner, target, plan, volume),
-        Err(fault) => refuse(alloc, fault, wanted.name, target),
+        Err(fault) => refuse(alloc, fault, &wanted.name, target),
     }
 }
 
@@ -79,7 +79,7 @@ fn restore_as<P: Plant, C: Cell>(
     budb: &Budb,
     plant: &mut P,
     cell: &mut C,
-    wanted: &Wanted<'_>,
+    wanted: &Wanted,
     manner: &Manner<'_>,
     target: &[u8],
 ) -> Result<Told, RestoreStop>
@@ -91,9 +91,9 @@ fn restore_as<P: Plant, C: Cell>(
     ensures looks { LooksAt P.Plant RestoreStop.Plant plant.old plant.new result }
     ensures cause { HasCauseAt RestoreStop.Cell (C.faults cell.old) (C.faults cell.new) result }
 {
-    match plan(alloc, budb, plant, wanted.name, wanted.before) {
+    match plan(alloc, budb, plant, &wanted.name, wanted.before) {
         Ok(plan) => restore_planned(alloc, budb, plant, cell, wanted, manner, target, &plan),
-        Err(fault) => refuse(alloc, fault, wanted.name, target),
+        Err(fault) => refuse(alloc, fault, &wanted.name, target),
     }
 }
 
@@ -103,7 +103,7 @@ pub(crate) fn restore_one<P: Plant, C: Cell>(
     budb: &Budb,
     plant: &mut P,
     cell: &mut C,
-    wanted: &Wanted<'_>,
+    wanted: &Wanted,
     manner: &Manner<'_>,
 ) -> Result<Told, RestoreStop>
     requires { P.sound plant.old }
@@ -113,7 +113,7 @@ pub(crate) fn restore_one<P: Plant, C: Cell>(
     ensures looks { LooksAt P.Plant RestoreStop.Plant plant.old plant.new result }
     ensures cause { HasCauseAt RestoreStop.Cell (C.faults cell.old) (C.faults cell.new) result }
 {
-    match target_name(alloc, wanted.name, manner.extension) {
+    match target_name(alloc, &wanted.name, manner.extension) {
         Ok(target) => restore_as(alloc, budb, plant, cell, wanted, manner, target.as_slice()),
         Err(_) => Err(RestoreStop::Memory),
     }
@@ -125,25 +125,19 @@ fn restore_choice<P: Plant, C: Cell>(
     budb: &Budb,
     plant: &mut P,
     cell: &mut C,
-    choice: &Choice,
+    choice: &Wanted,
     manner: &Manner<'_>,
     lines: &mut Out,
 ) -> Result<(), RestoreStop>
     requires { P.sound plant.old }
-    ensures lines { P.tells → C.tells → (a : Archive) → IsArchiveOf P.Plant budb.now.database.listed a plant.old → OnOk result (lines.new ≡ lines.old ++ told_lines (volume_answer a (C.list cell.old) manner.now (wanted_of choice.now)).told) }
-    ensures list { P.tells → C.tells → (a : Archive) → IsArchiveOf P.Plant budb.now.database.listed a plant.old → OnOk result (C.list cell.new ≡ last_cell (C.list cell.old) (volume_answer a (C.list cell.old) manner.now (wanted_of choice.now)).cells) }
-    ensures left { P.tells → C.tells → (a : Archive) → IsArchiveOf P.Plant budb.now.database.listed a plant.old → OnTheWay (C.list cell.old) (volume_answer a (C.list cell.old) manner.now (wanted_of choice.now)).cells (C.list cell.new) }
-    ensures may { C.tells → MayPut manner.now (wanted_of choice.now) (C.list cell.old) (C.list cell.new) }
+    ensures lines { P.tells → C.tells → (a : Archive) → IsArchiveOf P.Plant budb.now.database.listed a plant.old → OnOk result (lines.new ≡ lines.old ++ told_lines (volume_answer a (C.list cell.old) manner.now choice.now).told) }
+    ensures list { P.tells → C.tells → (a : Archive) → IsArchiveOf P.Plant budb.now.database.listed a plant.old → OnOk result (C.list cell.new ≡ last_cell (C.list cell.old) (volume_answer a (C.list cell.old) manner.now choice.now).cells) }
+    ensures left { P.tells → C.tells → (a : Archive) → IsArchiveOf P.Plant budb.now.database.listed a plant.old → OnTheWay (C.list cell.old) (volume_answer a (C.list cell.old) manner.now choice.now).cells (C.list cell.new) }
+    ensures may { C.tells → MayPut manner.now choice.now (C.list cell.old) (C.list cell.new) }
     ensures looks { LooksAt P.Plant RestoreStop.Plant plant.old plant.new result }
     ensures cause { HasCauseAt RestoreStop.Cell (C.faults cell.old) (C.faults cell.new) result }
 {
-    let wanted = Wanted {
-        name: &choice.name,
-        before: None,
-        server: &choice.server,
-        partition: &choice.partition,
-    };
-    match restore_one(alloc, budb, plant, cell, &wanted, manner) {
+    match restore_one(alloc, budb, plant, cell, choice, manner) {
         Ok(told) => match lines.piece(told.lines()) {
             Ok(()) => Ok(()),
             Err(_) => Err(RestoreStop::Memory),
@@ -158,7 +152,7 @@ pub(crate) fn restore_all<P: Plant, C: Cell>(
     budb: &Budb,
     plant: &mut P,
     cell: &mut C,
-    choices: &[Choice],
+    choices: &[Wanted],
     manner: &Manner<'_>,
 ) -> Result<Bytes, RestoreStop>
     requires { P.sound plant.old }

@@ -11,11 +11,11 @@ use Rattle.cell_core.specs.Calls.{Creation, after_create, after_write, after_rem
 use Rattle.cell_forms.specs.Forms.{IsCellForm}
 use Rattle.cell_forms.proofs.Volumes.{write_keeps, removal_keeps}
 use Rattle.cell_forms.proofs.Calls.{created_form, changed_form, backed_up_form, removed_form}
-use Rattle.backup_words.specs.declared.command.Command.{Command}
-use Rattle.backup_words.specs.declared.command.Command.TheVariants.{VosCreate, VosWrite, VosRmvnode, VosBackup, VosRemove, VosListvol}
+use Rattle.backup_words.specs.declared.command.CellCommand.{CellCommand}
+use Rattle.backup_words.specs.declared.command.CellCommand.TheVariants.{VosCreate, VosWrite, VosRmvnode, VosBackup, VosRemove, VosListvol}
 use Rattle.backup_session.specs.Worlds.{last_cell}
 use Rattle.backup_session.specs.Cells.{answered, created, data_for, cell_answer}
-use Rattle.command_forms.specs.Forms.{HasForms}
+use Rattle.command_forms.specs.Forms.{CellForms}
 
 -- the last of lists
 pub last_form : (cell : List Stored) (cells : List (List Stored)) → IsCellForm cell → All IsCellForm cells → IsCellForm (last_cell cell cells)
@@ -42,7 +42,7 @@ data_bytes (Some text) size bytes = bytes
 data_bytes None (Some size) bytes = letters size
 data_bytes None None bytes = All-nil (λ (b : ℕ). b < 256)
 
-pub cell_answer_form : (cell : List Stored) (time : ℕ) (command : Command) → HasForms command → IsFour time → IsCellForm cell → All IsCellForm (cell_answer cell time command).cells
+pub cell_answer_form : (cell : List Stored) (time : ℕ) (command : CellCommand) → CellForms command → IsFour time → IsCellForm cell → All IsCellForm (cell_answer cell time command).cells
 cell_answer_form cell time (VosCreate server partition name) has four form =
     created_cells name 0 (after_create cell server partition name time) (λ made is. created_form cell server partition name time has.0 has.1 has.2 four form made is)
 cell_answer_form cell time (VosWrite volume vnode text size) has four form =
@@ -53,4 +53,3 @@ cell_answer_form cell time (VosRmvnode volume vnode) has four form =
 cell_answer_form cell time (VosBackup volume) has four form = answered_form volume 0 (after_backup cell volume time) (λ new is. backed_up_form cell volume time four form new is)
 cell_answer_form cell time (VosRemove volume) has four form = answered_form volume 0 (after_remove cell volume) (λ new is. removed_form cell volume new form is)
 cell_answer_form cell time VosListvol has four form = All-nil IsCellForm
-cell_answer_form cell time command has four form = All-nil IsCellForm

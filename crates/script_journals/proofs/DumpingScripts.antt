@@ -1,17 +1,18 @@
 -- The journal of a script: where it dumps, of a world that has its forms; where it doesn't, of any world whose journal is of changes.
-use Rattle.std.proofs.Common.{◌≡◌, ℕ, Bool, true, false, List, [], ◌∷◌, refl}
-use Rattle.std.specs.Prelude.{◌↔◌, ◌||◌, if◌then◌else◌, IsTrue}
+use Rattle.std.proofs.Common.{◌≡◌, ℕ, Bool, true, false, List, [], ◌∷◌, refl, ap, subst}
+use Rattle.std.specs.Prelude.{◌↔◌, ◌||◌, IsTrue}
 use Rattle.bk_text.specs.Alphabets.{IsName}
 use Rattle.bk_text.specs.Tests.{name_test}
 use Rattle.plant_core.specs.Effects.{tells, come}
 use Rattle.budb_changes.specs.Forms.{AreChanges}
 use Rattle.backup_words.specs.declared.command.Command.{Command}
-use Rattle.backup_words.specs.declared.command.Command.TheVariants.{Dump}
-use Rattle.backup_session.specs.Asks.{asks_cell, asks_archive, asks_dump}
+use Rattle.backup_words.specs.declared.command.Command.TheVariants.{Database, Tape, Cell, Dump, Restore}
+use Rattle.backup_words.specs.declared.command.DumpCommand.{DumpCommand}
+use Rattle.backup_session.specs.Asks.{asks_dump}
 use Rattle.backup_session.specs.Bounded.{HasTapes}
 use Rattle.backup_session.specs.Dumps.{dump_turn}
 use Rattle.backup_session.specs.Machine.{done, turn}
-use Rattle.backup_session.specs.Worlds.{World, Turn, at_moment, after_turn}
+use Rattle.backup_session.specs.Worlds.{World, at_moment, after_turn}
 use Rattle.backup_session.proofs.TapeBounds.{turn_has_tapes, told_has_tapes}
 use Rattle.backup_script.specs.declared.item.Item.{Item}
 use Rattle.backup_script.specs.declared.item.Item.TheVariants.{Silent, Quit, Runs, Refused}
@@ -25,28 +26,22 @@ use Rattle.script_journals.specs.Worlds.{IsWorldForm}
 use Rattle.script_journals.specs.Dumping.{item_asks_dump, dumps_from, dumps_among, IsFormedFor}
 use Rattle.script_journals.proofs.Following.{journal_form}
 use Rattle.script_journals.proofs.Scripts.{ItemForms, item_forms, item_form, further}
-use Rattle.script_journals.proofs.Turns.{plant_follows, dump_follows, dump_short, form_at}
+use Rattle.script_journals.proofs.Turns.{database_follows, tape_follows, dump_follows, dump_short, form_at}
 
 -- ---- turns
 
 abbrev FormedForCommand : World → Command → Type 0
 FormedForCommand w command = asks_dump command ≡ true → IsWorldForm w
 
-asked_follows : (w : World) (command : Command) → HasForms command → FormedForCommand w command → IsJournalAfter w.log (dump_turn w command).effects (dump_turn w command).log
-asked_follows w (Dump volumeset dump portoffset append n) form formed = dump_follows w (formed refl) (Dump volumeset dump portoffset append n) form
-asked_follows w command form formed = refl
-
-asked_short : (w : World) → HasTapes w → (command : Command) → HasForms command → FormedForCommand w command → AreShort (come (dump_turn w command).effects w.state).tape
-asked_short w has (Dump volumeset dump portoffset append n) form formed = dump_short w (formed refl) (Dump volumeset dump portoffset append n) form
-asked_short w has command form formed = has.records
-
-either : (w : World) (b : Bool) (s t : Turn) → IsJournalAfter w.log s.effects s.log → IsJournalAfter w.log t.effects t.log → let u = (if b then s else t) in IsJournalAfter w.log u.effects u.log
-either w true s t is_s is_t = is_s
-either w false s t is_s is_t = is_t
+asked_short : (w : World) (command : Command) → HasForms command → FormedForCommand w command → (dump : DumpCommand) → command ≡ Dump dump → AreShort (come (dump_turn w dump).effects w.state).tape
+asked_short w command form formed dump is = dump_short w (formed (ap asks_dump is)) dump (subst HasForms is form)
 
 done_follows : (w : World) → HasTapes w → AreChanges w.log → (command : Command) → HasForms command → FormedForCommand w command → IsJournalAfter w.log (done w command).effects (done w command).log
-done_follows w has log command form formed =
-    either w (asks_cell command) _ _ refl (either w (asks_archive command) _ _ refl (either w (asks_dump command) (dump_turn w command) _ (asked_follows w command form formed) (plant_follows w has log command form)))
+done_follows w has log (Database command) form formed = database_follows w has log command form
+done_follows w has log (Tape command) form formed = tape_follows w has log command
+done_follows w has log (Cell command) form formed = refl
+done_follows w has log (Dump command) form formed = dump_follows w (formed refl) command form
+done_follows w has log (Restore command) form formed = refl
 
 has_at : (w : World) (now : ℕ) → HasTapes w → HasTapes (at_moment w now)
 has_at w now has = record { slots = has.slots; records = has.records }
@@ -56,7 +51,7 @@ unfolding turn
 turn_follows w now has log command form formed = done_follows (at_moment w now) (has_at w now has) log command form (λ asks. form_at w now (formed asks))
 
 turn_tapes : (w : World) (now : ℕ) → HasTapes w → (command : Command) → HasForms command → FormedForCommand w command → HasTapes (after_turn w (turn w now command))
-turn_tapes w now has command form formed = turn_has_tapes w now command has (asked_short (at_moment w now) (has_at w now has) command form (λ asks. form_at w now (formed asks)))
+turn_tapes w now has command form formed = turn_has_tapes w now command has (asked_short (at_moment w now) command form (λ asks. form_at w now (formed asks)))
 
 -- ---- lines
 

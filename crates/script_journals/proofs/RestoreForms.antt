@@ -21,18 +21,20 @@ use Rattle.budb_fold.specs.Lookups.{volume_of, VolumeDump, names_for, dump_by, i
 use Rattle.archive_model.specs.Archives.{Archive, Refusal, listed_of, Need, needs, is_missing, unless_missing, looked_up_by}
 use Rattle.restore_chain.specs.Answers.{chain_in, looked_up_one, looked_up}
 use Rattle.restore_target.specs.Targets.{target_text, after_restore}
-use Rattle.restore_commands.specs.declared.choices.Choice.{Choice}
 use Rattle.restore_commands.specs.Bases.{base_names}
-use Rattle.restore_commands.specs.Choices.{Disk, lay_on, disk_choice, disk_choices, suits, set_choice, set_choices}
-use Rattle.restore_commands.specs.Answers.{Wanted, Manner, put_answer, found_answer, volume_answer, last_cell as last_of, wanted_of, all_answer, entries_answer}
-use Rattle.backup_words.specs.declared.command.Command.{Command}
-use Rattle.backup_words.specs.declared.command.Command.TheVariants.{Volrestore, Diskrestore, Volsetrestore}
-use Rattle.backup_session.specs.Restores.{manner_at, restore_answer}
+use Rattle.restore_commands.specs.Choices.{lay_on, disk_choice, disk_choices, suits, set_choice, set_choices}
+use Rattle.restore_commands.specs.Answers.{Manner, put_answer, found_answer, volume_answer, last_cell as last_of, all_answer, entries_answer}
+use Rattle.backup_words.specs.declared.command.RestoreCommand.{RestoreCommand}
+use Rattle.backup_words.specs.declared.command.RestoredVolumes.{RestoredVolumes}
+use Rattle.backup_words.specs.declared.command.RestoredVolumes.TheVariants.{One, OfDisk, OfSet}
+use Rattle.backup_words.specs.declared.command.Disk.{Disk}
+use Rattle.backup_words.specs.declared.command.Wanted.{Wanted}
+use Rattle.backup_session.specs.Restores.{manner_at, volumes_answer, restore_answer}
 use Rattle.cell_core.specs.Forms.{IsVolumeForm}
 use Rattle.dump_commands.specs.Forms.{AreVolumes}
 use Rattle.cell_forms.specs.Forms.{IsCellForm}
 use Rattle.cell_forms.proofs.Calls.{put_restored_form}
-use Rattle.command_forms.specs.Forms.{HasForms}
+use Rattle.command_forms.specs.Forms.{RestoredForms}
 
 -- ---- lists and options
 
@@ -75,7 +77,7 @@ looked_form a name before contents = by_latest a (latest (listed_of a) name befo
 
 -- ---- which volumes
 
-abbrev IsChoiceForm : Choice → Type 0
+abbrev IsChoiceForm : Wanted → Type 0
 IsChoiceForm c = IsHost c.server × IsName c.partition
 
 or_form : (P : List ℕ → Type 0) (o : Option (List ℕ)) (other : List ℕ) → IfSome o P → P other → P (unwrap_or o other)
@@ -88,7 +90,7 @@ record IsDiskForm (disk : Disk) : Type 0 where
   new_server : IfSome disk.new_server IsHost
   new_partition : IfSome disk.new_partition IsName
 
-if_choice : (b : Bool) (c : Choice) → IsChoiceForm c → All IsChoiceForm (if b then c ∷ [] else [])
+if_choice : (b : Bool) (c : Wanted) → IsChoiceForm c → All IsChoiceForm (if b then c ∷ [] else [])
 if_choice true c form = All-cons IsChoiceForm c [] form (All-nil IsChoiceForm)
 if_choice false c form = All-nil IsChoiceForm
 
@@ -150,26 +152,25 @@ module _ (tests : (text : List ℕ) → IsTrue (name_test text) ↔ IsName text)
   pub volume_form : (cell : List Stored) (wanted : Wanted) → IsHost wanted.server → IsName wanted.partition → IsCellForm cell → All IsCellForm (volume_answer a cell manner wanted).cells
   volume_form cell wanted host part form = found_form cell wanted _ (looked_up a wanted.name wanted.before) host part form (looked_form a wanted.name wanted.before contents)
 
-  all_form : (cell : List Stored) (choices : List Choice) → All IsChoiceForm choices → IsCellForm cell → All IsCellForm (all_answer a cell manner choices).cells
+  all_form : (cell : List Stored) (choices : List Wanted) → All IsChoiceForm choices → IsCellForm cell → All IsCellForm (all_answer a cell manner choices).cells
   all_form cell [] forms form = All-nil IsCellForm
   all_form cell (c ∷ cs) forms form =
       let here = All-head IsChoiceForm c cs forms in
-      let first = volume_answer a cell manner (wanted_of c) in
-      let one : All IsCellForm first.cells = volume_form cell (wanted_of c) here.0 here.1 form in
+      let first = volume_answer a cell manner c in
+      let one : All IsCellForm first.cells = volume_form cell c here.0 here.1 form in
       All-append IsCellForm first.cells (all_answer a (last_of cell first.cells) manner cs).cells one (all_form (last_of cell first.cells) cs (All-tail IsChoiceForm c cs forms) (last_form cell first.cells form one))
 
   entries_form : (cell : List Stored) (name : List ℕ) (entries : Option (List SetEntry)) → All IsDumpRecord (listed_of a) → IsCellForm cell → All IsCellForm (entries_answer a cell manner name entries).cells
   entries_form cell name None forms form = All-nil IsCellForm
   entries_form cell name (Some entries) forms form = all_form cell (set_choices (listed_of a) entries) (set_forms (listed_of a) entries forms) form
 
-pub restore_form : (tests : (text : List ℕ) → IsTrue (name_test text) ↔ IsName text) (a : Archive) (sets : List VolumeSet) (cell : List Stored) (time : ℕ) (command : Command) → HasForms command → AreVolumes a.contents → All IsDumpRecord (listed_of a) → IsFour time → IsCellForm cell
+volumes_form : (tests : (text : List ℕ) → IsTrue (name_test text) ↔ IsName text) (a : Archive) (sets : List VolumeSet) (cell : List Stored) (manner : Manner) (volumes : RestoredVolumes) → RestoredForms volumes → AreVolumes a.contents → All IsDumpRecord (listed_of a) → IsFour manner.time → IsCellForm cell
+    → All IsCellForm (volumes_answer a sets cell manner volumes).cells
+volumes_form tests a sets cell manner (One wanted) has contents listed four form = volume_form tests a contents manner four cell wanted has.0 has.1 form
+volumes_form tests a sets cell manner (OfDisk disk) has contents listed four form =
+    all_form tests a contents manner four cell (disk_choices (listed_of a) disk) (disk_forms (listed_of a) disk (record { server = has.0; partition = has.1; new_server = has.2; new_partition = has.3 })) form
+volumes_form tests a sets cell manner (OfSet name) has contents listed four form = entries_form tests a contents manner four cell name (entries_of name sets) listed form
+
+pub restore_form : (tests : (text : List ℕ) → IsTrue (name_test text) ↔ IsName text) (a : Archive) (sets : List VolumeSet) (cell : List Stored) (time : ℕ) (command : RestoreCommand) → RestoredForms command.volumes → AreVolumes a.contents → All IsDumpRecord (listed_of a) → IsFour time → IsCellForm cell
     → All IsCellForm (restore_answer a sets cell time command).cells
-restore_form tests a sets cell time (Volrestore server partition volume extension date n) has contents listed four form =
-    volume_form tests a contents (manner_at time extension n) four cell (record { name = volume; before = date; server = server; partition = partition }) has.0 has.1 form
-restore_form tests a sets cell time (Diskrestore server partition newserver newpartition extension n) has contents listed four form =
-    let disk : Disk = record { server = server; partition = partition; new_server = newserver; new_partition = newpartition } in
-    all_form tests a contents (manner_at time extension n) four cell (disk_choices (listed_of a) disk)
-    (disk_forms (listed_of a) disk (record { server = has.0; partition = has.1; new_server = has.2; new_partition = has.3 })) form
-restore_form tests a sets cell time (Volsetrestore name extension n) has contents listed four form =
-    entries_form tests a contents (manner_at time extension n) four cell name (entries_of name sets) listed form
-restore_form tests a sets cell time command has contents listed four form = All-nil IsCellForm
+restore_form tests a sets cell time command has contents listed four form = volumes_form tests a sets cell (manner_at time command) command.volumes has contents listed four form

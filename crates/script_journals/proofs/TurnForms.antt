@@ -19,7 +19,10 @@ use Rattle.budb_fold.specs.Database.{after, has_dump}
 use Rattle.budb_fold.specs.Checkpoints.{checkpoint}
 use Rattle.budb.proofs.FoldForms.{forms_after}
 use Rattle.backup_words.specs.declared.command.Command.{Command}
-use Rattle.backup_words.specs.declared.command.Command.TheVariants.{Labeltape, Readlabel, Scantape, Dump}
+use Rattle.backup_words.specs.declared.command.Command.TheVariants.{Database, Tape, Cell, Dump, Restore}
+use Rattle.backup_words.specs.declared.command.TapeCommand.{TapeCommand}
+use Rattle.backup_words.specs.declared.command.TapeCommand.TheVariants.{Labeltape, Readlabel, Scantape}
+use Rattle.backup_words.specs.declared.command.DumpCommand.{DumpCommand}
 use Rattle.dump_commands.specs.Forms.{IsSceneForm, AreVolumes}
 use Rattle.dump_commands.proofs.LeftForms.{answer_time, answer_contents}
 use Rattle.cell_forms.specs.Forms.{IsCellForm}
@@ -32,11 +35,8 @@ use Rattle.backup_session.specs.Verdicts.{verdict}
 use Rattle.backup_session.specs.Labels.{label_of}
 use Rattle.backup_session.specs.Scanning.{port_of, slots_here, scans_of, has_wrong_parent, time_with, Step, says, added_if, with_dump, adding, dumps_turn, slots_turn, scan_turn}
 use Rattle.backup_session.specs.Tapes.{slot_of, read_turn, new_label, taken, labeled, label_turn, tape_turn}
-use Rattle.backup_session.specs.Cells.{cell_answer}
-use Rattle.backup_session.specs.Restores.{archive_turn}
-use Rattle.backup_session.specs.Dumps.{scene_of, asked_of, dump_turn}
-use Rattle.backup_session.specs.Asks.{asks_cell, asks_archive, asks_dump, asks_tape}
-use Rattle.backup_session.specs.Machine.{carried, on_cell, on_plant, done}
+use Rattle.backup_session.specs.Dumps.{scene_of, dump_turn}
+use Rattle.backup_session.specs.Machine.{carried, done}
 use Rattle.command_forms.specs.Forms.{HasForms}
 use Rattle.backup_session.proofs.FoundForms.{found_forms}
 use Rattle.script_journals.specs.Worlds.{IsWorldForm}
@@ -129,15 +129,12 @@ scene_form w form = record {
   ports = form.ports;
 }
 
-dump_forms : (w : World) → IsWorldForm w → (command : Command) → LeavesForms (dump_turn w command)
-dump_forms w form (Dump volumeset dump portoffset append n) =
-    let asked = asked_of volumeset dump portoffset append n in
-    record {
-      time = answer_time (scene_of w) asked form.time;
-      contents = answer_contents (scene_of w) asked w.contents form.cell.volumes form.contents;
-      cells = All-nil IsCellForm;
-    }
-dump_forms w form command = record { time = form.time; contents = form.contents; cells = All-nil IsCellForm }
+dump_forms : (w : World) → IsWorldForm w → (command : DumpCommand) → LeavesForms (dump_turn w command)
+dump_forms w form command = record {
+  time = answer_time (scene_of w) command form.time;
+  contents = answer_contents (scene_of w) command w.contents form.cell.volumes form.contents;
+  cells = All-nil IsCellForm;
+}
 
 -- ---- a command
 
@@ -146,25 +143,18 @@ module _ (tests : (text : List ℕ) → IsTrue (name_test text) ↔ IsName text)
   scan_forms dbadd (Err text) = record { time = form.time; contents = form.contents; cells = All-nil IsCellForm }
   scan_forms dbadd (Ok port) = slots_forms w form.time form.contents dbadd (slots_here w.setting.present port) (found_forms w form.tapes port)
 
-  tape_forms : (command : Command) → LeavesForms (tape_turn w command)
+  tape_forms : (command : TapeCommand) → LeavesForms (tape_turn w command)
   tape_forms (Labeltape name pname offset slot) = label_forms w form.time form.contents name pname (slot_of w.setting (after w.log).hosts offset slot)
   tape_forms (Readlabel offset slot) = read_forms w form.time form.contents (slot_of w.setting (after w.log).hosts offset slot)
   tape_forms (Scantape dbadd offset) = scan_forms dbadd (port_of w.setting.config (after w.log).hosts offset)
-  tape_forms command = record { time = form.time; contents = form.contents; cells = All-nil IsCellForm }
 
-  plant_forms : (command : Command) → LeavesForms (on_plant w command)
-  plant_forms command = picked (asks_tape command) _ _ (tape_forms command) (carried_forms w form.time form.contents (verdict (after w.log) command))
-
-  cell_forms : (command : Command) → HasForms command → LeavesForms (on_cell w (cell_answer w.cell w.time command))
-  cell_forms command has = record { time = form.time; contents = form.contents; cells = cell_answer_form w.cell w.time command has form.time form.cell }
-
-  archive_forms : (command : Command) → HasForms command → LeavesForms (archive_turn w command)
-  archive_forms command has = record {
+  pub done_forms : (command : Command) → HasForms command → LeavesForms (done w command)
+  done_forms (Database command) has = carried_forms w form.time form.contents (verdict (after w.log) command)
+  done_forms (Tape command) has = tape_forms command
+  done_forms (Cell command) has = record { time = form.time; contents = form.contents; cells = cell_answer_form w.cell w.time command has form.time form.cell }
+  done_forms (Dump command) has = dump_forms w form command
+  done_forms (Restore command) has = record {
     time = form.time;
     contents = form.contents;
     cells = restore_form tests (archive_of w) (after w.log).sets w.cell w.time command has form.contents (forms_after w.log form.log).listed form.time form.cell;
   }
-
-  pub done_forms : (command : Command) → HasForms command → LeavesForms (done w command)
-  done_forms command has =
-      picked (asks_cell command) _ _ (cell_forms command has) (picked (asks_archive command) _ _ (archive_forms command has) (picked (asks_dump command) _ _ (dump_forms w form command) (plant_forms command)))

@@ -1,5 +1,5 @@
 -- The journal of a turn, and the forms of the world behind it.
-use Rattle.std.proofs.Common.{ℕ, Bool, true, false, List, [], ◌∷◌, length, refl, arith}
+use Rattle.std.proofs.Common.{ℕ, Bool, true, false, List, [], ◌∷◌, length, refl, subst, arith}
 use Rattle.std.specs.Prelude.{◌↔◌, nat_lt, if◌then◌else◌, IsTrue, Option, Result, Ok, Err}
 use Rattle.bk_text.specs.Alphabets.{IsName}
 use Rattle.bk_text.specs.Tests.{name_test}
@@ -13,7 +13,11 @@ use Rattle.budb_fold.specs.Database.{after}
 use Rattle.budb_fold.specs.Checkpoints.{checkpoint}
 use Rattle.budb.proofs.FoldForms.{forms_after, checkpoint_form}
 use Rattle.backup_words.specs.declared.command.Command.{Command}
-use Rattle.backup_words.specs.declared.command.Command.TheVariants.{Labeltape, Readlabel, Scantape, Dump}
+use Rattle.backup_words.specs.declared.command.Command.TheVariants.{Database, Tape, Cell, Dump, Restore}
+use Rattle.backup_words.specs.declared.command.DatabaseCommand.{DatabaseCommand}
+use Rattle.backup_words.specs.declared.command.TapeCommand.{TapeCommand}
+use Rattle.backup_words.specs.declared.command.TapeCommand.TheVariants.{Labeltape, Readlabel, Scantape}
+use Rattle.backup_words.specs.declared.command.DumpCommand.{DumpCommand}
 use Rattle.backup_session.specs.declared.verdict.Verdict.{Verdict}
 use Rattle.backup_session.specs.declared.verdict.Verdict.TheVariants.{Refuses, Makes, Shortens, Shows}
 use Rattle.backup_session.specs.Worlds.{World, Turn, at_moment, after_turn, with_told}
@@ -23,11 +27,10 @@ use Rattle.backup_session.specs.Bounded.{HasTapes}
 use Rattle.backup_session.specs.Labels.{label_of}
 use Rattle.backup_session.specs.Scanning.{port_of, slots_here, scan_turn}
 use Rattle.backup_session.specs.Tapes.{slot_of, new_label, taken, labeled, label_turn, read_turn, tape_turn}
-use Rattle.backup_session.specs.Dumps.{scene_of, asked_of, dump_turn}
-use Rattle.backup_session.specs.Asks.{asks_cell, asks_archive, asks_dump, asks_tape}
-use Rattle.backup_session.specs.Machine.{carried, on_plant, done, turn}
+use Rattle.backup_session.specs.Dumps.{scene_of, dump_turn}
+use Rattle.backup_session.specs.Machine.{carried, done, turn}
 use Rattle.backup_session.proofs.TapeBounds.{turn_has_tapes, told_has_tapes}
-use Rattle.command_forms.specs.Forms.{HasForms}
+use Rattle.command_forms.specs.Forms.{DatabaseForms, HasForms}
 use Rattle.dump_forms.specs.Journals.{IsJournalAfter}
 use Rattle.dump_commands.specs.Forms.{AreShort}
 use Rattle.dump_commands.proofs.FormLaws.{answer_journaled}
@@ -75,28 +78,26 @@ module _ (w : World) (has : HasTapes w) (log : AreChanges w.log) where
   scan_follows dbadd (Err text) = refl
   scan_follows dbadd (Ok port) = slots_follow w dbadd (slots_here w.setting.present port) (found_forms w has port)
 
-  tape_follows : (command : Command) → Follows (tape_turn w command)
+  pub tape_follows : (command : TapeCommand) → Follows (tape_turn w command)
   tape_follows (Labeltape name pname offset slot) = label_follows name pname (slot_of w.setting (after w.log).hosts offset slot)
   tape_follows (Readlabel offset slot) = read_follows (slot_of w.setting (after w.log).hosts offset slot)
   tape_follows (Scantape dbadd offset) = scan_follows dbadd (port_of w.setting.config (after w.log).hosts offset)
-  tape_follows command = refl
 
-  pub plant_follows : (command : Command) → HasForms command → Follows (on_plant w command)
-  plant_follows command form = picked (asks_tape command) _ _ (tape_follows command) (carried_follows (verdict (after w.log) command) (verdict_form (after w.log) (forms_after w.log log).listed command form))
+  pub database_follows : (command : DatabaseCommand) → DatabaseForms command → Follows (carried w (verdict (after w.log) command))
+  database_follows command form = carried_follows (verdict (after w.log) command) (verdict_form (after w.log) (forms_after w.log log).listed command form)
 
 -- what a dump commits has bytes
-pub dump_follows : (w : World) → IsWorldForm w → (command : Command) → HasForms command → IsJournalAfter w.log (dump_turn w command).effects (dump_turn w command).log
-dump_follows w world (Dump volumeset dump portoffset append n) form =
-    let asked = asked_of volumeset dump portoffset append n in
+pub dump_follows : (w : World) → IsWorldForm w → (command : DumpCommand) → HasForms (Dump command) → IsJournalAfter w.log (dump_turn w command).effects (dump_turn w command).log
+dump_follows w world command form =
     let scene = scene_form w world in
-    answer_journaled (scene_of w) asked scene.log scene.cell (λ port is. order_form (scene_of w) asked port scene (record { set = form.0; level = form.1 }) is)
-dump_follows w world command form = refl
+    answer_journaled (scene_of w) command scene.log scene.cell (λ port is. order_form (scene_of w) command port scene (record { set = form.0; level = form.1 }) is)
 
 done_follows : (w : World) → IsWorldForm w → (command : Command) → HasForms command → IsJournalAfter w.log (done w command).effects (done w command).log
-done_follows w world command form =
-    picked w world.tapes world.log (asks_cell command) _ _ refl
-    (picked w world.tapes world.log (asks_archive command) _ _ refl
-    (picked w world.tapes world.log (asks_dump command) _ _ (dump_follows w world command form) (plant_follows w world.tapes world.log command form)))
+done_follows w world (Database command) form = database_follows w world.tapes world.log command form
+done_follows w world (Tape command) form = tape_follows w world.tapes world.log command
+done_follows w world (Cell command) form = refl
+done_follows w world (Dump command) form = dump_follows w world command form
+done_follows w world (Restore command) form = refl
 
 -- the same world at a moment of the clock
 pub form_at : (w : World) (now : ℕ) → IsWorldForm w → IsWorldForm (at_moment w now)
@@ -116,12 +117,10 @@ turn_follows w now command world form = done_follows (at_moment w now) (form_at 
 
 -- ---- the world behind it
 
-pub dump_short : (w : World) → IsWorldForm w → (command : Command) → HasForms command → AreShort (come (dump_turn w command).effects w.state).tape
-dump_short w world (Dump volumeset dump portoffset append n) form =
-    let asked = asked_of volumeset dump portoffset append n in
+pub dump_short : (w : World) → IsWorldForm w → (command : DumpCommand) → HasForms (Dump command) → AreShort (come (dump_turn w command).effects w.state).tape
+dump_short w world command form =
     let scene = scene_form w world in
-    answer_short (scene_of w) scene.log scene.cell world.tapes.records asked (λ port is. order_form (scene_of w) asked port scene (record { set = form.0; level = form.1 }) is)
-dump_short w world command form = world.tapes.records
+    answer_short (scene_of w) scene.log scene.cell world.tapes.records command (λ port is. order_form (scene_of w) command port scene (record { set = form.0; level = form.1 }) is)
 
 turn_leaves : (tests : (text : List ℕ) → IsTrue (name_test text) ↔ IsName text) (w : World) (now : ℕ) (command : Command) → IsWorldForm w → HasForms command → LeavesForms (turn w now command)
 unfolding turn
@@ -132,7 +131,7 @@ turn_form tests w now command world form =
     let t : Turn = turn w now command in
     let leaves : LeavesForms t = turn_leaves tests w now command world form in
     record {
-      tapes = turn_has_tapes w now command world.tapes (dump_short (at_moment w now) (form_at w now world) command form);
+      tapes = turn_has_tapes w now command world.tapes (λ dump is. dump_short (at_moment w now) (form_at w now world) dump (subst HasForms is form));
       log = journal_form t.effects w.log t.log world.log (turn_follows w now command world form);
       cell = last_form w.cell t.cells world.cell leaves.cells;
       contents = leaves.contents;

@@ -25,15 +25,15 @@ use Rattle.budb_fold.specs.declared.database.Database.{Database}
 use Rattle.budb_fold.specs.Database.{has_port, has_dump, is_initial}
 use Rattle.budb_fold.specs.Lookups.{record_of}
 use Rattle.budb.specs.Histories.{among_ids, descending, ids_of}
-use Rattle.backup_words.specs.declared.command.Command.{Command}
-use Rattle.backup_words.specs.declared.command.Command.TheVariants.{Addvolset, Delvolset, Addvolentry, Delvolentry, Listvolsets, Adddump, Setexp, Deldump, Listdumps, Addhost, Delhost, Listhosts, Checkpoint, Deletedump, Dumpinfo, Volinfo}
+use Rattle.backup_words.specs.declared.command.DatabaseCommand.{DatabaseCommand}
+use Rattle.backup_words.specs.declared.command.DatabaseCommand.TheVariants.{Addvolset, Delvolset, Addvolentry, Delvolentry, Listvolsets, Adddump, Setexp, Deldump, Listdumps, Addhost, Delhost, Listhosts, Checkpoint, Deletedump, Dumpinfo, Volinfo}
 use Rattle.backup_session.specs.declared.verdict.Verdict.{Verdict}
 use Rattle.backup_session.specs.declared.verdict.Verdict.TheVariants.{Refuses, Makes, Shortens, Shows}
 use Rattle.backup_session.specs.Levels.{first_known, first_unfounded, first_missing}
 use Rattle.backup_session.specs.Verdicts.{has_host_port, entry_goes, one_set, told_sets, levels_come, levels_expire, set_ids, set_goes, dump_goes, one_dump, told_dumps, verdict}
 use Rattle.backup_session.specs.Labels.{fields_in, is_label, label_of}
 use Rattle.backup_session.specs.Tapes.{taken}
-use Rattle.command_forms.specs.Forms.{HasForms}
+use Rattle.command_forms.specs.Forms.{DatabaseForms}
 
 -- ---- numbers in order
 
@@ -113,7 +113,7 @@ module _ (listed : List DumpRecordFields) (all : All IsDumpRecord listed) where
       go None = tt
       go (Some dump) = tt
 
-pub verdict_form : (db : Database) → All IsDumpRecord db.listed → (command : Command) → HasForms command → HasBytes (verdict db command)
+pub verdict_form : (db : Database) → All IsDumpRecord db.listed → (command : DatabaseCommand) → DatabaseForms command → HasBytes (verdict db command)
 verdict_form db all (Addhost host port) form = chosen (has_port db.hosts port) _ _ tt (one (AddHost host port) form)
 verdict_form db all (Delhost host port) form = chosen (has_host_port db.hosts host port) _ _ (one (DelHost port) form) tt
 verdict_form db all Listhosts form = tt
@@ -130,7 +130,6 @@ verdict_form db all (Deletedump id) form = dump_form db.listed all id form (reco
 verdict_form db all (Dumpinfo count id) form = dumps_form db.listed all count id
 verdict_form db all (Volinfo name) form = tt
 verdict_form db all Checkpoint form = tt
-verdict_form db all command form = tt
 
 -- ---- labels
 

@@ -1,27 +1,25 @@
 -- A dump's turn keeps the archive, with what the dump has from its first effect on, and leaves a ready world in order.
-use Rattle.std.proofs.Common.{List, [], length, refl}
+use Rattle.std.proofs.Common.{List, length, refl}
 use Rattle.plant_core.specs.Effects.{come}
 use Rattle.budb_changes.specs.declared.records.DumpRecordFields.{DumpRecordFields}
 use Rattle.dump_forms.specs.Journals.{IsJournalAfter}
-use Rattle.dump_commands.specs.declared.command.DumpCommand.{DumpCommand}
-use Rattle.dump_commands.specs.Scenes.{Scene}
+use Rattle.dump_courses.specs.Scenes.{Scene}
+use Rattle.backup_words.specs.declared.command.DumpCommand.{DumpCommand}
 use Rattle.dump_commands.specs.Forms.{IsSceneForm, IsCommandForm, AreShort, AreVolumes}
 use Rattle.dump_commands.specs.Answers.{Contents, dump_answer}
 use Rattle.dump_archives.specs.Asking.{AsksOfScene}
 use Rattle.dump_archives.specs.Keeping.{HoldsOnTheWay, EachKeepsListed, AsksBehind}
-use Rattle.backup_words.specs.declared.command.Command.{Command}
 use Rattle.backup_words.specs.declared.command.Command.TheVariants.{Dump}
 use Rattle.backup_session.specs.Bounded.{HasTapes}
 use Rattle.backup_session.specs.Worlds.{World, archive_of, last_cell, before_reply}
-use Rattle.backup_session.specs.Turns.{said}
-use Rattle.backup_session.specs.Dumps.{scene_of, asked_of, answered, dump_turn}
+use Rattle.backup_session.specs.Dumps.{scene_of, answered, dump_turn}
 use Rattle.command_forms.specs.Forms.{HasForms}
 use Rattle.script_journals.specs.Worlds.{IsWorldForm}
 use Rattle.script_journals.proofs.TurnForms.{scene_form}
-use Rattle.session_archives.specs.Ready.{IsInOrder, IsReady, IsReadyForCommand}
-use Rattle.session_archives.proofs.Kept.{Finds, said_keeps}
+use Rattle.session_archives.specs.Ready.{IsInOrder, IsReady}
+use Rattle.session_archives.proofs.Kept.{Finds}
 use Rattle.session_archives.proofs.Knowing.{known_whole}
-use Rattle.session_archives.proofs.Leading.{LeadsTurn, leads_turn}
+use Rattle.session_archives.proofs.Leading.{LeadsTurn}
 use Rattle.session_archives.proofs.Orders.{fair_to_any}
 
 -- what is so of each dump: the laws of the crates below
@@ -108,14 +106,11 @@ module _ (laws : DumpLaws) (w : World) (has : HasTapes w) (finds : Finds w) (rea
 -- ---- as a command says it
 
 module _ (laws : DumpLaws) (w : World) (has : HasTapes w) (finds : Finds w) where
-  pub dump_leads : (command : Command) → HasForms command → IsReadyForCommand w command → LeadsTurn w (dump_turn w command)
-  dump_leads (Dump volumeset dump portoffset append n) form ready = leads_dumped laws w has finds (ready refl) (asked_of volumeset dump portoffset append n) (record { set = form.0; level = form.1 })
-  dump_leads command form ready = leads_turn w (said w []) finds (said_keeps w finds [])
+  pub dump_leads : (command : DumpCommand) → HasForms (Dump command) → IsReady w → LeadsTurn w (dump_turn w command)
+  dump_leads command form ready = leads_dumped laws w has finds ready command (record { set = form.0; level = form.1 })
 
-  pub dump_short : (command : Command) → HasForms command → IsReadyForCommand w command → AreShort (come (dump_turn w command).effects w.state).tape
-  dump_short (Dump volumeset dump portoffset append n) form ready = short_dumped laws w has finds (ready refl) (asked_of volumeset dump portoffset append n) (record { set = form.0; level = form.1 })
-  dump_short command form ready = has.records
+  pub dump_short : (command : DumpCommand) → HasForms (Dump command) → IsReady w → AreShort (come (dump_turn w command).effects w.state).tape
+  dump_short command form ready = short_dumped laws w has finds ready command (record { set = form.0; level = form.1 })
 
-  pub dump_order : (command : Command) → HasForms command → IsReady w → let t = dump_turn w command in IsInOrder (last_cell w.cell t.cells) t.time (archive_of (before_reply w t))
-  dump_order (Dump volumeset dump portoffset append n) form ready = order_dumped laws w has finds ready (asked_of volumeset dump portoffset append n) (record { set = form.0; level = form.1 })
-  dump_order command form ready = ready.order
+  pub dump_order : (command : DumpCommand) → HasForms (Dump command) → IsReady w → let t = dump_turn w command in IsInOrder (last_cell w.cell t.cells) t.time (archive_of (before_reply w t))
+  dump_order command form ready = order_dumped laws w has finds ready command (record { set = form.0; level = form.1 })

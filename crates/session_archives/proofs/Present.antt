@@ -54,26 +54,27 @@ use Rattle.dump_job.specs.Events.{Around, Event, putting, items_at, tape_event, 
 use Rattle.dump_laws.proofs.ChosenLaws.{and_left, and_right, numbered_get}
 use Rattle.dump_laws.proofs.AppendLaws.{found_behind}
 use Rattle.dump_laws.proofs.BeginLaws.{first_found, found_taken}
-use Rattle.dump_commands.specs.declared.command.DumpCommand.{DumpCommand}
-use Rattle.dump_commands.specs.Scenes.{Scene, database_in, slots_in, entries_in, whole_in}
+use Rattle.dump_courses.specs.Scenes.{Scene, database_in, slots_in, entries_in, whole_in}
+use Rattle.dump_courses.specs.Courses.{Point, Course, around, next_event, behind, goes_on, last_event, event_then, course_within, events_left, course}
+use Rattle.backup_words.specs.declared.command.DumpCommand.{DumpCommand}
 use Rattle.dump_commands.specs.Orders.{asked_port, order_of}
 use Rattle.dump_commands.specs.Refusals.{fault_of, refusal_by, trial_refusal}
 use Rattle.dump_commands.specs.Trials.{trial_text}
-use Rattle.dump_commands.specs.Courses.{Point, Course, around, next_event, behind, goes_on, last_event, event_then, course_within, events_left, course}
 use Rattle.dump_commands.specs.Answers.{Answer, begun_point, begun, tape_for, said, begun_or, refused_or, trial_answer, real_answer, order_answer, port_answer, dump_answer}
 use Rattle.backup_words.specs.declared.command.Command.{Command}
-use Rattle.backup_words.specs.declared.command.Command.TheVariants.{Labeltape, Readlabel, Scantape, Dump}
+use Rattle.backup_words.specs.declared.command.Command.TheVariants as commands
+use Rattle.backup_words.specs.declared.command.TapeCommand.{TapeCommand}
+use Rattle.backup_words.specs.declared.command.TapeCommand.TheVariants.{Labeltape, Readlabel, Scantape}
 use Rattle.backup_session.specs.declared.verdict.Verdict.{Verdict}
 use Rattle.backup_session.specs.declared.verdict.Verdict.TheVariants.{Refuses, Makes, Shortens, Shows}
-use Rattle.backup_session.specs.Asks.{asks_cell, asks_archive, asks_dump, asks_tape}
 use Rattle.backup_session.specs.Worlds.{Setting, World, Turn, before_reply, at_moment}
 use Rattle.backup_session.specs.Turns.{length_with}
 use Rattle.backup_session.specs.Verdicts.{verdict}
 use Rattle.backup_session.specs.Labels.{label_of}
 use Rattle.backup_session.specs.Scanning.{port_of, slots_here, scans_of, Step, says, has_wrong_parent, added, added_if, with_dump, adding, dumps_turn, slots_turn, scan_turn}
 use Rattle.backup_session.specs.Tapes.{slot_of, read_turn, new_label, taken, labeled, label_turn, tape_turn}
-use Rattle.backup_session.specs.Dumps.{scene_of, asked_of, dump_turn}
-use Rattle.backup_session.specs.Machine.{carried, on_plant, done, turn}
+use Rattle.backup_session.specs.Dumps.{scene_of}
+use Rattle.backup_session.specs.Machine.{carried, done, turn}
 use Rattle.backup_script.specs.declared.item.Item.{Item}
 use Rattle.backup_script.specs.declared.item.Item.TheVariants.{Silent, Quit, Runs, Refused}
 use Rattle.backup_script.specs.Items.{item_of}
@@ -373,23 +374,17 @@ module _ (present : ℕ → Bool) where
 -- ---- the commands
 
 module _ (w : World) where
-  tape_turn_here : (command : Command) → TouchesHere w.setting.present (tape_turn w command).effects
+  tape_turn_here : (command : TapeCommand) → TouchesHere w.setting.present (tape_turn w command).effects
   tape_turn_here (Labeltape name pname offset slot) = label_here w.setting.present w name pname (slot_of w.setting (after w.log).hosts offset slot) (slot_is_here w.setting (after w.log).hosts offset slot)
   tape_turn_here (Readlabel offset slot) = read_here w.setting.present w (slot_of w.setting (after w.log).hosts offset slot)
   tape_turn_here (Scantape dbadd offset) = scan_here w.setting.present w dbadd (port_of w.setting.config (after w.log).hosts offset)
-  tape_turn_here command = tt
-
-  plant_here : (command : Command) → TouchesHere w.setting.present (on_plant w command).effects
-  plant_here command = one_turn w.setting.present (asks_tape command) (tape_turn w command) (carried w (verdict (after w.log) command)) (tape_turn_here command) (carried_here w.setting.present w (verdict (after w.log) command))
-
-  dump_here : (command : Command) → TouchesHere w.setting.present (dump_turn w command).effects
-  dump_here (Dump volumeset dump portoffset append n) = answer_here (scene_of w) (asked_of volumeset dump portoffset append n)
-  dump_here command = tt
 
   done_here : (command : Command) → TouchesHere w.setting.present (done w command).effects
-  done_here command =
-      one_turn w.setting.present (asks_cell command) _ _ tt
-      (one_turn w.setting.present (asks_archive command) _ _ tt (one_turn w.setting.present (asks_dump command) _ _ (dump_here command) (plant_here command)))
+  done_here (commands.Database command) = carried_here w.setting.present w (verdict (after w.log) command)
+  done_here (commands.Tape command) = tape_turn_here command
+  done_here (commands.Cell command) = tt
+  done_here (commands.Dump command) = answer_here (scene_of w) command
+  done_here (commands.Restore command) = tt
 
 turn_here : (w : World) (now : ℕ) (command : Command) → TouchesHere w.setting.present (turn w now command).effects
 unfolding turn

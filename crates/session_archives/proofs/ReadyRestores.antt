@@ -26,10 +26,11 @@ use Rattle.archive_model.proofs.SlotLaws.{first_or_later}
 use Rattle.archive_model.proofs.StreamLaws.{find_contains}
 use Rattle.restore_chain.specs.Answers.{chain_in, looked_up_one, looked_up}
 use Rattle.restore_target.specs.Targets.{target_text, after_restore}
-use Rattle.restore_commands.specs.declared.choices.Choice.{Choice}
-use Rattle.restore_commands.specs.Choices.{Disk, lay_on, disk_choice, disk_choices, suits, set_choice, set_choices}
+use Rattle.backup_words.specs.declared.command.Disk.{Disk}
+use Rattle.backup_words.specs.declared.command.Wanted.{Wanted}
+use Rattle.restore_commands.specs.Choices.{lay_on, disk_choice, disk_choices, suits, set_choice, set_choices}
 use Rattle.restore_commands.specs.Bases.{base_names}
-use Rattle.restore_commands.specs.Answers.{Wanted, Manner, put_answer, found_answer, volume_answer, last_cell, wanted_of, all_answer}
+use Rattle.restore_commands.specs.Answers.{Manner, put_answer, found_answer, volume_answer, last_cell, all_answer}
 use Rattle.session_archives.proofs.Orders.{CellIsGood, restored_good}
 
 -- ---- records that are found
@@ -122,58 +123,58 @@ module _ (tests : (text : List ℕ) → IsTrue (name_test text) ↔ IsName text)
   pub volume_quiet : manner.is_trial ≡ true → (cell : List Stored) (wanted : Wanted) → All Good (volume_answer a cell manner wanted).cells
   volume_quiet trial cell wanted = found_quiet trial cell wanted _ (looked_up a wanted.name wanted.before)
 
-  pub all_quiet : manner.is_trial ≡ true → (cell : List Stored) (choices : List Choice) → All Good (all_answer a cell manner choices).cells
+  pub all_quiet : manner.is_trial ≡ true → (cell : List Stored) (choices : List Wanted) → All Good (all_answer a cell manner choices).cells
   all_quiet trial cell [] = All-nil Good
   all_quiet trial cell (c ∷ cs) =
-      let first = volume_answer a cell manner (wanted_of c) in
-      All-append Good first.cells (all_answer a (last_cell cell first.cells) manner cs).cells (volume_quiet trial cell (wanted_of c)) (all_quiet trial (last_cell cell first.cells) cs)
+      let first = volume_answer a cell manner c in
+      All-append Good first.cells (all_answer a (last_cell cell first.cells) manner cs).cells (volume_quiet trial cell c) (all_quiet trial (last_cell cell first.cells) cs)
 
   last_good : (cell : List Stored) (cells : List (List Stored)) → Good cell → All Good cells → Good (last_cell cell cells)
   last_good cell [] good all = good
   last_good cell (c ∷ cs) good all = last_good c cs (All-head Good c cs all) (All-tail Good c cs all)
 
-  pub all_good : (cell : List Stored) (choices : List Choice) → Good cell → All (λ c. IsPutWell manner.extension c.name c.server c.partition) choices → All Good (all_answer a cell manner choices).cells
+  pub all_good : (cell : List Stored) (choices : List Wanted) → Good cell → All (λ c. IsPutWell manner.extension c.name c.server c.partition) choices → All Good (all_answer a cell manner choices).cells
   all_good cell [] good well = All-nil Good
   all_good cell (c ∷ cs) good well =
-      let P : Choice → Type 0 = λ (c : Choice). IsPutWell manner.extension c.name c.server c.partition in
-      let first = volume_answer a cell manner (wanted_of c) in
-      let here = volume_good cell (wanted_of c) good (All-head P c cs well) in
+      let P : Wanted → Type 0 = λ (c : Wanted). IsPutWell manner.extension c.name c.server c.partition in
+      let first = volume_answer a cell manner c in
+      let here = volume_good cell c good (All-head P c cs well) in
       All-append Good first.cells (all_answer a (last_cell cell first.cells) manner cs).cells here (all_good (last_cell cell first.cells) cs (last_good cell first.cells good here) (All-tail P c cs well))
 
 -- ---- the volumes of a partition, and of a volume set
 
 module _ (listed : List DumpRecordFields) (extension : Option (List ℕ)) where
-  abbrev AreApart : List Choice → Type 0
+  abbrev AreApart : List Wanted → Type 0
   AreApart choices = All (λ c. IsApart (target_text c.name extension)) choices
 
-  abbrev AreWell : List Choice → Type 0
+  abbrev AreWell : List Wanted → Type 0
   AreWell choices = All (λ c. IsPutWell extension c.name c.server c.partition) choices
 
   -- of two lists of choices
-  front_apart : (xs ys : List Choice) → AreApart (xs ++ ys) → AreApart xs
-  front_apart [] ys all = All-nil (λ (c : Choice). IsApart (target_text c.name extension))
+  front_apart : (xs ys : List Wanted) → AreApart (xs ++ ys) → AreApart xs
+  front_apart [] ys all = All-nil (λ (c : Wanted). IsApart (target_text c.name extension))
   front_apart (x ∷ xs) ys all =
-      let P : Choice → Type 0 = λ (c : Choice). IsApart (target_text c.name extension) in
+      let P : Wanted → Type 0 = λ (c : Wanted). IsApart (target_text c.name extension) in
       All-cons P x xs (All-head P x (xs ++ ys) all) (front_apart xs ys (All-tail P x (xs ++ ys) all))
 
-  behind_apart : (xs ys : List Choice) → AreApart (xs ++ ys) → AreApart ys
+  behind_apart : (xs ys : List Wanted) → AreApart (xs ++ ys) → AreApart ys
   behind_apart [] ys all = all
-  behind_apart (x ∷ xs) ys all = behind_apart xs ys (All-tail (λ (c : Choice). IsApart (target_text c.name extension)) x (xs ++ ys) all)
+  behind_apart (x ∷ xs) ys all = behind_apart xs ys (All-tail (λ (c : Wanted). IsApart (target_text c.name extension)) x (xs ++ ys) all)
 
-  flat_well : (chosen : List ℕ → List Choice) → ((name : List ℕ) → AreApart (chosen name) → AreWell (chosen name)) → (names : List (List ℕ)) → AreApart (flat_map chosen names) → AreWell (flat_map chosen names)
-  flat_well chosen each [] all = All-nil (λ (c : Choice). IsPutWell extension c.name c.server c.partition)
+  flat_well : (chosen : List ℕ → List Wanted) → ((name : List ℕ) → AreApart (chosen name) → AreWell (chosen name)) → (names : List (List ℕ)) → AreApart (flat_map chosen names) → AreWell (flat_map chosen names)
+  flat_well chosen each [] all = All-nil (λ (c : Wanted). IsPutWell extension c.name c.server c.partition)
   flat_well chosen each (name ∷ names) all =
-      All-append (λ (c : Choice). IsPutWell extension c.name c.server c.partition) (chosen name) (flat_map chosen names) (each name (front_apart (chosen name) (flat_map chosen names) all))
+      All-append (λ (c : Wanted). IsPutWell extension c.name c.server c.partition) (chosen name) (flat_map chosen names) (each name (front_apart (chosen name) (flat_map chosen names) all))
       (flat_well chosen each names (behind_apart (chosen name) (flat_map chosen names) all))
 
-  one_well : (c : Choice) → IsHost c.server → IsName c.partition → AreApart (c ∷ []) → AreWell (c ∷ [])
+  one_well : (c : Wanted) → IsHost c.server → IsName c.partition → AreApart (c ∷ []) → AreWell (c ∷ [])
   one_well c host part all =
-      All-cons (λ (c : Choice). IsPutWell extension c.name c.server c.partition) c [] (record { server = host; partition = part; target = All-head (λ (c : Choice). IsApart (target_text c.name extension)) c [] all })
-      (All-nil (λ (c : Choice). IsPutWell extension c.name c.server c.partition))
+      All-cons (λ (c : Wanted). IsPutWell extension c.name c.server c.partition) c [] (record { server = host; partition = part; target = All-head (λ (c : Wanted). IsApart (target_text c.name extension)) c [] all })
+      (All-nil (λ (c : Wanted). IsPutWell extension c.name c.server c.partition))
 
-  if_well : (b : Bool) (c : Choice) → IsHost c.server → IsName c.partition → AreApart (if b then c ∷ [] else []) → AreWell (if b then c ∷ [] else [])
+  if_well : (b : Bool) (c : Wanted) → IsHost c.server → IsName c.partition → AreApart (if b then c ∷ [] else []) → AreWell (if b then c ∷ [] else [])
   if_well true c host part all = one_well c host part all
-  if_well false c host part all = All-nil (λ (c : Choice). IsPutWell extension c.name c.server c.partition)
+  if_well false c host part all = All-nil (λ (c : Wanted). IsPutWell extension c.name c.server c.partition)
 
   given_or : (Form : List ℕ → Type 0) (o : Option (List ℕ)) (other : List ℕ) → IfSome o Form → Form other → Form (unwrap_or o other)
   given_or Form None other is form = form
@@ -181,7 +182,7 @@ module _ (listed : List DumpRecordFields) (extension : Option (List ℕ)) where
 
   module _ (disk : Disk) (host : IsHost disk.server) (part : IsName disk.partition) (new_host : IfSome disk.new_server IsHost) (new_part : IfSome disk.new_partition IsName) where
     disk_choice_well : (name : List ℕ) (o : Option VolumeDump) → AreApart (disk_choice disk name o) → AreWell (disk_choice disk name o)
-    disk_choice_well name None all = All-nil (λ (c : Choice). IsPutWell extension c.name c.server c.partition)
+    disk_choice_well name None all = All-nil (λ (c : Wanted). IsPutWell extension c.name c.server c.partition)
     disk_choice_well name (Some one) all = if_well (lay_on disk one) _ (given_or IsHost disk.new_server disk.server new_host host) (given_or IsName disk.new_partition disk.partition new_part part) all
 
     pub disk_well : AreApart (disk_choices listed disk) → AreWell (disk_choices listed disk)
@@ -189,7 +190,7 @@ module _ (listed : List DumpRecordFields) (extension : Option (List ℕ)) where
 
   module _ (forms : All IsDumpRecord listed) (entries : List SetEntry) where
     set_choice_well : (name : List ℕ) (o : Option VolumeDump) → latest listed name None ≡ o → AreApart (set_choice entries name o) → AreWell (set_choice entries name o)
-    set_choice_well name None is all = All-nil (λ (c : Choice). IsPutWell extension c.name c.server c.partition)
+    set_choice_well name None is all = All-nil (λ (c : Wanted). IsPutWell extension c.name c.server c.partition)
     set_choice_well name (Some one) is all =
         let form = latest_form listed name None one forms is in
         if_well (list_any (suits one) entries) _ form.server form.partition all

@@ -1,17 +1,19 @@
 -- Each command's turn keeps the archive: on the way of its effects, and behind it.
-use Rattle.std.proofs.Common.{ℕ, Bool, true, false, List, IsTrue}
-use Rattle.std.specs.Prelude.{◌↔◌, if◌then◌else◌}
+use Rattle.std.proofs.Common.{ℕ, List, IsTrue, refl, ap, subst}
+use Rattle.std.specs.Prelude.{◌↔◌}
 use Rattle.bk_text.specs.Alphabets.{IsName}
 use Rattle.bk_text.specs.Tests.{name_test}
 use Rattle.budb_fold.specs.Database.{after}
 use Rattle.backup_words.specs.declared.command.Command.{Command}
-use Rattle.backup_session.specs.Asks.{asks_cell, asks_archive, asks_dump}
+use Rattle.backup_words.specs.declared.command.Command.TheVariants.{Database, Tape, Cell, Dump, Restore}
+use Rattle.backup_session.specs.Asks.{asks_dump}
 use Rattle.backup_session.specs.Bounded.{HasTapes}
 use Rattle.backup_session.specs.Cells.{cell_answer}
 use Rattle.backup_session.specs.Restores.{restore_answer, archive_turn}
-use Rattle.backup_session.specs.Dumps.{dump_turn}
-use Rattle.backup_session.specs.Worlds.{World, Turn, archive_of, after_turn, at_moment}
-use Rattle.backup_session.specs.Machine.{on_cell, on_plant, done, turn}
+use Rattle.backup_session.specs.Tapes.{tape_turn}
+use Rattle.backup_session.specs.Verdicts.{verdict}
+use Rattle.backup_session.specs.Worlds.{World, archive_of, after_turn, at_moment}
+use Rattle.backup_session.specs.Machine.{carried, on_cell, done, turn}
 use Rattle.backup_session.proofs.TapeBounds.{turn_has_tapes}
 use Rattle.command_forms.specs.Forms.{HasForms}
 use Rattle.session_archives.specs.Held.{HoldsWorld}
@@ -20,7 +22,7 @@ use Rattle.session_archives.proofs.Kept.{Reads, Finds}
 use Rattle.session_archives.proofs.Leading.{LeadsTurn, leads_turn, leads_later}
 use Rattle.session_archives.proofs.Orders.{moment_four, moment_later, order_later}
 use Rattle.session_archives.proofs.Scans.{Assembles}
-use Rattle.session_archives.proofs.Turns.{MakesSame, cell_keeps, restore_keeps, plant_keeps}
+use Rattle.session_archives.proofs.Turns.{MakesSame, cell_keeps, restore_keeps, tape_keeps, database_keeps}
 use Rattle.session_archives.proofs.DumpTurns.{DumpLaws, dump_leads, dump_short}
 
 -- the laws of the crates below that sessions stand on
@@ -56,17 +58,13 @@ ready_later w now ready = record {
 
 -- ---- turns
 
-picked : (w : World) (b : Bool) (s t : Turn) → LeadsTurn w s → LeadsTurn w t → LeadsTurn w (if b then s else t)
-picked w true s t is_s is_t = is_s
-picked w false s t is_s is_t = is_t
-
 module _ (laws : Lower) where
   done_leads : (w : World) → HasTapes w → Finds w → (command : Command) → HasForms command → IsReadyForCommand w command → LeadsTurn w (done w command)
-  done_leads w has finds command form ready =
-      picked w (asks_cell command) (on_cell w (cell_answer w.cell w.time command)) _ (leads_turn w _ finds (cell_keeps w finds (cell_answer w.cell w.time command)))
-      (picked w (asks_archive command) (archive_turn w command) _ (leads_turn w _ finds (restore_keeps w finds (restore_answer (archive_of w) (after w.log).sets w.cell w.time command)))
-      (picked w (asks_dump command) (dump_turn w command) (on_plant w command) (dump_leads laws.dumps w has finds command form ready)
-      (leads_turn w (on_plant w command) finds (plant_keeps laws.reads laws.assembles laws.same w has finds command form))))
+  done_leads w has finds (Database command) form ready = leads_turn w (carried w (verdict (after w.log) command)) finds (database_keeps laws.reads laws.assembles laws.same w has finds command form)
+  done_leads w has finds (Tape command) form ready = leads_turn w (tape_turn w command) finds (tape_keeps laws.reads laws.assembles laws.same w has finds command form)
+  done_leads w has finds (Cell command) form ready = leads_turn w (on_cell w (cell_answer w.cell w.time command)) finds (cell_keeps w finds (cell_answer w.cell w.time command))
+  done_leads w has finds (Dump command) form ready = dump_leads laws.dumps w has finds command form (ready refl)
+  done_leads w has finds (Restore command) form ready = leads_turn w (archive_turn w command) finds (restore_keeps w finds (restore_answer (archive_of w) (after w.log).sets w.cell w.time command))
 
   pub turn_leads : (w : World) (now : ℕ) → HoldsWorld w → (command : Command) → HasForms command → IsReadyForCommand (at_moment w now) command → LeadsTurn w (turn w now command)
   unfolding turn
@@ -77,4 +75,4 @@ module _ (laws : Lower) where
   pub turn_tapes : (w : World) (now : ℕ) → HoldsWorld w → (command : Command) → HasForms command → IsReadyForCommand (at_moment w now) command → HasTapes (after_turn w (turn w now command))
   turn_tapes w now held command form ready =
       turn_has_tapes w now command held.tapes
-      (dump_short laws.dumps (at_moment w now) (has_later w now held.tapes) (finds_later w now (finds_of w held)) command form ready)
+      (λ dump is. dump_short laws.dumps (at_moment w now) (has_later w now held.tapes) (finds_later w now (finds_of w held)) dump (subst HasForms is form) (ready (ap asks_dump is)))

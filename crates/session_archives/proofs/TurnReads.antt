@@ -16,24 +16,24 @@ use Rattle.dump_job.specs.declared.first_tapes.FirstTape.{FirstTape}
 use Rattle.dump_job.specs.declared.order.DumpOrder.{DumpOrder}
 use Rattle.dump_job.specs.Beginning.{first_tape}
 use Rattle.dump_job.specs.Events.{Event, event}
-use Rattle.dump_commands.specs.declared.command.DumpCommand.{DumpCommand}
-use Rattle.dump_commands.specs.Scenes.{Scene, database_in, entries_in, is_bad}
+use Rattle.dump_courses.specs.Scenes.{Scene, database_in, entries_in, is_bad}
+use Rattle.dump_courses.specs.Courses.{Point, goes_on, next_event, behind, event_then, course_by, course_within, events_left, course}
+use Rattle.backup_words.specs.declared.command.DumpCommand.{DumpCommand}
 use Rattle.dump_commands.specs.Orders.{asked_port, order_of}
 use Rattle.dump_commands.specs.Refusals.{refusal_by, trial_refusal, fault_of}
 use Rattle.dump_commands.specs.Trials.{trial_text}
-use Rattle.dump_commands.specs.Courses.{Point, goes_on, next_event, behind, event_then, course_by, course_within, events_left, course}
 use Rattle.dump_commands.specs.Answers.{Answer, said, refused_or, commit_of, begun_point, ended, begun, begun_or, tape_for, real_answer, trial_answer, order_answer, port_answer, dump_answer}
 use Rattle.dump_laws.specs.Rest.{settled_whole}
 use Rattle.dump_laws.proofs.ReadLaws.{ReadsAlike, reads_come, alike_at_rest}
 use Rattle.backup_words.specs.declared.command.Command.{Command}
-use Rattle.backup_words.specs.declared.command.Command.TheVariants.{Dump}
-use Rattle.backup_session.specs.Asks.{asks_cell, asks_archive, asks_dump}
+use Rattle.backup_words.specs.declared.command.Command.TheVariants.{Database, Tape, Cell, Dump, Restore}
 use Rattle.backup_session.specs.Bounded.{HasTapes}
-use Rattle.backup_session.specs.Cells.{cell_answer}
-use Rattle.backup_session.specs.Dumps.{scene_of, asked_of, answered, dump_turn}
-use Rattle.backup_session.specs.Machine.{on_cell, on_plant, done, turn}
+use Rattle.backup_session.specs.Dumps.{scene_of, answered}
+use Rattle.backup_session.specs.Machine.{carried, done, turn}
 use Rattle.backup_session.specs.Restores.{archive_turn}
 use Rattle.backup_session.specs.Scanning.{adding, slots_turn}
+use Rattle.backup_session.specs.Tapes.{tape_turn}
+use Rattle.backup_session.specs.Verdicts.{verdict}
 use Rattle.backup_session.specs.Worlds.{World, Turn, archive_of, after_turn, at_moment}
 use Rattle.session_archives.specs.Held.{HoldsWorld}
 use Rattle.session_archives.specs.Ready.{IsInOrder, IsReady}
@@ -114,17 +114,13 @@ module _ (w : World) (t : State) (alike : ReadsAlike w.state t) where
   abbrev there : World
   there = record w { state = t }
 
-  dump_turn_same : (command : Command) → dump_turn there command ≡ dump_turn w command
-  dump_turn_same (Dump volumeset dump portoffset append n) = ap (answered w) (dump_same (scene_of w) t alike (asked_of volumeset dump portoffset append n))
-  dump_turn_same command = refl
-
   done_same : (command : Command) → done there command ≡ done w command
   unfolding adding slots_turn
-  done_same command =
-      let archive : archive_turn there command ≡ archive_turn w command = ap (λ (f : ℕ → List Record). archive_turn (record w { state = record t { tape = f } }) command) alike.tape in
-      let plant : on_plant there command ≡ on_plant w command = ap (λ (f : ℕ → List Record). on_plant (record w { state = record t { tape = f } }) command) alike.tape in
-      let dump = dump_turn_same command in
-      λ i. if asks_cell command then on_cell w (cell_answer w.cell w.time command) else (if asks_archive command then archive i else (if asks_dump command then dump i else plant i))
+  done_same (Database command) = ap (λ (f : ℕ → List Record). carried (record w { state = record t { tape = f } }) (verdict (after w.log) command)) alike.tape
+  done_same (Tape command) = ap (λ (f : ℕ → List Record). tape_turn (record w { state = record t { tape = f } }) command) alike.tape
+  done_same (Cell command) = refl
+  done_same (Dump command) = ap (answered w) (dump_same (scene_of w) t alike command)
+  done_same (Restore command) = ap (λ (f : ℕ → List Record). archive_turn (record w { state = record t { tape = f } }) command) alike.tape
 
 pub turn_same : (w : World) (t : State) (now : ℕ) (command : Command) → ReadsAlike w.state t → turn (record w { state = t }) now command ≡ turn w now command
 unfolding turn

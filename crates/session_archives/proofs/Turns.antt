@@ -1,5 +1,5 @@
 -- The turn of a command that is no dump keeps the archive.
-use Rattle.std.proofs.Common.{◌≡◌, inl, inr, ℕ, ◌≤◌, List, [], ◌++◌, length, refl, sym, ap, subst, arith}
+use Rattle.std.proofs.Common.{◌≡◌, inl, inr, ℕ, ◌≤◌, List, ◌++◌, length, refl, sym, ap, subst, arith}
 use Rattle.std.specs.Prelude.{nat_lt, Result, Ok, Err}
 use Rattle.plant_core.specs.Effects.{commits, comes}
 use Rattle.budb_changes.specs.declared.change.Change.{Change}
@@ -9,8 +9,9 @@ use Rattle.budb_fold.specs.declared.database.Database.{Database}
 use Rattle.budb_fold.specs.Database.{after}
 use Rattle.budb_fold.specs.Checkpoints.{checkpoint}
 use Rattle.budb.proofs.FoldForms.{forms_after, checkpoint_form}
-use Rattle.backup_words.specs.declared.command.Command.{Command}
-use Rattle.backup_words.specs.declared.command.Command.TheVariants.{Labeltape, Readlabel, Scantape}
+use Rattle.backup_words.specs.declared.command.DatabaseCommand.{DatabaseCommand}
+use Rattle.backup_words.specs.declared.command.TapeCommand.{TapeCommand}
+use Rattle.backup_words.specs.declared.command.TapeCommand.TheVariants.{Labeltape, Readlabel, Scantape}
 use Rattle.backup_session.specs.declared.verdict.Verdict.{Verdict}
 use Rattle.backup_session.specs.declared.verdict.Verdict.TheVariants.{Refuses, Makes, Shortens, Shows}
 use Rattle.backup_session.specs.Worlds.{World}
@@ -21,12 +22,11 @@ use Rattle.backup_session.specs.Bounded.{HasTapes}
 use Rattle.backup_session.specs.Scanning.{port_of}
 use Rattle.backup_session.specs.Tapes.{slot_of, read_turn, tape_turn}
 use Rattle.backup_session.specs.Cells.{CellAnswer}
-use Rattle.backup_session.specs.Asks.{asks_tape}
 use Rattle.restore_commands.specs.Answers.{RestoreAnswer}
 use Rattle.backup_session.specs.Restores.{restored}
-use Rattle.backup_session.specs.Machine.{committed, replaced, carried, on_cell, on_plant}
+use Rattle.backup_session.specs.Machine.{committed, replaced, carried, on_cell}
 use Rattle.backup_session.proofs.Settling.{settled_commit, settled_replace}
-use Rattle.command_forms.specs.Forms.{HasForms}
+use Rattle.command_forms.specs.Forms.{DatabaseForms, TapeForms}
 use Rattle.script_journals.proofs.Following.{own_bytes}
 use Rattle.script_journals.proofs.Verdicts.{HasBytes, verdict_form}
 use Rattle.session_archives.proofs.Keeping.{HoldsAt}
@@ -95,16 +95,14 @@ forms_found w has (Err text) = tt
 forms_found w has (Ok port) = found_forms w has port
 
 module _ (reads : Reads) (assembles : Assembles) (same : MakesSame) (w : World) (has : HasTapes w) (finds : Finds w) where
-  tape_keeps : (command : Command) → HasForms command → TurnKeeps w (tape_turn w command)
+  pub tape_keeps : (command : TapeCommand) → TapeForms command → TurnKeeps w (tape_turn w command)
   tape_keeps (Labeltape name pname offset slot) form =
       label_keeps reads w finds name pname form.0 form.1 (slot_of w.setting (after w.log).hosts offset slot) (slot_is_here w.setting (after w.log).hosts offset slot)
   tape_keeps (Readlabel offset slot) form = read_keeps w finds (slot_of w.setting (after w.log).hosts offset slot)
   tape_keeps (Scantape dbadd offset) form =
       let port = port_of w.setting.config (after w.log).hosts offset in
       scan_keeps assembles w dbadd port finds (forms_found w has port)
-  tape_keeps command form = said_keeps w finds []
 
-  pub plant_keeps : (command : Command) → HasForms command → TurnKeeps w (on_plant w command)
-  plant_keeps command form =
-      picked w (asks_tape command) _ _ (tape_keeps command form)
-      (carried_keeps w finds same (verdict (after w.log) command) (verdict_form (after w.log) (forms_after w.log (log_form w finds)).listed command form) (verdict_mild (after w.log) command))
+  pub database_keeps : (command : DatabaseCommand) → DatabaseForms command → TurnKeeps w (carried w (verdict (after w.log) command))
+  database_keeps command form =
+      carried_keeps w finds same (verdict (after w.log) command) (verdict_form (after w.log) (forms_after w.log (log_form w finds)).listed command form) (verdict_mild (after w.log) command)

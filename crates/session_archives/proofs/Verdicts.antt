@@ -12,8 +12,8 @@ use Rattle.budb_fold.specs.declared.database.Database.{Database}
 use Rattle.budb_fold.specs.Database.{has_port, has_dump}
 use Rattle.budb_fold.specs.Lookups.{record_of}
 use Rattle.archive_model.specs.Turns.{AllUntouched}
-use Rattle.backup_words.specs.declared.command.Command.{Command}
-use Rattle.backup_words.specs.declared.command.Command.TheVariants.{Addvolset, Delvolset, Addvolentry, Delvolentry, Listvolsets, Adddump, Setexp, Deldump, Listdumps, Addhost, Delhost, Listhosts, Checkpoint, Deletedump, Dumpinfo, Volinfo}
+use Rattle.backup_words.specs.declared.command.DatabaseCommand.{DatabaseCommand}
+use Rattle.backup_words.specs.declared.command.DatabaseCommand.TheVariants.{Addvolset, Delvolset, Addvolentry, Delvolentry, Listvolsets, Adddump, Setexp, Deldump, Listdumps, Addhost, Delhost, Listhosts, Checkpoint, Deletedump, Dumpinfo, Volinfo}
 use Rattle.backup_session.specs.declared.verdict.Verdict.{Verdict}
 use Rattle.backup_session.specs.declared.verdict.Verdict.TheVariants.{Refuses, Makes, Shortens, Shows}
 use Rattle.backup_session.specs.Levels.{first_known, first_unfounded, first_missing}
@@ -77,7 +77,7 @@ dumps_mild : (listed : List DumpRecordFields) (count id : Option ℕ) → IsMild
 dumps_mild listed count None = tt
 dumps_mild listed count (Some id) = one_mild id (record_of listed id)
 
-pub verdict_mild : (db : Database) (command : Command) → IsMild (verdict db command)
+pub verdict_mild : (db : Database) (command : DatabaseCommand) → IsMild (verdict db command)
 verdict_mild db (Addhost host port) = chosen (has_port db.hosts port) _ _ tt (inl (tt, tt))
 verdict_mild db (Delhost host port) = chosen (has_host_port db.hosts host port) _ _ (inl (tt, tt)) tt
 verdict_mild db Listhosts = tt
@@ -94,4 +94,3 @@ verdict_mild db (Deletedump id) = dump_mild db.listed id (record_of db.listed id
 verdict_mild db (Dumpinfo count id) = dumps_mild db.listed count id
 verdict_mild db (Volinfo name) = tt
 verdict_mild db Checkpoint = tt
-verdict_mild db command = tt

@@ -8,8 +8,9 @@ use Rattle.budb_fold.specs.Database.{after}
 use Rattle.archive_model.specs.Archives.{Archive, Refusal, listed_of, Holds, LooksUp}
 use Rattle.restore_chain.specs.Answers.{looked_up}
 use Rattle.backup_words.specs.declared.command.Command.{Command}
-use Rattle.backup_words.specs.declared.command.Command.TheVariants.{Scantape}
-use Rattle.backup_session.specs.Asks.{asks_archive}
+use Rattle.backup_words.specs.declared.command.Command.TheVariants.{Tape, Restore}
+use Rattle.backup_words.specs.declared.command.TapeCommand.TheVariants.{Scantape}
+use Rattle.backup_words.specs.declared.command.RestoreCommand.{RestoreCommand}
 use Rattle.backup_session.specs.Worlds.{World, archive_of, at_moment}
 use Rattle.backup_session.specs.Restores.{archive_turn}
 use Rattle.backup_session.specs.Scanning.{port_of, slots_here}
@@ -39,14 +40,14 @@ moment_behind w moments before = first_of (script w moments before).moments
 
 -- A restore answers each volume that it asks for by what is computed of the archive that it finds; and what is computed is the look-up of the
 -- definitions, and no other one: the contents of the latest dump before the date along its chain, or the dump or the tape that is missing.
-pub record IsLookedUp (w : World) (now : ℕ) (command : Command) : Type 0 where
-  pub answered : turn w now command ≡ archive_turn (at_moment w now) command
+pub record IsLookedUp (w : World) (now : ℕ) (command : RestoreCommand) : Type 0 where
+  pub answered : turn w now (Restore command) ≡ archive_turn (at_moment w now) command
   pub looks_up : (name : List ℕ) (before : Option ℕ) → LooksUp (archive_of w) name before (looked_up (archive_of w) name before)
   pub only : (name : List ℕ) (before : Option ℕ) (outcome : Result VolumeFields Refusal) → LooksUp (archive_of w) name before outcome → outcome ≡ looked_up (archive_of w) name before
 
 -- so it is on each line of a script that restores
 abbrev pub RestoresLookUp : World → List ℕ → List (List ℕ) → Type 0
-RestoresLookUp w moments lines = (before : List (List ℕ)) (command : Command) → IsOnLine w moments lines before command → asks_archive command ≡ true → IsLookedUp (world_behind w moments before) (moment_behind w moments before) command
+RestoresLookUp w moments lines = (before : List (List ℕ)) (command : RestoreCommand) → IsOnLine w moments lines before (Restore command) → IsLookedUp (world_behind w moments before) (moment_behind w moments before) command
 
 -- ---- scans
 
@@ -54,14 +55,14 @@ RestoresLookUp w moments lines = (before : List (List ℕ)) (command : Command) 
 -- listed, and whose tapes are all held there, is among what is whole, with an equal record; and over a database without listed dumps it is
 -- listed again, unless the log has no room for the record of one that is found.
 pub record IsScanned (w : World) (now offset : ℕ) (port : PortFields) : Type 0 where
-  pub lists : ListsWhole w (slots_here w.setting.present port) (turn w now (Scantape true offset))
+  pub lists : ListsWhole w (slots_here w.setting.present port) (turn w now (Tape (Scantape true offset)))
   pub among : (stock : Stock) (a : Archive) (records : List DumpRecordFields) → Holds stock a records → HasTheseTapes w stock a
       → (d : DumpRecordFields) → Contains (listed_of a) d → IsHeldOn d (slots_here w.setting.present port) a.slots → Contains lists.whole d
   pub again : (after w.log).listed ≡ [] → (stock : Stock) (a : Archive) (records : List DumpRecordFields) → Holds stock a records → HasTheseTapes w stock a
-      → (d : DumpRecordFields) → Contains (listed_of a) d → IsHeldOn d (slots_here w.setting.present port) a.slots → IsListedBehind w (slots_here w.setting.present port) (turn w now (Scantape true offset)) d
+      → (d : DumpRecordFields) → Contains (listed_of a) d → IsHeldOn d (slots_here w.setting.present port) a.slots → IsListedBehind w (slots_here w.setting.present port) (turn w now (Tape (Scantape true offset))) d
 
 -- so it is on each line of a script that scans and adds, on a port that has a tape host and a line in the configuration
 abbrev pub ScansListWhole : World → List ℕ → List (List ℕ) → Type 0
 ScansListWhole w moments lines =
-    (before : List (List ℕ)) (offset : ℕ) (port : PortFields) → IsOnLine w moments lines before (Scantape true offset) → let v = world_behind w moments before in
+    (before : List (List ℕ)) (offset : ℕ) (port : PortFields) → IsOnLine w moments lines before (Tape (Scantape true offset)) → let v = world_behind w moments before in
     port_of v.setting.config (after v.log).hosts offset ≡ Ok port → IsScanned v (moment_behind w moments before) offset port

@@ -17,12 +17,13 @@ use Rattle.dump_laws.specs.Beginning.{HeadsAreBelow}
 use Rattle.volume_sets.specs.declared.sets.SetEntry.{SetEntry}
 use Rattle.volume_sets.specs.Sets.{entries_of}
 use Rattle.restore_target.specs.Targets.{target_text}
-use Rattle.restore_commands.specs.declared.choices.Choice.{Choice}
 use Rattle.restore_commands.specs.Choices.{disk_choices, set_choices}
 use Rattle.backup_words.specs.declared.command.Command.{Command}
-use Rattle.backup_words.specs.declared.command.Command.TheVariants.{Volrestore, Diskrestore, Volsetrestore}
+use Rattle.backup_words.specs.declared.command.RestoredVolumes.{RestoredVolumes}
+use Rattle.backup_words.specs.declared.command.RestoredVolumes.TheVariants.{One, OfDisk, OfSet}
+use Rattle.backup_words.specs.declared.command.Wanted.{Wanted}
 use Rattle.command_forms.specs.NewNames.{IsApart}
-use Rattle.backup_session.specs.Asks.{asks_dump}
+use Rattle.backup_session.specs.Asks.{Asks, AsksNothing, AsksArchive, AsksFitness, asks, asks_dump}
 use Rattle.backup_session.specs.Worlds.{World, archive_of}
 use Rattle.backup_script.specs.declared.item.Item.{Item}
 use Rattle.backup_script.specs.declared.item.Item.TheVariants.{Silent, Quit, Runs, Refused}
@@ -61,7 +62,7 @@ pub record IsReady (w : World) : Type 0 where
 -- ---- what commands are not to do
 
 -- the names under which the chosen volumes are restored
-abbrev pub targets_of : Option (List ℕ) → List Choice → List (List ℕ)
+abbrev pub targets_of : Option (List ℕ) → List Wanted → List (List ℕ)
 targets_of extension choices = map (λ c. target_text c.name extension) choices
 
 abbrev pub set_targets : List DumpRecordFields → Option (List ℕ) → Option (List SetEntry) → List (List ℕ)
@@ -73,13 +74,21 @@ abbrev pub unless_trial : Bool → List (List ℕ) → List (List ℕ)
 unless_trial true names = []
 unless_trial false names = names
 
+-- the names under which volumes are restored
+abbrev pub volume_targets : World → Option (List ℕ) → RestoredVolumes → List (List ℕ)
+volume_targets w extension (One wanted) = target_text wanted.name extension ∷ []
+volume_targets w extension (OfDisk disk) = targets_of extension (disk_choices (listed_of (archive_of w)) disk)
+volume_targets w extension (OfSet name) = set_targets (listed_of (archive_of w)) extension (entries_of name (after w.log).sets)
+
+-- those under which one puts volumes that asks this of a world
+abbrev pub names_put : World → Asks → List (List ℕ)
+names_put w AsksNothing = []
+names_put w (AsksArchive command) = unless_trial command.trial (volume_targets w command.extension command.volumes)
+names_put w AsksFitness = []
+
 -- the names under which a command restores volumes of a world
 abbrev pub restored_names : World → Command → List (List ℕ)
-restored_names w (Volrestore server partition volume extension date n) = unless_trial n (target_text volume extension ∷ [])
-restored_names w (Diskrestore server partition newserver newpartition extension n) =
-    unless_trial n (targets_of extension (disk_choices (listed_of (archive_of w)) (record { server = server; partition = partition; new_server = newserver; new_partition = newpartition })))
-restored_names w (Volsetrestore name extension n) = unless_trial n (set_targets (listed_of (archive_of w)) extension (entries_of name (after w.log).sets))
-restored_names w command = []
+restored_names w command = names_put w (asks command)
 
 -- No volume is restored under a name that ends in `.backup`: there a read/write volume would stand in the place of a backup volume.
 abbrev pub RestoresApart : World → Command → Type 0

@@ -8,54 +8,54 @@ use Rattle.backup_script.proofs.next_line.serve_line.Goals as goal
 pub returns-in-Ok-Ended-clause-passed : goal.returns-in-Ok-Ended-clause-passed
 returns-in-Ok-Ended-clause-passed g c = λ told tells_cell tells_clock source w fits held.
     let e = rw c.in-Ok-Ended.field-0-is at c.in-Ok-Ended.ensures in
-    let is = c.without_return.ensures ∙ ap strip_carriage_return c.as_slice.ensures in
-    let n = c.run_line.new in
-    passed_line g.P.Plant g.C.Cell w (g.K.Clock.moments c.args.clock.now) (g.S.Source.left c.args.source.now) (g.S.Source.left c.take_line.new.source) c.in-Ok-Ended.line c.without_return.result.now c.args.plant.now n.plant n.cell n.session (g.K.Clock.moments n.clock)
-    (e.took source) is c.run_line.result (c.run_line.ensures.went told tells_cell tells_clock w fits (held_ended w (g.K.Clock.moments c.args.clock.now) (g.S.Source.left c.args.source.now) (g.S.Source.left c.take_line.new.source) c.in-Ok-Ended.line c.without_return.result.now (e.took source) is held)) c.run_line.ensures.goes
+    let is = c.without_return-text.ensures ∙ ap strip_carriage_return c.as_slice.ensures in
+    let n = c.run_line-ran.new in
+    passed_line g.P.Plant g.C.Cell w (g.K.Clock.moments c.args.clock.now) (g.S.Source.left c.args.source.now) (g.S.Source.left c.take_line.new.source) c.in-Ok-Ended.line c.without_return-text.result.now c.args.plant.now n.plant n.cell n.session (g.K.Clock.moments n.clock)
+    (e.took source) is c.run_line-ran.result (c.run_line-ran.ensures.went told tells_cell tells_clock w fits (held_ended w (g.K.Clock.moments c.args.clock.now) (g.S.Source.left c.args.source.now) (g.S.Source.left c.take_line.new.source) c.in-Ok-Ended.line c.without_return-text.result.now (e.took source) is held)) c.run_line-ran.ensures.goes
 
 pub returns-in-Ok-Ended-clause-ended : goal.returns-in-Ok-Ended-clause-ended
 returns-in-Ok-Ended-clause-ended g c = λ told tells_cell tells_clock source w fits held.
     let e = rw c.in-Ok-Ended.field-0-is at c.in-Ok-Ended.ensures in
-    let is = c.without_return.ensures ∙ ap strip_carriage_return c.as_slice.ensures in
-    let n = c.run_line.new in
-    ended_line g.P.Plant g.C.Cell w (g.K.Clock.moments c.args.clock.now) (g.S.Source.left c.args.source.now) (g.S.Source.left c.take_line.new.source) c.in-Ok-Ended.line c.without_return.result.now c.args.plant.now n.plant n.cell n.session (g.K.Clock.moments n.clock)
-    (e.took source) is c.run_line.result (c.run_line.ensures.went told tells_cell tells_clock w fits (held_ended w (g.K.Clock.moments c.args.clock.now) (g.S.Source.left c.args.source.now) (g.S.Source.left c.take_line.new.source) c.in-Ok-Ended.line c.without_return.result.now (e.took source) is held))
+    let is = c.without_return-text.ensures ∙ ap strip_carriage_return c.as_slice.ensures in
+    let n = c.run_line-ran.new in
+    ended_line g.P.Plant g.C.Cell w (g.K.Clock.moments c.args.clock.now) (g.S.Source.left c.args.source.now) (g.S.Source.left c.take_line.new.source) c.in-Ok-Ended.line c.without_return-text.result.now c.args.plant.now n.plant n.cell n.session (g.K.Clock.moments n.clock)
+    (e.took source) is c.run_line-ran.result (c.run_line-ran.ensures.went told tells_cell tells_clock w fits (held_ended w (g.K.Clock.moments c.args.clock.now) (g.S.Source.left c.args.source.now) (g.S.Source.left c.take_line.new.source) c.in-Ok-Ended.line c.without_return-text.result.now (e.took source) is held))
 
 pub returns-in-Ok-Ended-clause-left : goal.returns-in-Ok-Ended-clause-left
 returns-in-Ok-Ended-clause-left g c = λ told tells_cell tells_clock source w fits held.
     let e = rw c.in-Ok-Ended.field-0-is at c.in-Ok-Ended.ensures in
-    let is = c.without_return.ensures ∙ ap strip_carriage_return c.as_slice.ensures in
-    let n = c.run_line.new in
-    left_line g.P.Plant g.C.Cell w (g.K.Clock.moments c.args.clock.now) (g.S.Source.left c.args.source.now) (g.S.Source.left c.take_line.new.source) c.in-Ok-Ended.line c.without_return.result.now c.args.plant.now n.plant n.cell n.session (g.K.Clock.moments n.clock)
-    (e.took source) is c.run_line.result (c.run_line.ensures.left told tells_cell tells_clock w fits (held_ended w (g.K.Clock.moments c.args.clock.now) (g.S.Source.left c.args.source.now) (g.S.Source.left c.take_line.new.source) c.in-Ok-Ended.line c.without_return.result.now (e.took source) is held))
+    let is = c.without_return-text.ensures ∙ ap strip_carriage_return c.as_slice.ensures in
+    let n = c.run_line-ran.new in
+    left_line g.P.Plant g.C.Cell w (g.K.Clock.moments c.args.clock.now) (g.S.Source.left c.args.source.now) (g.S.Source.left c.take_line.new.source) c.in-Ok-Ended.line c.without_return-text.result.now c.args.plant.now n.plant n.cell n.session (g.K.Clock.moments n.clock)
+    (e.took source) is c.run_line-ran.result (c.run_line-ran.ensures.left told tells_cell tells_clock w fits (held_ended w (g.K.Clock.moments c.args.clock.now) (g.S.Source.left c.args.source.now) (g.S.Source.left c.take_line.new.source) c.in-Ok-Ended.line c.without_return-text.result.now (e.took source) is held))
 
 pub returns-in-Ok-Ended-clause-took : goal.returns-in-Ok-Ended-clause-took
 returns-in-Ok-Ended-clause-took g c = λ source.
     let e = rw c.in-Ok-Ended.field-0-is at c.in-Ok-Ended.ensures in
-    let is = c.without_return.ensures ∙ ap strip_carriage_return c.as_slice.ensures in
-    took_line (g.S.Source.left c.args.source.now) (g.S.Source.left c.take_line.new.source) c.in-Ok-Ended.line c.take_line.new.taken c.run_line.result (e.took source)
-    (subst (λ (l : List ℕ). IfOk c.run_line.result (λ passed. passed.goes ≡ not (is_quit l))) is c.run_line.ensures.goes) (subst (λ (l : List ℕ). OnErr c.run_line.result (is_quit l ≡ false)) is c.run_line.ensures.not_quit)
-    c.run_line.ensures.no_read c.run_line.ensures.no_long
+    let is = c.without_return-text.ensures ∙ ap strip_carriage_return c.as_slice.ensures in
+    took_line (g.S.Source.left c.args.source.now) (g.S.Source.left c.take_line.new.source) c.in-Ok-Ended.line c.take_line.new.taken c.run_line-ran.result (e.took source)
+    (subst (λ (l : List ℕ). IfOk c.run_line-ran.result (λ passed. passed.goes ≡ not (is_quit l))) is c.run_line-ran.ensures.goes) (subst (λ (l : List ℕ). OnErr c.run_line-ran.result (is_quit l ≡ false)) is c.run_line-ran.ensures.not_quit)
+    c.run_line-ran.ensures.no_read c.run_line-ran.ensures.no_long
 
 pub returns-in-Ok-Last-clause-ended : goal.returns-in-Ok-Last-clause-ended
 returns-in-Ok-Last-clause-ended g c = λ told tells_cell tells_clock source w fits held.
     let e = rw c.in-Ok-Last.field-0-is at c.in-Ok-Last.ensures in
-    let n = c.run_last.new in
+    let n = c.run_last-ran.new in
     ended_last g.P.Plant g.C.Cell w (g.K.Clock.moments c.args.clock.now) (g.S.Source.left c.args.source.now) c.in-Ok-Last.line c.as_slice-in-Ok-Last.result.now c.args.plant.now n.plant n.cell n.session (g.K.Clock.moments n.clock)
-    (e.took source).0 (e.last c.in-Ok-Last.line refl).0 c.as_slice-in-Ok-Last.ensures c.run_last.result (c.run_last.ensures.ran told tells_cell tells_clock w fits (held_last w (g.K.Clock.moments c.args.clock.now) (g.S.Source.left c.args.source.now) c.in-Ok-Last.line c.as_slice-in-Ok-Last.result.now (e.took source).0 (e.last c.in-Ok-Last.line refl).0 c.as_slice-in-Ok-Last.ensures held))
+    (e.took source).0 (e.last c.in-Ok-Last.line refl).0 c.as_slice-in-Ok-Last.ensures c.run_last-ran.result (c.run_last-ran.ensures.ran told tells_cell tells_clock w fits (held_last w (g.K.Clock.moments c.args.clock.now) (g.S.Source.left c.args.source.now) c.in-Ok-Last.line c.as_slice-in-Ok-Last.result.now (e.took source).0 (e.last c.in-Ok-Last.line refl).0 c.as_slice-in-Ok-Last.ensures held))
 
 pub returns-in-Ok-Last-clause-left : goal.returns-in-Ok-Last-clause-left
 returns-in-Ok-Last-clause-left g c = λ told tells_cell tells_clock source w fits held.
     let e = rw c.in-Ok-Last.field-0-is at c.in-Ok-Last.ensures in
-    let n = c.run_last.new in
+    let n = c.run_last-ran.new in
     left_last g.P.Plant g.C.Cell w (g.K.Clock.moments c.args.clock.now) (g.S.Source.left c.args.source.now) c.in-Ok-Last.line c.as_slice-in-Ok-Last.result.now c.args.plant.now n.plant n.cell n.session (g.K.Clock.moments n.clock)
-    (e.took source).0 (e.last c.in-Ok-Last.line refl).0 c.as_slice-in-Ok-Last.ensures c.run_last.result (c.run_last.ensures.left told tells_cell tells_clock w fits (held_last w (g.K.Clock.moments c.args.clock.now) (g.S.Source.left c.args.source.now) c.in-Ok-Last.line c.as_slice-in-Ok-Last.result.now (e.took source).0 (e.last c.in-Ok-Last.line refl).0 c.as_slice-in-Ok-Last.ensures held))
+    (e.took source).0 (e.last c.in-Ok-Last.line refl).0 c.as_slice-in-Ok-Last.ensures c.run_last-ran.result (c.run_last-ran.ensures.left told tells_cell tells_clock w fits (held_last w (g.K.Clock.moments c.args.clock.now) (g.S.Source.left c.args.source.now) c.in-Ok-Last.line c.as_slice-in-Ok-Last.result.now (e.took source).0 (e.last c.in-Ok-Last.line refl).0 c.as_slice-in-Ok-Last.ensures held))
 
 pub returns-in-Ok-Last-clause-took : goal.returns-in-Ok-Last-clause-took
 returns-in-Ok-Last-clause-took g c = λ source.
     let e = rw c.in-Ok-Last.field-0-is at c.in-Ok-Last.ensures in
     let took = e.took source in
-    took_last (g.S.Source.left c.args.source.now) (g.S.Source.left c.take_line.new.source) c.in-Ok-Last.line c.take_line.new.taken c.run_last.result took.0 took.1 (e.last c.in-Ok-Last.line refl).2 c.run_last.ensures.ends
+    took_last (g.S.Source.left c.args.source.now) (g.S.Source.left c.take_line.new.source) c.in-Ok-Last.line c.take_line.new.taken c.run_last-ran.result took.0 took.1 (e.last c.in-Ok-Last.line refl).2 c.run_last-ran.ensures.ends
 
 pub returns-in-Ok-End-clause-took : goal.returns-in-Ok-End-clause-took
 returns-in-Ok-End-clause-took g c = λ source.

@@ -2,47 +2,59 @@ use Rattle.std.proofs.Common.{subst}
 use Rattle.std.specs.Prelude.{IfOk}
 use Rattle.restore_commands.specs.Answers.{RestoreAnswer}
 use Rattle.restore_commands.specs.Leaving.{IsAnswer, OnTheWay}
-use Rattle.backup_session.proofs.RestoreLaws.{one_is, disk_is, set_is, may_one, may_disk, may_set}
+use Rattle.backup_session.proofs.RestoreLaws.{volumes_are, may_volumes}
 use Rattle.backup_session.proofs.restoring.restored.Goals as goal
 
-pub returns-in-Volrestore-clause-answer : goal.returns-in-Volrestore-clause-answer
-returns-in-Volrestore-clause-answer g c = λ told seen a is.
+pub returns-in-One-clause-answer : goal.returns-in-One-clause-answer
+returns-in-One-clause-answer g c = λ told seen a is.
     let old = g.C.Cell.list c.args.cell.now in
     let new = g.C.Cell.list c.restore_volume.new.cell in
     subst (λ (x : RestoreAnswer). IfOk c.restore_volume.result (λ reply. IsAnswer x reply old new))
-    (one_is a c.args.budb.now.database.sets old c.args.time c.args.command.now _ _ _ _ _ _ c.manner.result c.in-Volrestore.is c.manner.ensures) (c.restore_volume.ensures.answer told seen a is)
+    (volumes_are a c.args.budb.now.database.sets old c.args.time c.args.command.now _ c.manner_at-manner.result c.in-One.is c.manner_at-manner.ensures) (c.restore_volume.ensures.answer told seen a is)
 
-pub returns-in-Volrestore-clause-left : goal.returns-in-Volrestore-clause-left
-returns-in-Volrestore-clause-left g c = λ told seen a is.
+pub returns-in-One-clause-left : goal.returns-in-One-clause-left
+returns-in-One-clause-left g c = λ told seen a is.
     let old = g.C.Cell.list c.args.cell.now in
     let new = g.C.Cell.list c.restore_volume.new.cell in
     subst (λ (x : RestoreAnswer). OnTheWay old x.cells new)
-    (one_is a c.args.budb.now.database.sets old c.args.time c.args.command.now _ _ _ _ _ _ c.manner.result c.in-Volrestore.is c.manner.ensures) (c.restore_volume.ensures.left told seen a is)
+    (volumes_are a c.args.budb.now.database.sets old c.args.time c.args.command.now _ c.manner_at-manner.result c.in-One.is c.manner_at-manner.ensures) (c.restore_volume.ensures.left told seen a is)
 
-pub returns-in-Diskrestore-clause-left : goal.returns-in-Diskrestore-clause-left
-returns-in-Diskrestore-clause-left g c = λ told seen a is.
+pub returns-in-One-clause-may : goal.returns-in-One-clause-may
+returns-in-One-clause-may g c = λ seen.
+    may_volumes c.args.budb.now.database c.args.time c.args.command.now _ c.manner_at-manner.result (g.C.Cell.list c.args.cell.now) (g.C.Cell.list c.restore_volume.new.cell) c.in-One.is c.manner_at-manner.ensures (c.restore_volume.ensures.may seen)
+
+pub returns-in-OfDisk-clause-answer : goal.returns-in-OfDisk-clause-answer
+returns-in-OfDisk-clause-answer g c = λ told seen a is.
+    let old = g.C.Cell.list c.args.cell.now in
+    let new = g.C.Cell.list c.restore_disk.new.cell in
+    subst (λ (x : RestoreAnswer). IfOk c.restore_disk.result (λ reply. IsAnswer x reply old new))
+    (volumes_are a c.args.budb.now.database.sets old c.args.time c.args.command.now _ c.manner_at-manner.result c.in-OfDisk.is c.manner_at-manner.ensures) (c.restore_disk.ensures.answer told seen a is)
+
+pub returns-in-OfDisk-clause-left : goal.returns-in-OfDisk-clause-left
+returns-in-OfDisk-clause-left g c = λ told seen a is.
     let old = g.C.Cell.list c.args.cell.now in
     let new = g.C.Cell.list c.restore_disk.new.cell in
     subst (λ (x : RestoreAnswer). OnTheWay old x.cells new)
-    (disk_is a c.args.budb.now.database.sets old c.args.time c.args.command.now _ _ _ _ _ _ c.manner-in-Diskrestore.result c.in-Diskrestore.is c.manner-in-Diskrestore.ensures) (c.restore_disk.ensures.left told seen a is)
+    (volumes_are a c.args.budb.now.database.sets old c.args.time c.args.command.now _ c.manner_at-manner.result c.in-OfDisk.is c.manner_at-manner.ensures) (c.restore_disk.ensures.left told seen a is)
 
-pub returns-in-Volsetrestore-clause-left : goal.returns-in-Volsetrestore-clause-left
-returns-in-Volsetrestore-clause-left g c = λ told seen a is.
+pub returns-in-OfDisk-clause-may : goal.returns-in-OfDisk-clause-may
+returns-in-OfDisk-clause-may g c = λ seen.
+    may_volumes c.args.budb.now.database c.args.time c.args.command.now _ c.manner_at-manner.result (g.C.Cell.list c.args.cell.now) (g.C.Cell.list c.restore_disk.new.cell) c.in-OfDisk.is c.manner_at-manner.ensures (c.restore_disk.ensures.may seen)
+
+pub returns-in-OfSet-clause-answer : goal.returns-in-OfSet-clause-answer
+returns-in-OfSet-clause-answer g c = λ told seen a is.
+    let old = g.C.Cell.list c.args.cell.now in
+    let new = g.C.Cell.list c.restore_set.new.cell in
+    subst (λ (x : RestoreAnswer). IfOk c.restore_set.result (λ reply. IsAnswer x reply old new))
+    (volumes_are a c.args.budb.now.database.sets old c.args.time c.args.command.now _ c.manner_at-manner.result c.in-OfSet.is c.manner_at-manner.ensures) (c.restore_set.ensures.answer told seen a is)
+
+pub returns-in-OfSet-clause-left : goal.returns-in-OfSet-clause-left
+returns-in-OfSet-clause-left g c = λ told seen a is.
     let old = g.C.Cell.list c.args.cell.now in
     let new = g.C.Cell.list c.restore_set.new.cell in
     subst (λ (x : RestoreAnswer). OnTheWay old x.cells new)
-    (set_is a c.args.budb.now.database.sets old c.args.time c.args.command.now _ _ _ c.manner-in-Volsetrestore.result c.in-Volsetrestore.is c.manner-in-Volsetrestore.ensures) (c.restore_set.ensures.left told seen a is)
+    (volumes_are a c.args.budb.now.database.sets old c.args.time c.args.command.now _ c.manner_at-manner.result c.in-OfSet.is c.manner_at-manner.ensures) (c.restore_set.ensures.left told seen a is)
 
-pub returns-in-Volrestore-clause-may : goal.returns-in-Volrestore-clause-may
-returns-in-Volrestore-clause-may g c = λ seen.
-    may_one c.args.budb.now.database c.args.time c.args.command.now (g.C.Cell.list c.args.cell.now) (g.C.Cell.list c.restore_volume.new.cell) _ _ _ _ _ _ c.manner.result c.in-Volrestore.is c.manner.ensures (c.restore_volume.ensures.may seen)
-
-pub returns-in-Diskrestore-clause-may : goal.returns-in-Diskrestore-clause-may
-returns-in-Diskrestore-clause-may g c = λ seen.
-    may_disk c.args.budb.now.database c.args.time c.args.command.now (g.C.Cell.list c.args.cell.now) (g.C.Cell.list c.restore_disk.new.cell) _ _ _ _ _ _ c.manner-in-Diskrestore.result c.in-Diskrestore.is c.manner-in-Diskrestore.ensures
-    (c.restore_disk.ensures.may seen)
-
-pub returns-in-Volsetrestore-clause-may : goal.returns-in-Volsetrestore-clause-may
-returns-in-Volsetrestore-clause-may g c = λ seen.
-    may_set c.args.budb.now.database c.args.time c.args.command.now (g.C.Cell.list c.args.cell.now) (g.C.Cell.list c.restore_set.new.cell) _ _ _ c.manner-in-Volsetrestore.result c.in-Volsetrestore.is c.manner-in-Volsetrestore.ensures
-    (c.restore_set.ensures.may seen)
+pub returns-in-OfSet-clause-may : goal.returns-in-OfSet-clause-may
+returns-in-OfSet-clause-may g c = λ seen.
+    may_volumes c.args.budb.now.database c.args.time c.args.command.now _ c.manner_at-manner.result (g.C.Cell.list c.args.cell.now) (g.C.Cell.list c.restore_set.new.cell) c.in-OfSet.is c.manner_at-manner.ensures (c.restore_set.ensures.may seen)

@@ -7,7 +7,7 @@ use Rattle.plant_effects.specs.Runs.{state_of}
 use Rattle.plant_effects.proofs.Joining.{nothing_quiet, quiet_both}
 use Rattle.tape_scan.specs.Looking.{Loads}
 use Rattle.tape_scan.proofs.Looking.{loads_none, loads_both, leaves_after, leaves_loads}
-use Rattle.dump_commands.proofs.Stopping.{on_stop, handed}
+use Rattle.dump_courses.proofs.Stopping.{on_stop, handed}
 use Rattle.backup_session.specs.declared.stops.Stop.TheVariants as stops
 use Rattle.backup_session.specs.Scanning.{scans_of}
 use Rattle.backup_session.proofs.ScanLaws.{scan_again}

@@ -2,8 +2,8 @@ use Rattle.std.proofs.Common.{[]}
 use Rattle.plant_effects.specs.Runs.{state_of}
 use Rattle.plant_effects.proofs.Joining.{leaves_more}
 use Rattle.tape_scan.proofs.Looking.{a_load_loads, a_load_leaves, leaves_loads}
-use Rattle.dump_commands.specs.Ahead.{IsAhead}
-use Rattle.dump_commands.proofs.Ahead.{ahead_within, loads_ahead, loads_leave, leaves_ahead}
+use Rattle.dump_courses.specs.Ahead.{IsAhead}
+use Rattle.dump_courses.proofs.Ahead.{ahead_within, loads_ahead, loads_leave, leaves_ahead}
 use Rattle.backup_session.specs.Tapes.{putting_label}
 use Rattle.backup_session.proofs.tapes.write_label.Goals as goal
 

@@ -19,7 +19,7 @@ use Rattle.session_archives.specs.Ready.{IsReady, RestoresApartThroughout, at_fi
 use Rattle.backup_top.specs.declared.status.Status.{Status}
 use Rattle.backup_top.specs.declared.status.Status.TheVariants.{MediaFault}
 use Rattle.backup_top.specs.Courses.{Course, course, outcome, at_rest, Runs, TellsLines, TakesBy, RefusesJournal, HasCauseAs}
-use Rattle.backup_top.proofs.Lowering.{opened_rests, shown_log, journal_damaged, still_left, nothing_since, images_left, reads_past, none_some, same_files, shown_told, told_to, untold_to, nothing_same, images_same}
+use Rattle.backup_top.proofs.Lowering.{opened_rests, shown_log, journal_damaged, still_left, nothing_since, images_left, reads_past, none_some, same_files, shown_told, told_to, untold_to, least_to, untold_least, nothing_same, images_same}
 use Rattle.backup_top.proofs.StillLaws.{IsWhole, not_opened, whole_ends}
 use Rattle.backup_top.proofs.TapeCounts.{has_tapes}
 use Rattle.backup_top.proofs.CourseLaws.{OpenedForms, has_forms, ready_for, AbsentStay, leaves_media, runs_of, runs_not_opened, journal_of_log, told_lines, opening_lines, takes_run, takes_opening, opening_later, bad_log_answer, cell_answer, plant_answer, refuses_journal, opening_bad, opening_cause, bad_journal, damaged_journal, journaled, images_of, ends_past, ends_front, runs_in, runs_front, left_whole}
@@ -281,6 +281,7 @@ returns-in-Ok-clause-cell_at_end g c = λ told tells_cell tells_clock source jou
       clock = left.clock;
       run = runs_in k _ left.stage.whole same at_end.took at_end.begun;
       told = told_to stock.told (stock_of (M.seen back)).told (shown_of M.seen n.plant).told left.stage.effects shown (ap (λ (x : Stock). x.told) (e.stock told)) (shown_told M.seen n.plant back c.into_media.ensures.media) (left.leaves.told told);
+      least = least_to stock.told (stock_of (M.seen back)).told (shown_of M.seen n.plant).told left.stage.whole shown (ap (λ (x : Stock). x.told) (e.stock told)) (shown_told M.seen n.plant back c.into_media.ensures.media) (left.least told);
     }
 
 pub returns-in-Err-clause-cell_at_end : goal.returns-in-Err-clause-cell_at_end
@@ -289,7 +290,7 @@ returns-in-Err-clause-cell_at_end g c = λ told tells_cell tells_clock source jo
     let media = c.args.media in
     let back = c.in-Err.unopened.media in
     let k : Course = course M.seen M.count M.present c.args.config journal.log contents media back (g.C.Cell.list c.args.cell.now) (g.C.Cell.list c.args.cell.now) (g.K.Clock.moments c.args.clock.now) (g.K.Clock.moments c.args.clock.now) (g.S.Source.left c.args.source.now) (g.S.Source.left c.args.source.now) in
-    record { stage = between [] k.world k.moments; on_the_way = stage_front [] k.world k.moments (lines k.input); is = refl; clock = refl; run = runs_front k refl; told = untold_to (stock_of (M.seen media)).told (stock_of (M.seen back)).told (ap (λ (image : Image). image.told) (c.in-Err.ensures.seen told)) }
+    record { stage = between [] k.world k.moments; on_the_way = stage_front [] k.world k.moments (lines k.input); is = refl; clock = refl; run = runs_front k refl; told = untold_to (stock_of (M.seen media)).told (stock_of (M.seen back)).told (ap (λ (image : Image). image.told) (c.in-Err.ensures.seen told)); least = untold_least (stock_of (M.seen media)).told (stock_of (M.seen back)).told (ap (λ (image : Image). image.told) (c.in-Err.ensures.seen told)) }
 
 pub returns-in-Ok-clause-still : goal.returns-in-Ok-clause-still
 returns-in-Ok-clause-still g c = λ told tells_cell tells_clock source still named says journal contents held whole.

@@ -6,7 +6,7 @@ use Rattle.budb_changes.specs.Bytes.{encoded}
 use Rattle.backup_script.specs.Scripts.{between}
 use Rattle.backup_script.proofs.StageLaws.{stage_front}
 use Rattle.backup_top.specs.Courses.{Course, course_of, outcome}
-use Rattle.backup_top.proofs.Lowering.{still_left, nothing_since, nothing_same, untold_to}
+use Rattle.backup_top.proofs.Lowering.{still_left, nothing_since, nothing_same, untold_to, untold_least}
 use Rattle.plant_media.specs.Laws.{below}
 use Rattle.backup_top.proofs.StillLaws.{not_begun}
 use Rattle.backup_top.proofs.TapeCounts.{has_tapes}
@@ -75,7 +75,7 @@ returns-in-Err-clause-cell_at_end g c = λ runs told tells_cell tells_clock sour
     let M = g.M.Media in
     let media = c.args.media in
     let k : Course = course_of M.seen M.count M.present contents media entry media (g.C.Cell.list c.args.cell.now) (g.C.Cell.list c.args.cell.now) (g.K.Clock.moments c.args.clock.now) (g.K.Clock.moments c.args.clock.now) (g.S.Source.left c.args.source.now) (g.S.Source.left c.args.source.now) in
-    record { stage = between [] k.world k.moments; on_the_way = stage_front [] k.world k.moments (lines k.input); is = refl; clock = refl; run = runs_front k refl; told = untold_to (stock_of (M.seen media)).told (stock_of (M.seen media)).told refl }
+    record { stage = between [] k.world k.moments; on_the_way = stage_front [] k.world k.moments (lines k.input); is = refl; clock = refl; run = runs_front k refl; told = untold_to (stock_of (M.seen media)).told (stock_of (M.seen media)).told refl; least = untold_least (stock_of (M.seen media)).told (stock_of (M.seen media)).told refl }
 
 pub returns-in-Err-clause-takes : goal.returns-in-Err-clause-takes
 returns-in-Err-clause-takes g c = λ runs source. takes_nothing (g.S.Source.left c.args.source.now)

@@ -1,8 +1,6 @@
 use Rattle.std.proofs.Common.{◌≡◌, ℕ, ◌+◌, ◌-◌, ◌++◌, ◌∷◌, [], map, sym, ◌∙◌, ap, arith}
-use Rattle.std.specs.Prelude.{true}
-use Rattle.backup_words.specs.declared.command.Command.TheVariants.{Scantape}
 use Rattle.rehearsal.specs.Names.{volumes}
-use Rattle.rehearsal.specs.Commands.{restoring}
+use Rattle.rehearsal.specs.Commands.{restoring, scanning}
 use Rattle.rehearsal.proofs.Counting.{mapped_more}
 use Rattle.rehearsal.proofs.commands.scanning.Goals as goal
 
@@ -13,4 +11,4 @@ loop-volume-preserved c =
     let next : v - 1 + 1 ≡ v = omega (arith, c.loop-volume.auto.volume) in
     let last : v + 1 - 1 ≡ v = omega arith in
     c.in_ok-push-2.ensures.ok ∙ (λ i. c.loop-volume.invariant i ++ c.in_ok-restoring.ensures i ∷ [])
-    ∙ mapped_more restoring front (Scantape true 0) (v - 1) v next ∙ ap (λ (n : ℕ). front ++ Scantape true 0 ∷ map restoring (volumes n)) (sym last)
+    ∙ mapped_more restoring front scanning (v - 1) v next ∙ ap (λ (n : ℕ). front ++ scanning ∷ map restoring (volumes n)) (sym last)

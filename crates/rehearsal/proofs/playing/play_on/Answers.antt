@@ -10,7 +10,7 @@ returns-clause-told g c = λ told tells_cell w stands config time finds.
     let C = g.C.Cell in
     let f = c.in-Ok.ensures.stands told in
     let fits = opened_stands P C w c.args.config c.args.plant.now c.open.new.plant c.args.cell.now c.open.new.cell c.in-Ok.session stands config time f.0 f.1 f.2 (f.3 tells_cell) in
-    c.into_bytes.ensures ∙ (c.in_ok-play.ensures.played told tells_cell (start w) (record { fits = fits; told = c.new-told.ensures }) finds).told
+    c.into_bytes.ensures ∙ (c.in_ok-played.ensures.played told tells_cell (start w) (record { fits = fits; told = c.new-told.ensures }) finds).told
 
 pub returns-clause-stands : goal.returns-clause-stands
 returns-clause-stands g c = λ told tells_cell w stands config time finds.
@@ -18,4 +18,4 @@ returns-clause-stands g c = λ told tells_cell w stands config time finds.
     let C = g.C.Cell in
     let f = c.in-Ok.ensures.stands told in
     let fits = opened_stands P C w c.args.config c.args.plant.now c.open.new.plant c.args.cell.now c.open.new.cell c.in-Ok.session stands config time f.0 f.1 f.2 (f.3 tells_cell) in
-    left_stands P C (played (start w) c.args.batches.now).world c.play.new.plant c.play.new.cell c.play.new.session (c.in_ok-play.ensures.played told tells_cell (start w) (record { fits = fits; told = c.new-told.ensures }) finds).fits
+    left_stands P C (played (start w) c.args.batches.now).world c.play-played.new.plant c.play-played.new.cell c.play-played.new.session (c.in_ok-played.ensures.played told tells_cell (start w) (record { fits = fits; told = c.new-told.ensures }) finds).fits

@@ -2,7 +2,7 @@ use Rattle.std.proofs.Common.{List, sym, ◌∙◌, ap, subst}
 use Rattle.budb_changes.specs.declared.records.DumpRecordFields.{DumpRecordFields}
 use Rattle.budb_fold.specs.declared.database.Database.{Database}
 use Rattle.tape_scan.proofs.Looking.{loads_none, leaves_loads}
-use Rattle.restore_commands.specs.declared.choices.Choice.{Choice}
+use Rattle.backup_words.specs.declared.command.Wanted.{Wanted}
 use Rattle.restore_commands.specs.Choices.{disk_choices}
 use Rattle.restore_commands.specs.Answers.{all_answer}
 use Rattle.restore_commands.specs.Leaving.{OnTheWay}
@@ -16,7 +16,7 @@ returns-in-Ok-clause-left g c = λ told seen a is.
     let new = C.list c.restore_all.new.cell in
     let disk = c.args.disk.now in
     let listed = c.as_slice.ensures ∙ ap (λ (d : Database). d.listed) c.database.ensures ∙ sym is.lists in
-    subst (λ (cs : List Choice). OnTheWay old (all_answer a old c.args.manner.now cs).cells new)
+    subst (λ (cs : List Wanted). OnTheWay old (all_answer a old c.args.manner.now cs).cells new)
     (c.as_slice-in-Ok.ensures ∙ c.in-Ok.ensures ∙ ap (λ (l : List DumpRecordFields). disk_choices l disk) listed)
     (c.restore_all.ensures.left told seen a is)
 

@@ -1,7 +1,7 @@
 use Rattle.std.proofs.Common.{List, ◌∙◌, ap, subst}
 use Rattle.budb_changes.specs.declared.records.DumpRecordFields.{DumpRecordFields}
 use Rattle.budb_fold.specs.declared.database.Database.{Database}
-use Rattle.restore_commands.specs.declared.choices.Choice.{Choice}
+use Rattle.backup_words.specs.declared.command.Wanted.{Wanted}
 use Rattle.restore_commands.specs.Choices.{set_choices}
 use Rattle.restore_commands.specs.Answers.{all_answer}
 use Rattle.restore_commands.specs.Leaving.{OnTheWay}
@@ -16,7 +16,7 @@ returns-in-Ok-clause-left g c = λ told seen a is.
     let new = C.list c.restore_all.new.cell in
     let entries = c.args.entries.now in
     let listed = c.as_slice.ensures ∙ ap (λ (d : Database). d.listed) c.database.ensures in
-    subst (λ (cs : List Choice). OnTheWay old (all_answer a old c.args.manner.now cs).cells new)
+    subst (λ (cs : List Wanted). OnTheWay old (all_answer a old c.args.manner.now cs).cells new)
     (c.as_slice-in-Ok.ensures ∙ c.in-Ok.ensures ∙ ap (λ (l : List DumpRecordFields). set_choices l entries) listed)
     (c.restore_all.ensures.left told seen a is)
 

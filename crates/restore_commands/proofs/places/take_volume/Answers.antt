@@ -1,7 +1,7 @@
 use Rattle.std.proofs.Common.{Bool, sym, ◌∙◌, ap, subst}
 use Rattle.cell_core.specs.Answers.{Changes}
 use Rattle.restore_target.specs.Targets.{after_restore}
-use Rattle.restore_commands.specs.Answers.{Wanted, Manner}
+use Rattle.restore_commands.specs.Answers.{Manner}
 use Rattle.restore_commands.specs.Steps.{tried}
 use Rattle.restore_commands.proofs.places.take_volume.Goals as goal
 
@@ -22,6 +22,4 @@ returns-else-manner-clause-answer g c = λ seen.
     let w = c.args.wanted.now in
     subst (λ (b : Bool). Changes (tried b old (after_restore old w.server w.partition c.args.target.now c.args.manner.now.time c.args.volume)) old c.put_restored.result new)
     (sym c.if-manner.false ∙ ap (λ (m : Manner). m.is_trial) c.manner.view_is)
-    (subst (λ (m : Manner). Changes (after_restore old w.server w.partition c.args.target.now m.time c.args.volume) old c.put_restored.result new) c.manner.view_is
-    (subst (λ (x : Wanted). Changes (after_restore old x.server x.partition c.args.target.now c.manner.inside.time c.args.volume) old c.put_restored.result new) c.wanted.view_is
-    (c.put_restored.ensures.answer seen)))
+    (subst (λ (m : Manner). Changes (after_restore old w.server w.partition c.args.target.now m.time c.args.volume) old c.put_restored.result new) c.manner.view_is (c.put_restored.ensures.answer seen))

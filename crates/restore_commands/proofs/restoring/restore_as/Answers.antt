@@ -1,5 +1,5 @@
-use Rattle.std.proofs.Common.{inl, refl, ap, Ok, Err}
-use Rattle.restore_commands.specs.Answers.{Wanted, volume_answer}
+use Rattle.std.proofs.Common.{inl, refl, Ok, Err}
+use Rattle.restore_commands.specs.Answers.{volume_answer}
 use Rattle.restore_commands.proofs.PutLaws.{stayed_on}
 use Rattle.restore_commands.proofs.FoundLaws.{plan_refused, refused_answer, archive_later, plans_there, plans_of}
 use Rattle.restore_commands.proofs.Idle.{cell_idle, looked, refused_look, looked_on}
@@ -11,7 +11,7 @@ returns-in-Ok-clause-answer g c = λ told seen a is.
     let listed = c.args.budb.now.database.listed in
     let e = c.in-Ok.ensures in
     c.restore_planned.ensures.answer told seen a (archive_later P listed a c.args.plant.now c.plan.new.plant (e.done (λ bad. absurd (cc))) e.stays told is)
-    (plans_of a.slots listed c.wanted.inside.name.now c.wanted.inside.before c.args.wanted.now (Ok c.in-Ok.plan) (ap (λ (w : Wanted). w.name) c.wanted.view_is) (ap (λ (w : Wanted). w.before) c.wanted.view_is) (e.planned told a.slots is.slots))
+    (plans_of a.slots listed c.args.wanted.now.name c.args.wanted.now.before c.args.wanted.now (Ok c.in-Ok.plan) refl refl (e.planned told a.slots is.slots))
 
 pub returns-in-Ok-clause-left : goal.returns-in-Ok-clause-left
 returns-in-Ok-clause-left g c = λ told seen a is.
@@ -19,7 +19,7 @@ returns-in-Ok-clause-left g c = λ told seen a is.
     let listed = c.args.budb.now.database.listed in
     let e = c.in-Ok.ensures in
     c.restore_planned.ensures.left told seen a (archive_later P listed a c.args.plant.now c.plan.new.plant (e.done (λ bad. absurd (cc))) e.stays told is)
-    (plans_of a.slots listed c.wanted.inside.name.now c.wanted.inside.before c.args.wanted.now (Ok c.in-Ok.plan) (ap (λ (w : Wanted). w.name) c.wanted.view_is) (ap (λ (w : Wanted). w.before) c.wanted.view_is) (e.planned told a.slots is.slots))
+    (plans_of a.slots listed c.args.wanted.now.name c.args.wanted.now.before c.args.wanted.now (Ok c.in-Ok.plan) refl refl (e.planned told a.slots is.slots))
 
 pub returns-in-Ok-clause-looks : goal.returns-in-Ok-clause-looks
 returns-in-Ok-clause-looks g c =
@@ -38,8 +38,8 @@ returns-in-Err-clause-answer g c = λ told seen a is.
     let target = c.args.target.now in
     let fault = c.in-Err.fault in
     let e = c.in-Err.ensures in
-    let plans = plans_there P listed a c.args.plant.now is wanted.name wanted.before (Err fault) (plans_of a.slots listed c.wanted.inside.name.now c.wanted.inside.before wanted (Err fault) (ap (λ (w : Wanted). w.name) c.wanted.view_is) (ap (λ (w : Wanted). w.before) c.wanted.view_is) (e.planned told a.slots is.slots)) in
-    refused_answer a old old c.args.manner.now wanted target c.requires.target c.refuse.result fault c.wanted.inside.name.now (ap (λ (w : Wanted). w.name) c.wanted.view_is) c.refuse.ensures.failed c.refuse.ensures.memory c.refuse.ensures.text
+    let plans = plans_there P listed a c.args.plant.now is wanted.name wanted.before (Err fault) (plans_of a.slots listed c.args.wanted.now.name c.args.wanted.now.before wanted (Err fault) refl refl (e.planned told a.slots is.slots)) in
+    refused_answer a old old c.args.manner.now wanted target c.requires.target c.refuse.result fault c.args.wanted.now.name refl c.refuse.ensures.failed c.refuse.ensures.memory c.refuse.ensures.text
     (λ went kept. plan_refused a wanted.name wanted.before target fault e.only went kept plans) refl
 
 pub returns-in-Err-clause-left : goal.returns-in-Err-clause-left

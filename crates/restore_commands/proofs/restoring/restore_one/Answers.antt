@@ -8,7 +8,7 @@ use Rattle.restore_commands.proofs.restoring.restore_one.Goals as goal
 pub restore_as-requires-clause-target : goal.restore_as-requires-clause-target
 restore_as-requires-clause-target g c =
     c.as_slice.ensures ∙ c.in-Ok.ensures
-    ∙ (λ i. target_text ((c.wanted.view_is i).name) ((c.manner.view_is i).extension))
+    ∙ (λ i. target_text c.args.wanted.now.name ((c.manner.view_is i).extension))
 
 pub returns-in-Err-clause-left : goal.returns-in-Err-clause-left
 returns-in-Err-clause-left g c = λ told seen a is. stayed_on (g.C.Cell.list c.args.cell.now) (volume_answer a (g.C.Cell.list c.args.cell.now) c.args.manner.now c.args.wanted.now).cells (g.C.Cell.list c.args.cell.now) refl

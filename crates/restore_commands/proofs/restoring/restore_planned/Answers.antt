@@ -1,8 +1,8 @@
-use Rattle.std.proofs.Common.{inl, refl, ap, Ok, Err}
+use Rattle.std.proofs.Common.{inl, refl, Ok, Err}
 use Rattle.std.proofs.lemmas.Result.{IfOk-weaker}
 use Rattle.restore_target.specs.Targets.{after_restore}
 use Rattle.restore_commands.specs.declared.told.Told.{Told}
-use Rattle.restore_commands.specs.Answers.{Wanted, put_answer, volume_answer}
+use Rattle.restore_commands.specs.Answers.{put_answer, volume_answer}
 use Rattle.restore_commands.specs.Steps.{planned_lines, IsToldSo}
 use Rattle.restore_commands.proofs.PutLaws.{stayed_on}
 use Rattle.restore_commands.proofs.FoundLaws.{play_refused, refused_answer, put_told, put_left, plans_there, played_from, volume_from}
@@ -62,7 +62,7 @@ returns-in-Err-clause-answer g c = λ told seen a is plans.
     let plan = c.args.plan.now in
     let fault = c.in-Err.fault in
     let from = played_from P listed a plant is wanted.name wanted.before plan (Err fault) plans (λ of. c.in-Err.ensures.played told a.slots is.slots of) in
-    refused_answer a old old c.args.manner.now wanted target c.requires.target c.refuse.result fault c.wanted.inside.name.now (ap (λ (w : Wanted). w.name) c.wanted.view_is) c.refuse.ensures.failed c.refuse.ensures.memory c.refuse.ensures.text
+    refused_answer a old old c.args.manner.now wanted target c.requires.target c.refuse.result fault c.args.wanted.now.name refl c.refuse.ensures.failed c.refuse.ensures.memory c.refuse.ensures.text
     (λ went kept. play_refused a wanted.name wanted.before target fault went kept from) refl
 
 pub returns-in-Err-clause-left : goal.returns-in-Err-clause-left

@@ -16,7 +16,7 @@ use Rattle.backup_replies.specs.Texts.{refused_number}
 use Rattle.backup_session.specs.Views.{SessionView}
 use Rattle.backup_session.specs.Scanning.{time_with}
 use Rattle.backup_session.proofs.ScanLaws.{add_left, full_is, full_stepped, room_is, added_stepped, added_stopped}
-use Rattle.dump_commands.proofs.Stopping.{on_stop, left_standing, left_same}
+use Rattle.dump_courses.proofs.Stopping.{on_stop, left_standing, left_same}
 use Rattle.backup_session.specs.declared.stops.Stop.TheVariants as stops
 use Rattle.backup_session.proofs.session.Session.add.Goals as goal
 

@@ -10,8 +10,8 @@ use Rattle.backup_session.proofs.ScanLaws.{start_stepped, start_full, next_stepp
 use Rattle.std.specs.Prelude.{Err}
 use Rattle.std.proofs.lemmas.Result.{err_from_is_err_and}
 use Rattle.backup_session.specs.declared.stops.Stop.TheVariants as stops
-use Rattle.dump_commands.specs.Ahead.{LeftAhead}
-use Rattle.dump_commands.proofs.Stopping.{on_stop, handed, left_whole}
+use Rattle.dump_courses.specs.Ahead.{LeftAhead}
+use Rattle.dump_courses.proofs.Stopping.{on_stop, handed, left_whole}
 use Rattle.backup_session.proofs.session.Session.add_all.Goals as goal
 
 pub loop-dump-init : goal.loop-dump-init

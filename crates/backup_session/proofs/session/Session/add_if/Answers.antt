@@ -13,8 +13,8 @@ use Rattle.backup_session.specs.Scanning.{Step, added_if}
 use Rattle.backup_session.specs.Fitting.{Stepped}
 use Rattle.backup_session.proofs.ScanLaws.{said_stepped, known_is, wrong_is, over_is, free_is, listed_is}
 use Rattle.backup_session.specs.declared.stops.Stop.TheVariants as stops
-use Rattle.dump_commands.specs.Ahead.{LeftAhead}
-use Rattle.dump_commands.proofs.Stopping.{on_stop, left_standing}
+use Rattle.dump_courses.specs.Ahead.{LeftAhead}
+use Rattle.dump_courses.proofs.Stopping.{on_stop, left_standing}
 use Rattle.backup_session.proofs.session.Session.add_if.Goals as goal
 
 pub returns-then-any_of_id-clause-leaves : goal.returns-then-any_of_id-clause-leaves

@@ -13,7 +13,7 @@ use Rattle.backup_session.proofs.Carrying.{turn_done, stands_at, turned_at, some
 use Rattle.backup_session.proofs.TapeBounds.{stands_tapes}
 use Rattle.backup_session.proofs.TurnLaws.{scan_lists, listed_again}
 use Rattle.backup_session.specs.declared.stops.Stop.TheVariants as stops
-use Rattle.dump_commands.specs.Ahead.{LeftAhead}
+use Rattle.dump_courses.specs.Ahead.{LeftAhead}
 use Rattle.backup_session.proofs.session.Session.exec.Goals as goal
 
 pub returns-clause-turned : goal.returns-clause-turned
@@ -89,7 +89,7 @@ returns-clause-some_restore g c = λ told seen w fits is.
     c.run.ensures.some_restore told seen (at_moment w c.args.now) here is
 
 pub returns-clause-may : goal.returns-clause-may
-returns-clause-may g c = λ told seen w fits is.
+returns-clause-may g c = λ told seen w fits asked is.
     let P = g.P.Plant in
     let C = g.C.Cell in
     let old = c.args.plant.now in
@@ -97,7 +97,7 @@ returns-clause-may g c = λ told seen w fits is.
     let was = ap (λ (s : SessionView). s.time) c.self.view_is in
     let time : c.max-self-inside.result ≡ max c.args.self.now.time (min c.args.now 4294967295) = omega (arith, c.max-self-inside.ensures, c.min.ensures, was) in
     let here = stands_at P C w old c.args.cell.now c.args.self.now fits c.args.now later (ap (λ (s : SessionView). s.budb) c.self.view_is) (ap (λ (s : SessionView). s.config) c.self.view_is) time in
-    c.run.ensures.may told seen (at_moment w c.args.now) here is
+    c.run.ensures.may told seen (at_moment w c.args.now) here asked is
 
 pub returns-clause-stopped : goal.returns-clause-stopped
 returns-clause-stopped g c = λ told seen w fits.

@@ -6,7 +6,7 @@ use Rattle.backup_session.specs.Views.{SessionView}
 use Rattle.backup_session.specs.Tapes.{slot_of, label_turn}
 use Rattle.backup_session.specs.Fitting.{TurnedPlant}
 use Rattle.backup_session.proofs.Taking.{slot_is, only_said}
-use Rattle.dump_commands.proofs.Stopping.{on_stop, left_standing}
+use Rattle.dump_courses.proofs.Stopping.{on_stop, left_standing}
 use Rattle.backup_session.specs.declared.stops.Stop.TheVariants as stops
 use Rattle.backup_session.proofs.session.Session.label.Goals as goal
 

@@ -2,7 +2,7 @@ use Rattle.std.proofs.Common.{◌∙◌, ap}
 use Rattle.std.specs.Prelude.{Err}
 use Rattle.std.proofs.lemmas.Result.{err_from_is_err_and}
 use Rattle.backup_session.specs.declared.stops.Stop.TheVariants as stops
-use Rattle.dump_commands.proofs.Stopping.{on_stop, only_that}
+use Rattle.dump_courses.proofs.Stopping.{on_stop, only_that}
 use Rattle.backup_session.proofs.session.Session.label_only.Goals as goal
 
 pub returns-in_err-write_label-clause-unfailed : goal.returns-in_err-write_label-clause-unfailed

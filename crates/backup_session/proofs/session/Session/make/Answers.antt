@@ -2,7 +2,7 @@ use Rattle.backup_session.proofs.Carrying.{made_leaves}
 use Rattle.std.proofs.Common.{ℕ, ◌<◌, ap, subst}
 use Rattle.std.specs.Prelude.{Err}
 use Rattle.budb.specs.declared.fault.CommitFault.{CommitFault}
-use Rattle.dump_commands.proofs.Stopping.{on_stop, left_same}
+use Rattle.dump_courses.proofs.Stopping.{on_stop, left_same}
 use Rattle.backup_session.specs.declared.stops.Stop.TheVariants as stops
 use Rattle.backup_session.proofs.session.Session.make.Goals as goal
 

@@ -1,13 +1,13 @@
 use Rattle.std.proofs.Common.{refl, sym, subst}
+use Rattle.dump_courses.specs.declared.stop.DumpStop.TheVariants as dump_stops
+use Rattle.dump_courses.specs.Ahead.{LeftAhead}
+use Rattle.dump_courses.proofs.Stopping.{handed_as}
 use Rattle.dump_commands.specs.Answers.{dump_answer}
 use Rattle.backup_session.specs.Views.{SessionView}
 use Rattle.backup_session.specs.Dumps.{scene_of}
 use Rattle.backup_session.specs.Fitting.{Stands}
 use Rattle.backup_session.proofs.DumpLaws.{dump_finds, dump_turned}
 use Rattle.backup_session.specs.declared.stops.Stop.TheVariants as stops
-use Rattle.dump_commands.specs.declared.stop.DumpStop.TheVariants as dump_stops
-use Rattle.dump_commands.specs.Ahead.{LeftAhead}
-use Rattle.dump_commands.proofs.Stopping.{handed_as}
 use Rattle.backup_session.proofs.session.Session.make_dump.Goals as goal
 
 pub returns-in-Ok-clause-turned : goal.returns-in-Ok-clause-turned

@@ -5,7 +5,7 @@ use Rattle.backup_session.proofs.RestoreLaws.{restore_leaves, some_restore, rest
 use Rattle.backup_session.specs.declared.stops.Stop.TheVariants as stops
 use Rattle.restore_commands.specs.declared.stops.RestoreStop.TheVariants as restore_stops
 use Rattle.tape_scan.specs.Looking.{Loads}
-use Rattle.dump_commands.proofs.Stopping.{handed_as, left_loads}
+use Rattle.dump_courses.proofs.Stopping.{handed_as, left_loads}
 use Rattle.backup_session.proofs.session.Session.on_archive.Goals as goal
 
 pub returns-in-Ok-clause-turned : goal.returns-in-Ok-clause-turned

@@ -2,7 +2,7 @@ use Rattle.plant_effects.proofs.Joining.{nothing_left}
 use Rattle.budb_fold.specs.Database.{after}
 use Rattle.backup_session.specs.Verdicts.{verdict}
 use Rattle.backup_session.specs.Machine.{carried}
-use Rattle.dump_commands.proofs.Stopping.{on_stop, left_standing}
+use Rattle.dump_courses.proofs.Stopping.{on_stop, left_standing}
 use Rattle.backup_session.specs.declared.stops.Stop.TheVariants as stops
 use Rattle.backup_session.proofs.session.Session.on_database.Goals as goal
 

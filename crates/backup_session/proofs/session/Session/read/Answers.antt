@@ -7,10 +7,10 @@ use Rattle.backup_session.specs.Tapes.{slot_of, read_turn}
 use Rattle.backup_session.specs.Fitting.{TurnedPlant}
 use Rattle.backup_session.proofs.Taking.{slot_is, only_said}
 use Rattle.backup_session.specs.declared.stops.Stop.TheVariants as stops
-use Rattle.dump_commands.specs.Ahead.{LeftAhead}
+use Rattle.dump_courses.specs.Ahead.{LeftAhead}
 use Rattle.plant_effects.specs.Runs.{Done}
 use Rattle.backup_session.proofs.Settling.{done_ahead}
-use Rattle.dump_commands.proofs.Stopping.{on_stop, stopped_map, either, left_none, left_standing}
+use Rattle.dump_courses.proofs.Stopping.{on_stop, stopped_map, either, left_none, left_standing}
 use Rattle.backup_session.proofs.session.Session.read.Goals as goal
 
 pub returns-in_err-slot-clause-leaves : goal.returns-in_err-slot-clause-leaves

@@ -3,7 +3,7 @@ use Rattle.std.specs.Prelude.{Result}
 use Rattle.tape_config.specs.declared.port.PortFields.{PortFields}
 use Rattle.plant_effects.proofs.Joining.{nothing_left}
 use Rattle.budb_fold.specs.Database.{after}
-use Rattle.dump_commands.proofs.Stopping.{on_stop, left_standing}
+use Rattle.dump_courses.proofs.Stopping.{on_stop, left_standing}
 use Rattle.backup_session.specs.declared.stops.Stop.TheVariants as stops
 use Rattle.backup_session.specs.Views.{SessionView}
 use Rattle.backup_session.specs.Scanning.{port_of, scan_turn}

@@ -5,7 +5,7 @@ use Rattle.backup_session.specs.Fitting.{FitsPlant}
 use Rattle.backup_session.proofs.Shortening.{short_leaves}
 use Rattle.std.specs.Prelude.{Err}
 use Rattle.budb.specs.declared.fault.CommitFault.{CommitFault}
-use Rattle.dump_commands.proofs.Stopping.{on_stop, left_standing, left_same}
+use Rattle.dump_courses.proofs.Stopping.{on_stop, left_standing, left_same}
 use Rattle.backup_session.specs.declared.stops.Stop.TheVariants as stops
 use Rattle.backup_session.proofs.session.Session.shorten.Goals as goal
 

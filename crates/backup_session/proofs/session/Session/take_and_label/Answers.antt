@@ -14,7 +14,7 @@ use Rattle.backup_replies.specs.Texts.{refused_number}
 use Rattle.backup_session.specs.Views.{SessionView}
 use Rattle.backup_session.specs.Tapes.{labeled}
 use Rattle.backup_session.proofs.Taking.{commit_leaves, full_turned, both_leave, both_turned}
-use Rattle.dump_commands.proofs.Stopping.{on_stop, left_standing, left_same, only_that}
+use Rattle.dump_courses.proofs.Stopping.{on_stop, left_standing, left_same, only_that}
 use Rattle.std.proofs.lemmas.Result.{err_from_is_err_and}
 use Rattle.backup_session.specs.declared.stops.Stop.TheVariants as stops
 use Rattle.backup_session.proofs.session.Session.take_and_label.Goals as goal

@@ -8,8 +8,8 @@ use Rattle.backup_session.specs.Scanning.{dumps_turn}
 use Rattle.backup_session.specs.Fitting.{Stepped}
 use Rattle.backup_session.proofs.ScanLaws.{said_stepped}
 use Rattle.backup_session.specs.declared.stops.Stop.TheVariants as stops
-use Rattle.dump_commands.specs.Ahead.{LeftAhead}
-use Rattle.dump_commands.proofs.Stopping.{on_stop, left_standing}
+use Rattle.dump_courses.specs.Ahead.{LeftAhead}
+use Rattle.dump_courses.proofs.Stopping.{on_stop, left_standing}
 use Rattle.backup_session.proofs.session.Session.tell_dumps.Goals as goal
 
 pub returns-then-dbadd-clause-stepped : goal.returns-then-dbadd-clause-stepped
