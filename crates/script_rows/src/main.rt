@@ -10,6 +10,7 @@ mod numbers;
 mod order;
 mod report;
 mod script;
+mod streams;
 mod sweeps;
 mod table;
 mod tapes;

@@ -16,6 +16,8 @@
 //! - `run` runs the script and begins a new one: what it told is printed, and its status; `count` prints how many lines it told, how
 //!   many of them are refusals, and the last one. `journal` prints the journal's log,
 //!   `shape SLOT` the records of a tape, `show NAME` the vnodes of a volume.
+//! - `stream BYTES` reads bytes (in hexadecimal) as a volume's stream, and prints how many it takes, how many vnodes it lists and how
+//!   many bytes are written of it again; or `cut` or the place where it is refused.
 //! - `turn LINES FILE AT BYTE` runs the script over media that tell no content and read that byte of a file, once so many lines were
 //!   told. `sweep SLOT RECORD FIRST COUNT STEP BITS LINE` restores the volume of `sees` into an empty cell by this line, with each of so
 //!   many bytes of a record in turn changed by these bits, and prints how often each answer came, and what volume it left.
@@ -36,6 +38,7 @@
 use crate::files::{file_of_log, fill, journal, move_tape, set_byte};
 use crate::lines::print_line;
 use crate::numbers::{bytes, number, small_byte, small_number, two_words};
+use crate::streams::print_stream;
 use crate::tapes::tape_line;
 use crate::tries::try_by;
 use crate::volumes::print_volume;
@@ -244,6 +247,7 @@ fn print(
         "journal" => print_journal(alloc, world, printed),
         "shape" => print_shape(alloc, world, rest, printed),
         "show" => print_volume(alloc, &mut world.cell, rest, printed),
+        "stream" => print_stream(alloc, bytes(alloc, rest)?.as_slice(), printed),
         _ => try_by(alloc, world, verb, rest, printed),
     }
 }

@@ -1,21 +1,21 @@
-//! Scans tapes that were made by hand, puts together the dumps that are whole over them, and prints what is found, each beside a
-//! plain slow function that goes by the definition. The tapes stand as a table on standard input, whose steps `table.rt` lists: a
-//! row more is a few lines of text there and in `stdout`.
+//! Scans tapes that were made by hand, puts together the dumps that are whole over them, and prints what is found; reads blocks as
+//! frames; and fills tapes. The tapes stand as a table on standard input, whose steps `table.rt` lists: a row more is a few lines of
+//! text there and in `stdout`.
+//!
+//! What scans tell of the lists of tapes that a step `mix` has, and what is found over them, was also found by plain slow functions
+//! that go by the definitions: a tape text by the shape of its records, a dump by the first of all lists of parts. These aren't kept.
 #![tactic(auto)]
 
+mod blocks;
+mod ends;
 mod filling;
 mod frames;
+mod mixes;
 mod numbers;
 mod print;
-mod random;
 mod records;
-mod rules;
 mod scans;
-mod shape;
-mod slow_assembly;
-mod slow_scan;
 mod table;
-mod trials;
 mod world;
 
 use crate::table::run_table;

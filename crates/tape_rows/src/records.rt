@@ -1,7 +1,7 @@
-//! Records of tapes as they stand in a file, and what they say.
+//! Records of tapes as they stand in a file.
 
 use std::alloc::{AllocError, Global};
-use tape_frames::{Block, Frame, FrameFault, decode};
+use tape_frames::{Block, Frame};
 
 /// The length of the front of a tape's file.
 const FRONT: usize = 8192;
@@ -14,14 +14,6 @@ pub enum Record {
     Mark,
     Bad,
     Torn(usize),
-}
-
-/// What a record says: a frame, a filemark, or nothing that a tape of dumps may have.
-#[derive(Drop)]
-pub enum Item {
-    Says(Frame),
-    Filemark,
-    Nothing,
 }
 
 impl Record {
@@ -67,29 +59,6 @@ pub fn block_of(front: &[u8]) -> Block {
         }
     }
     block
-}
-
-/// What a record says.
-pub fn item_of(alloc: Global, record: &Record) -> anyhow::Result<Item> {
-    match record {
-        Record::Block(front) => match decode(alloc, &block_of(front.as_slice())) {
-            Ok(frame) => Ok(Item::Says(frame)),
-            Err(FrameFault::NotFrame { .. }) => Ok(Item::Nothing),
-            Err(FrameFault::Memory) => anyhow::bail!("memory was refused"),
-        },
-        Record::Mark => Ok(Item::Filemark),
-        Record::Bad => Ok(Item::Nothing),
-        Record::Torn(_) => Ok(Item::Nothing),
-    }
-}
-
-/// What records say.
-pub fn items_of(alloc: Global, records: &[Record]) -> anyhow::Result<Vec<Item>> {
-    let mut items = Vec::new(alloc);
-    for record in records {
-        items.push(item_of(alloc, record)?)?;
-    }
-    Ok(items)
 }
 
 /// The same records once more.

@@ -1,10 +1,8 @@
-//! Scans of tapes over a plant, each beside the slow function.
+//! Scans of tapes over a plant.
 
 ghost use Rattle.std.specs.Prelude.{◌≡◌, IfOk, OnOk};
 
 use crate::records::{Record, file_of};
-use crate::slow_assembly::slow_assembly;
-use crate::slow_scan::slow_scan;
 use media_core::{Media, MemMedia, Pick};
 use plant_core::Plant;
 use plant_media::MediaPlant;
@@ -81,51 +79,8 @@ pub fn assembled(alloc: Global, tapes: &[Sections]) -> anyhow::Result<Found> {
     Ok(assemble(alloc, tapes)?)
 }
 
-/// Whether two scans tell the same.
-fn is_same_scan(alloc: Global, one: &Sections, other: &Sections) -> anyhow::Result<bool> {
-    let one = format!(in alloc; "{one:?}")?;
-    let other = format!(in alloc; "{other:?}")?;
-    Ok(one.as_str() == other.as_str())
-}
-
-/// Whether the same is found.
-fn is_same_found(alloc: Global, one: &Found, other: &Found) -> anyhow::Result<bool> {
-    let one = format!(in alloc; "{one:?}")?;
-    let other = format!(in alloc; "{other:?}")?;
-    Ok(one.as_str() == other.as_str())
-}
-
-/// Whether each scan tells what the slow function tells of its tape.
-fn are_alike(alloc: Global, tapes: &[Vec<Record>], scans: &[Sections]) -> anyhow::Result<bool> {
-    for (records, scan) in tapes.iter().zip(scans.iter()) {
-        let slow = slow_scan(alloc, records.as_slice(), scan.slot)?;
-        if !is_same_scan(alloc, scan, &slow)? {
-            return Ok(false);
-        }
-    }
-    Ok(true)
-}
-
-/// What the scans of tapes tell, what is found over them, and whether the slow functions find the same.
-#[derive(Drop)]
-pub struct Looked {
-    pub scans: Vec<Sections>,
-    pub found: Found,
-    pub is_alike: bool,
-}
-
-/// Scans tapes, and puts together what is found.
-pub fn look(alloc: Global, tapes: &[Vec<Record>]) -> anyhow::Result<Looked> {
+/// What the scans of tapes tell.
+pub fn scan_all(alloc: Global, tapes: &[Vec<Record>]) -> anyhow::Result<Vec<Sections>> {
     let mut plant = plant_of(alloc, tapes)?;
-    let count = tapes.len().min(256) as u32;
-    let scans = scan_first(alloc, &mut plant, count)?;
-    let found = assembled(alloc, scans.as_slice())?;
-    let slow = slow_assembly(alloc, scans.as_slice())?;
-    let is_alike = are_alike(alloc, tapes, scans.as_slice())?
-        && is_same_found(alloc, &found, &slow)?;
-    Ok(Looked {
-        scans,
-        found,
-        is_alike,
-    })
+    scan_first(alloc, &mut plant, tapes.len().min(256) as u32)
 }

@@ -9,21 +9,25 @@
 //!   or `torn BYTES`, the front of a block. `one TAPE` puts all of a dump that has one volume of one piece. `cut N` keeps the first N
 //!   records, `copy K` makes the tape the same as another.
 //! - `scan` prints what a scan of the tape tells, `ends` what scans of its fronts tell, and `find` what is found over all tapes.
-//!   Each is looked for by the slow functions too, and a difference ends the program.
-//! - `random SEED COUNT` tries lists of tapes with changes at random.
+//!   `mix RECORD RECORD .. / RECORD .. / ..` prints how many parts scans tell of tapes with these records and where they stop, and what
+//!   is found over them: `K.I` is record I of tape K, and there are `mark` and `bad`.
+//! - `frame BYTES` prints whether a block is a frame, by its bytes in hexadecimal, behind which zeros stand; `@N` goes on at byte N.
+//!   `frames BYTE COUNT BYTES` prints where it is refused with each of its first bytes made this one, and `-` where it is a frame.
 //! - `fill BYTES LINE` dumps a volume whose stream has so many bytes to blank tapes by this line of a configuration, and prints
 //!   what stands on them. `room BLOCKS MARKS MORE MORE LINE` prints whether so many blocks and filemarks more have room on a tape that
 //!   has so many.
 //!
 //! Empty lines and lines that begin with `#` are passed over.
 
+use crate::blocks::{print_frame, print_frames};
+use crate::ends::print_ends;
 use crate::filling::{Taken, fill, room};
 use crate::frames::record_by;
+use crate::mixes::print_mix;
 use crate::numbers::{next_number, number, word};
 use crate::print::{print_found, print_line, print_sections};
 use crate::records::copy_of;
-use crate::scans::{Looked, look};
-use crate::trials::{print_ends, try_random};
+use crate::scans::{assembled, scan_all};
 use crate::world::World;
 use std::alloc::Global;
 
@@ -105,32 +109,18 @@ fn prepare(alloc: Global, world: &mut World, verb: &str, rest: &str) -> anyhow::
     Ok(true)
 }
 
-/// What is found on the tapes, which the slow functions find too.
-fn looked(alloc: Global, world: &World) -> anyhow::Result<Looked> {
-    let looked = look(alloc, world.tapes.as_slice())?;
-    if !looked.is_alike {
-        anyhow::bail!("the slow functions find another thing");
-    }
-    Ok(looked)
-}
-
 fn print_scan(alloc: Global, world: &World, printed: &mut Vec<u8>) -> anyhow::Result<()> {
-    let looked = looked(alloc, world)?;
-    match looked.scans.get(world.tape) {
+    let scans = scan_all(alloc, world.tapes.as_slice())?;
+    match scans.get(world.tape) {
         Some(scan) => print_sections(alloc, printed, scan),
         None => anyhow::bail!("there is no such tape"),
     }
 }
 
-fn print_random(
-    alloc: Global,
-    world: &World,
-    rest: &str,
-    printed: &mut Vec<u8>,
-) -> anyhow::Result<()> {
-    let (seed, rest) = next_number(rest)?;
-    let count = number(rest)?;
-    try_random(alloc, printed, world.tapes.as_slice(), seed, count)
+fn print_find(alloc: Global, world: &World, printed: &mut Vec<u8>) -> anyhow::Result<()> {
+    let scans = scan_all(alloc, world.tapes.as_slice())?;
+    let found = assembled(alloc, scans.as_slice())?;
+    print_found(alloc, printed, &found)
 }
 
 fn print_fill(
@@ -166,9 +156,11 @@ fn print(
             print_line(printed, step)
         }
         "scan" => print_scan(alloc, world, printed),
-        "find" => print_found(alloc, printed, &looked(alloc, world)?.found),
+        "find" => print_find(alloc, world, printed),
         "ends" => print_ends(alloc, printed, world.records(world.tape)),
-        "random" => print_random(alloc, world, rest, printed),
+        "mix" => print_mix(alloc, world, rest, printed),
+        "frame" => print_frame(alloc, rest, printed),
+        "frames" => print_frames(alloc, rest, printed),
         "fill" => print_fill(alloc, world, rest, printed),
         "room" => print_room(alloc, rest, printed),
         _ => anyhow::bail!("there is no step {step}"),
