@@ -2,13 +2,31 @@
 PROGRAM := crates/backup_cli/out/backup_cli
 SAMPLE := examples/one-file.dump
 LOST := out/lost/cell/fs1/vicepa/user.a.vol
+# The crates that the program's two topmost ones stand on, from the lowest up, and all that it is made from.
+BELOW := $(shell awk -F: '/^backup_program:/ { exit } /^[a-z]/ { print $$1 }' crates.txt)
+SOURCES := $(foreach crate,$(BELOW) backup_program backup_cli,$(wildcard crates/$(crate)/src crates/$(crate)/specs))
+# How many processes prove a crate.
+JOBS := $(shell n=$$(nproc); echo $$((n < 4 ? n : 4)))
 
-.PHONY: demo test try bench edge-tests
+.PHONY: all demo show prove test try bench edge-tests
 
-# Proves and builds the program, examines a sample stream, runs a sample script in a folder of its own, and shows what that left in the
-# journal and on the tape: what stands in their files behind the first 8,192 bytes. Then it dumps a volume in another folder, loses
-# volume and journal, gets both back from the tapes, and shows what the volume holds, before and after.
-demo: afsbackup
+# Proves and builds the program as ./afsbackup.
+all: afsbackup
+
+# Runs the sources UNPROVED: examine on a sample stream, a sample script over a blank tape, and a rehearsal of three volumes.
+demo:
+	@echo "Built from the sources UNPROVED, within minutes, to show what the program tells. 'make' proves and builds ./afsbackup."
+	@rm -rf out/cases && mkdir -p out/cases && : > out/blank && echo "slots:0-0 0" > out/tapeconfig
+	@cp $(SAMPLE) out/cases/1-examine && echo examine > out/cases/1-examine.args
+	@cp examples/first.script out/cases/2-run && echo run > out/cases/2-run.args
+	@: > out/cases/3-rehearse && printf 'rehearse\n3\n' > out/cases/3-rehearse.args
+	@cd crates/backup_cli && rt try --cases ../../out/cases --data tapeconfig=../../out/tapeconfig --data media/slot0=../../out/blank
+	@echo "Nothing of this was proved: 'make' proves and builds ./afsbackup."
+
+# Runs a sample script in a folder of its own, and shows what that left in the journal and on the tape: what stands in their files
+# behind the first 8,192 bytes. Then it dumps a volume in another folder, loses volume and journal, gets both back from the tapes, and
+# shows what the volume holds, before and after.
+show: afsbackup
 	@./afsbackup examine < $(SAMPLE)
 	@rm -rf out/demo && mkdir -p out/demo/media && touch out/demo/media/slot0 && echo "slots:0-0 0" > out/demo/tapeconfig
 	@cd out/demo && ../../afsbackup run < ../../examples/first.script
@@ -24,10 +42,17 @@ demo: afsbackup
 	@./afsbackup examine < $(LOST) | tail -n +2 > out/lost/after
 	@cat out/lost/after && cmp out/lost/before out/lost/after && echo "the volume is as it was"
 
-# Leaves the proved program as ./afsbackup.
+# Leaves the proved program as ./afsbackup: as rt ci left it, where no source is newer, and else proved here: each crate that it stands
+# on, from the lowest up, by several processes, and the two topmost, which load all proofs below, by one. With less than 16 GB of memory
+# give make JOBS=1.
 afsbackup: $(wildcard crates/*/src/*.rt crates/*/specs/*.antt) crates.txt
-	cd crates/backup_cli && rt run -- examine < ../../$(SAMPLE) > /dev/null
+	@test -f $(PROGRAM) && test -z "$$(find $(SOURCES) crates.txt -newer $(PROGRAM) -print -quit)" || $(MAKE) --no-print-directory prove
 	cp $(PROGRAM) afsbackup
+
+prove:
+	for crate in $(BELOW); do (cd crates/$$crate && rt lib --jobs $(JOBS)) || exit 1; done
+	cd crates/backup_program && rt lib --jobs 1
+	cd crates/backup_cli && rt run --jobs 1 -- examine < ../../$(SAMPLE)
 
 # The merge gate: every proof, every edit that must fail, every test and the program.
 test:
@@ -43,10 +68,9 @@ try:
 bench: afsbackup
 	bench/examine.sh ./afsbackup
 	bench/run.sh ./afsbackup
-	cd crates/stream_bench && rt run > /dev/null
-	bench/stream.sh crates/stream_bench/out/stream_bench
-	cd crates/tape_bench && rt run > /dev/null
-	bench/tape.sh crates/tape_bench/out/tape_bench
+	cd crates/bench_tools && rt run -- probe < stdin > /dev/null && rm -r media cell
+	bench/stream.sh crates/bench_tools/out/bench_tools
+	bench/tape.sh crates/bench_tools/out/bench_tools
 	bench/dump.sh ./afsbackup
 	bench/restore.sh ./afsbackup
 	bench/scan.sh ./afsbackup
@@ -57,7 +81,45 @@ bench: afsbackup
 # refused opens, a full device, lost journals, 200 kills, each told reply's change in the journal, and less memory than a script needs, in
 # steps of a page.
 edge-tests: afsbackup
-	cd crates/edge_probe && rt run > /dev/null && rm -r media cell
-	bench/edge/tests.py crates/edge_probe/out/edge_probe
+	cd crates/bench_tools && rt run -- probe < stdin > /dev/null && rm -r media cell
+	bench/edge/tests.py crates/bench_tools/out/bench_tools
 	bench/edge/program.py ./afsbackup
 	bench/edge/memory.py ./afsbackup
+
+# ---- documents, installation and the bridge to a real cell
+
+.PHONY: docs docs-check checks readme-check install interop
+PREFIX ?= /usr/local
+DOCS := $(DESTDIR)$(PREFIX)/share/doc/afsbackup
+
+# Makes docs/CRATES.md and docs/DEFINITIONS.md anew, from crates.txt, the heads of crates and the comments at calls and definitions.
+docs:
+	docs/make_crates.py > docs/CRATES.md.new && mv docs/CRATES.md.new docs/CRATES.md
+	docs/make_definitions.py > docs/DEFINITIONS.md.new && mv docs/DEFINITIONS.md.new docs/DEFINITIONS.md
+
+# Stale documents, long lines and cells, README's rows, names that nothing has, links that lead nowhere.
+docs-check:
+	docs/check.py
+
+# What is checked without a proof: the documents, and the manual page where mandoc is there.
+checks: docs-check
+	@if ! command -v mandoc > /dev/null; then echo "mandoc isn't there: the manual page isn't checked"; \
+	elif mandoc -T lint man/afsbackup.8 2> /dev/null | grep -v "referenced manual not found"; then exit 1; \
+	else echo "the manual page has no faults"; fi
+
+# Runs the commands of README as a newcomer would, in an empty folder.
+readme-check: afsbackup
+	bench/edge/readme.py ./afsbackup
+
+# Puts the program, its manual page, the documents for its users and the examples, with their two scripts, in their places.
+install: afsbackup
+	install -d $(DESTDIR)$(PREFIX)/sbin $(DESTDIR)$(PREFIX)/share/man/man8 $(DOCS)/examples
+	install -m 755 afsbackup $(DESTDIR)$(PREFIX)/sbin/afsbackup
+	install -m 644 man/afsbackup.8 $(DESTDIR)$(PREFIX)/share/man/man8/afsbackup.8
+	install -m 644 README.md CHANGES.md LICENSE docs/COMMANDS.md docs/CELL.md docs/FORMATS.md $(DOCS)
+	install -m 644 examples/*.script examples/*.dump $(DOCS)/examples
+	install -m 755 examples/*.sh $(DOCS)/examples
+
+# Takes volumes of a real OpenAFS cell to tapes and back, where its packages are there; says which are wanting where not.
+interop: afsbackup
+	bench/edge/openafs.py ./afsbackup

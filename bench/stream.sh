@@ -1,8 +1,8 @@
 #!/usr/bin/env bash
 # Times reading a volume's stream of 256 MiB of data and writing it in pieces beside `cp` of the same bytes in one run, in
-# MB/s. The first argument is the program `stream_bench`.
+# MB/s. The first argument is the program `bench_tools`.
 set -eu
-program=$(realpath "${1:-crates/stream_bench/out/stream_bench}")
+program=$(realpath "${1:-crates/bench_tools/out/bench_tools}")
 here=$(cd "$(dirname "$0")" && pwd)
 folder=$(mktemp -d)
 trap 'rm -rf "$folder"' EXIT
@@ -15,7 +15,7 @@ short, stream, copy = (os.path.join(folder, name) for name in ("short", "stream"
 
 def timed(source, target):
     with open(source, "rb") as given, open(target, "wb") as told:
-        done = subprocess.run([program, "time"], stdin=given, stdout=told, stderr=subprocess.PIPE, check=True)
+        done = subprocess.run([program, "stream"], stdin=given, stdout=told, stderr=subprocess.PIPE, check=True)
     words = done.stderr.split()
     assert words[0] == b"bytes", done.stderr
     assert int(words[1]) == os.path.getsize(target), done.stderr

@@ -1,9 +1,9 @@
 #!/usr/bin/env bash
 # Times a tape of 256 MiB written by the writer of tapes to the file of a slot, and scanned again, beside `cp` of that file with the
-# syncs that the writer's filemarks make, in one run, in MB/s. The first argument is the program `tape_bench`. The folders are
+# syncs that the writer's filemarks make, in one run, in MB/s. The first argument is the program `bench_tools`. The folders are
 # made in the one that TMPDIR names.
 set -eu
-program=$(realpath "${1:-crates/tape_bench/out/tape_bench}")
+program=$(realpath "${1:-crates/bench_tools/out/bench_tools}")
 folder=$(mktemp -d)
 trap 'rm -rf "$folder"' EXIT
 python3 - "$program" "$folder" <<'P'
@@ -23,7 +23,7 @@ def by_program(number):
     os.makedirs(os.path.join(place, "media"))
     tape = os.path.join(place, "media", "slot0")
     open(tape, "wb").close()
-    done = subprocess.run([program, "time"], cwd=place, stderr=subprocess.PIPE, check=True)
+    done = subprocess.run([program, "tape"], cwd=place, stderr=subprocess.PIPE, check=True)
     words = done.stderr.split()
     assert words[0] == b"written" and words[2] == b"scanned", done.stderr
     assert os.path.getsize(tape) == SIZE, os.path.getsize(tape)

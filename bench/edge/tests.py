@@ -2,7 +2,7 @@
 """Tests of the files in a real folder: standard streams that are closed, refused opens, a second program, a full device,
 programs killed in the midst, what is synced before a line is told, and images of volumes against a model.
 
-The first argument is the program of crates/edge_probe. It works in folders of its own below the second one (else a new one)."""
+The first argument is the program of crates/bench_tools. It works in folders of its own below the second one (else a new one)."""
 import os
 import random
 import re
@@ -24,7 +24,7 @@ def journal(place):
 
 
 def run(place, *words, given=b"", **more):
-    return subprocess.run([PROGRAM, *words], cwd=place, input=given, capture_output=True, timeout=120, **more)
+    return subprocess.run([PROGRAM, "probe", *words], cwd=place, input=given, capture_output=True, timeout=120, **more)
 
 
 # ---- standard streams
@@ -44,10 +44,10 @@ def streams():
     ]:
         for _ in range(2):
             place = folder()
-            done = shell(place, '"$P" ' + closed, lines)
+            done = shell(place, '"$P" probe ' + closed, lines)
             check("streams " + closed, done.returncode == status and journal(place) == kept, (done, journal(place)))
     place = folder()
-    done = shell(place, '(sleep 0.3; "$P"; echo $? > status) | true', lines)
+    done = shell(place, '(sleep 0.3; "$P" probe; echo $? > status) | true', lines)
     status = open(os.path.join(place, "status")).read().strip()
     check("a broken pipe", status == "9" and journal(place) == b"one\n", (status, journal(place)))
 
@@ -92,7 +92,7 @@ def opening():
     for slot in range(256):
         open(os.path.join(place, "media", "slot%d" % slot), "w").close()
     check("256 slots", run(place, given=b"x\n").stdout == b"x\n")
-    done = shell(place, 'ulimit -n 200; "$P"', b"x\n")
+    done = shell(place, 'ulimit -n 200; "$P" probe', b"x\n")
     check("too few files may be open", done.returncode == 4 and done.stderr.startswith(b"cannot open\nmedia/slot"), done)
     if os.getuid() != 0:
         place = folder()
@@ -102,7 +102,7 @@ def opening():
 
 def second():
     place = folder()
-    first = subprocess.Popen([PROGRAM], cwd=place, stdin=subprocess.PIPE, stdout=subprocess.PIPE)
+    first = subprocess.Popen([PROGRAM, "probe"], cwd=place, stdin=subprocess.PIPE, stdout=subprocess.PIPE)
     first.stdin.write(b"one\n")
     first.stdin.flush()
     check("the first program works", first.stdout.readline() == b"one\n")
@@ -116,7 +116,7 @@ def second():
 
 def limits():
     place = folder()
-    done = shell(place, 'ulimit -f 4; "$P"; exit $?', b"".join(b"%063d\n" % i for i in range(1000)))
+    done = shell(place, 'ulimit -f 4; "$P" probe; exit $?', b"".join(b"%063d\n" % i for i in range(1000)))
     told, kept = done.stdout, journal(place)
     check("the file size limit ends it by a signal", done.returncode == 128 + signal.SIGXFSZ, done.returncode)
     check("what was told is kept", kept.startswith(told) and len(told) > 0, (len(told), len(kept)))
@@ -142,7 +142,7 @@ def kills(runs):
     kept = b""
     for i in range(runs):
         given = b"".join(b"%d %d\n" % (i, k) for k in range(400))
-        program = subprocess.Popen([PROGRAM], cwd=place, stdin=subprocess.PIPE, stdout=open(os.path.join(place, "told"), "wb"))
+        program = subprocess.Popen([PROGRAM, "probe"], cwd=place, stdin=subprocess.PIPE, stdout=open(os.path.join(place, "told"), "wb"))
         try:
             program.stdin.write(given)
             program.stdin.flush()
@@ -175,7 +175,7 @@ def synced():
     place = folder()
     trace = os.path.join(place, "trace")
     calls = "openat,open,mkdir,mkdirat,fsync,fdatasync,pwrite64,write,rename,renameat,renameat2,unlink,unlinkat,close"
-    done = subprocess.run(["strace", "-f", "-o", trace, "-e", "trace=" + calls, PROGRAM], cwd=place, input=b"one\ntwo\nthree\n", capture_output=True)
+    done = subprocess.run(["strace", "-f", "-o", trace, "-e", "trace=" + calls, PROGRAM, "probe"], cwd=place, input=b"one\ntwo\nthree\n", capture_output=True)
     check("traced", done.stdout == b"one\ntwo\nthree\n", done)
     opened, dirty, unsynced, order = {}, set(), {"media", "media/journal", "cell"}, []
     for line in open(trace):
@@ -369,7 +369,7 @@ def cell_kills(runs):
         words = ["move", random.choice(["s1", "s2", "s3"]), random.choice(["a", "b"]), "0"]
         if random.random() < 0.5:
             words = ["write", "v", "2", str(2000 + i), "x" * 3000]
-        program = subprocess.Popen([PROGRAM, *words], cwd=place, stdout=subprocess.DEVNULL)
+        program = subprocess.Popen([PROGRAM, "probe", *words], cwd=place, stdout=subprocess.DEVNULL)
         time.sleep(random.random() * 0.05)
         program.kill()
         ended += program.wait() == 0
