@@ -185,15 +185,10 @@ fn a_stream_is_told_with_nothing_opened(rt: HostRuntime) {
         behind: Behind::Refusal,
         ..examine
     };
-    let midway = Case {
-        behind: Behind::Refusal,
-        ..cut
-    };
     let line = b"the input could not be read\n";
     assert!(&rt; ends(alloc, examine, 0, STREAM_TOLD, b""));
     assert!(&rt; ends(alloc, cut, 1, b"refused 86 CutStream 2\n", b""));
     assert!(&rt; ends(alloc, refused, 3, b"", line));
-    assert!(&rt; ends(alloc, midway, 3, b"", line));
 }
 
 #[test]
@@ -215,30 +210,11 @@ fn an_input_that_is_refused(rt: HostRuntime) {
 #[test]
 fn an_input_without_end(rt: HostRuntime) {
     let endless = Case {
-        behind: Behind::Blanks(usize::MAX),
+        behind: Behind::Blanks,
         ..RUN
-    };
-    let examine = Case {
-        words: &[b"examine"],
-        input: &STREAM,
-        ..endless
-    };
-    let longest = Case {
-        behind: Behind::Blanks(536_870_852),
-        ..examine
     };
     let line = b"the input is longer than it may be\n";
     assert!(&rt; ends(rt.alloc(), endless, 10, HOST_TOLD, line));
-    assert!(&rt; ends(rt.alloc(), examine, 10, b"", line));
-    assert!(&rt;
-        ends(
-            rt.alloc(),
-            longest,
-            1,
-            b"refused 85 BadImage stream 60\n",
-            b""
-        )
-    );
 }
 
 #[test]
@@ -406,26 +382,11 @@ fn an_output_that_takes_no_more(rt: HostRuntime) {
         ..RUN
     };
     let usage = Case { words: &[], ..some };
-    let stream = Case {
-        words: &[b"examine"],
-        input: &STREAM,
-        room: 44,
-        ..some
-    };
     let takes_none = b"the output took no more\nstandard output: write zero\n";
     let refuses = b"the output took no more\nstandard output: other error\n";
     assert!(&rt; ends(alloc, none, 9, b"", takes_none));
     assert!(&rt; ends(alloc, some, 9, b"ok\nho", refuses));
     assert!(&rt; ends(alloc, usage, 9, b"usage", b"the output took no more\n"));
-    assert!(&rt;
-        ends(
-            alloc,
-            stream,
-            9,
-            &STREAM_TOLD[..44],
-            b"the output took no more\n"
-        )
-    );
 }
 
 /// Whether a run ends so where the errors take this front of what it says.

@@ -18,8 +18,8 @@ pub enum Behind {
     End,
     /// A read that is refused.
     Refusal,
-    /// So many blanks, and its end.
-    Blanks(usize),
+    /// Blanks without end.
+    Blanks,
 }
 
 /// The words of a program behind its name.
@@ -59,7 +59,7 @@ impl Env for Words {
     }
 }
 
-/// An input of bytes that gives at most seven of them a read, and what comes behind them.
+/// An input of bytes, and what comes behind them.
 #[derive(Drop)]
 pub struct Input {
     pub bytes: &'static [u8],
@@ -67,31 +67,17 @@ pub struct Input {
     pub behind: Behind,
 }
 
-impl Input {
-    /// Reads what comes behind the bytes.
-    fn read_behind(&mut self, into: &mut [u8]) -> io::Result<usize>
-        ensures { IfOk result (λ n. n ≤ length into.new) }
-    {
-        match self.behind {
-            Behind::End => Ok(0),
-            Behind::Refusal => Err(io::Error::from(ErrorKind::TimedOut)),
-            Behind::Blanks(left) => {
-                let count = into.len().min(left);
-                into[..count].fill(b' ');
-                self.behind = Behind::Blanks(left.saturating_sub(count));
-                Ok(count)
-            }
-        }
-    }
-}
-
 impl Read for Input {
     fn read(&mut self, into: &mut [u8]) -> io::Result<usize> {
         let rest = self.bytes.get(self.at..).unwrap_or_default();
-        if rest.is_empty() {
-            return self.read_behind(into);
+        if rest.is_empty() && self.behind == Behind::Refusal {
+            return Err(io::Error::from(ErrorKind::TimedOut));
         }
-        let count = rest.len().min(into.len()).min(7);
+        if rest.is_empty() && self.behind == Behind::Blanks {
+            into.fill(b' ');
+            return Ok(into.len());
+        }
+        let count = rest.len().min(into.len());
         into[..count].copy_from_slice(&rest[..count]);
         self.at = self.at.saturating_add(count);
         Ok(count)
