@@ -12,10 +12,10 @@ use crate::fault::CellFault;
 use crate::lists::insert_at;
 use crate::places::place_of_number;
 use crate::vnodes::{data_of, kib_of, made_vnode, rewrite};
-use bk_text::{Bytes, List};
+use bk_text::List;
 use std::alloc::Global;
 use vnode_model::{
-    ALL_DATA, HeaderFields, MOST_DATA, MOST_VNODES, Vnode, VolHeader, Volume, VolumeFields,
+    ALL_DATA, Body, HeaderFields, MOST_DATA, MOST_VNODES, Vnode, VolHeader, Volume, VolumeFields,
 };
 
 /// A change of a volume's vnodes.
@@ -60,7 +60,7 @@ fn write_there(
     if others + body.len() > ALL_DATA {
         return Err(CellFault::TooLarge);
     }
-    let copy = Bytes::from_slice(alloc, body)?;
+    let copy = Body::from_slice(alloc, body)?;
     rewrite(&mut vnodes[at], copy, now);
     update_header(header, vnodes, now);
     Ok(())
@@ -90,7 +90,7 @@ fn write_new(
     if body.len() > MOST_DATA || data_of(vnodes) + body.len() > ALL_DATA {
         return Err(CellFault::TooLarge);
     }
-    let copy = Bytes::from_slice(alloc, body)?;
+    let copy = Body::from_slice(alloc, body)?;
     let vnode = made_vnode(number, header.uniq, copy, now);
     insert_at(vnodes, at, vnode)?;
     header.uniq += 1;

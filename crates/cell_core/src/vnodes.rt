@@ -5,9 +5,8 @@ ghost use Rattle.vnode_model.specs.Limits.{AreVolume, all_data};
 ghost use Rattle.vnode_model.specs.Increments.{data_of};
 ghost use Rattle.cell_core.specs.Vnodes.{first_directory, kind_of_number, made_vnode, rewritten_vnode, kib_of};
 
-use bk_text::Bytes;
 use std::alloc::Global;
-use vnode_model::{Vnode, VnodeKind};
+use vnode_model::{Body, Vnode, VnodeKind};
 
 /// The directory that a new volume has: vnode 1 with mode 0755 and one link.
 pub(crate) fn first_directory(alloc: Global, now: u32) -> Vnode
@@ -27,7 +26,7 @@ pub(crate) fn first_directory(alloc: Global, now: u32) -> Vnode
         parent: 0,
         server_modified: now,
         access: [0; 192],
-        body: Bytes::new(alloc),
+        body: Body::new(alloc),
     }
 }
 
@@ -43,7 +42,7 @@ fn kind_of_number(number: u32) -> VnodeKind
 }
 
 /// A vnode that is made with its data: mode 0644, one link, in the first directory.
-pub(crate) fn made_vnode(number: u32, uniq: u32, body: Bytes, now: u32) -> Vnode
+pub(crate) fn made_vnode(number: u32, uniq: u32, body: Body, now: u32) -> Vnode
     ensures { result ≡ made_vnode number uniq body now }
 {
     Vnode {
@@ -65,7 +64,7 @@ pub(crate) fn made_vnode(number: u32, uniq: u32, body: Bytes, now: u32) -> Vnode
 }
 
 /// Replaces a vnode's data.
-pub(crate) fn rewrite(vnode: &mut Vnode, body: Bytes, now: u32)
+pub(crate) fn rewrite(vnode: &mut Vnode, body: Body, now: u32)
     ensures { vnode.new ≡ rewritten_vnode body now vnode.old }
 {
     vnode.body = body;

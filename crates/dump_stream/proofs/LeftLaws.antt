@@ -1,9 +1,9 @@
 -- Giving a stream in pieces.
-use Rattle.std.proofs.Common.{◌≡◌, ◌⊎◌, ℕ, zero, suc, ◌+◌, ◌-◌, ◌<◌, ◌≤◌, min, eqb, true, false, List, [], ◌∷◌, ◌++◌, length, map, take, drop, get_or, Some, None, refl, sym, ap, subst, ◌∙◌, append_assoc, arith, length-append, length-drop, inl, inr, add-one}
+use Rattle.std.proofs.Common.{◌≡◌, ◌⊎◌, ℕ, zero, suc, ◌+◌, ◌-◌, ◌<◌, ◌≤◌, min, eqb, Bool, true, false, List, [], ◌∷◌, ◌++◌, length, map, take, drop, get_or, Some, None, refl, sym, ap, subst, ◌∙◌, append_assoc, arith, length-append, length-drop, inl, inr, add-one}
 use Rattle.std.specs.Prelude.{All, slice_get, nat_le, if◌then◌else◌, ◌==◌}
 use Rattle.std.specs.List.{flat_map}
 use Rattle.std.proofs.lemmas.List.{append-nil, take-append-le, take-append-drop, drop_all, drop_more, get_or-map, length-map, drop-append-le, drop-drop, take_at, drop_at, length-take-le}
-use Rattle.std.proofs.lemmas.Bool.{le-leb, lt-leb, ne_eqb}
+use Rattle.std.proofs.lemmas.Bool.{le-leb, lt-leb, leb-true, leb-false, ne_eqb}
 use Rattle.std.proofs.Math.Dec.{leb}
 use borrow.Rule.Slice.PartMut.{put_mid}
 use Rattle.std.proofs.Math.Seq.{take-append-add}
@@ -163,6 +163,16 @@ left_before vnodes since place within none =
 
 pub none_left : (taken : ℕ) (part : List ℕ) → drop taken part ≡ [] → length part ≤ taken
 none_left taken part none = omega (arith, length-drop taken part, ap length none)
+
+-- where nothing is left, nothing is left behind no vnodes either
+pub none_behind_none : (vnodes : List Vnode) (since : ℕ) (place : Place) → left vnodes since place ≡ [] → left [] since place ≡ []
+none_behind_none vnodes since place none = by (leb place.step (length vnodes)) refl
+  where
+    by : (b : Bool) → leb place.step (length vnodes) ≡ b → left [] since place ≡ []
+    by true is = absurd (left_before vnodes since place (leb-true place.step (length vnodes) is) none)
+    by false is =
+        let past : length vnodes < place.step = leb-false place.step (length vnodes) is in
+        left_past [] since place (omega (arith, past)) ∙ (sym (left_past vnodes since place past) ∙ none)
 
 -- ---- the start
 

@@ -6,7 +6,7 @@ ghost use Rattle.dump_stream.specs.Stream.{week_of, is_typed};
 
 use crate::judge::{byte_or, number_at};
 use crate::sofar::Field;
-use bk_text::Bytes;
+use bk_text::{Bytes, List};
 use std::alloc::{AllocError, Global};
 
 /// The bytes behind a tag.
@@ -16,6 +16,22 @@ pub fn find(fields: &[Field], tag: u8) -> Option<&[u8]>
     for field in fields {
         if field.tag == tag {
             return Some(field.payload.as_slice());
+        }
+    }
+    None
+}
+
+/// The bytes behind a tag, taken out.
+pub fn taken(fields: List<Field>, tag: u8) -> Option<Bytes>
+    ensures { result ≡ payload_of tag fields }
+{
+    for field in fields.into_vec() {
+        let Field {
+            tag: other,
+            payload,
+        } = field;
+        if other == tag {
+            return Some(payload);
         }
     }
     None

@@ -31,6 +31,19 @@ impl Drop for Machine {
     }
 }
 
+/// Makes room behind bytes for so many more and one, where there are some, so that they are never moved as they come.
+fn make_room(alloc: Global, bytes: &mut Bytes, more: usize) -> Result<(), AllocError>
+    ensures { bytes.new ≡ bytes.old }
+{
+    if more == 0 {
+        return Ok(());
+    }
+    let mut items = replace(bytes, Bytes::new(alloc)).into_vec();
+    let answer = items.reserve(more.saturating_add(1));
+    *bytes = Bytes::from_vec(items);
+    answer
+}
+
 impl Machine {
     ghost use Rattle.dump_stream.specs.Steps.{Inside, Ends, GoesOn, Moves, Steps, HasEnded, EndsWith};
     ghost use Rattle.dump_stream.specs.Sound.{IsSound, IsSoundMachine, SoundWhile};
@@ -90,7 +103,7 @@ impl Machine {
     }
 
     /// Takes as many of these bytes as may follow whichever they are, where no form ends with them, and says how many.
-    pub fn gulp(&mut self, piece: &[u8]) -> Result<usize, AllocError>
+    pub fn gulp(&mut self, alloc: Global, piece: &[u8]) -> Result<usize, AllocError>
         requires { IsSoundMachine self.old }
         ensures within { IfOk result (λ count. count ≤ length piece.now) }
         ensures sound { IfOk result (λ _. IsSoundMachine self.new) }
@@ -100,7 +113,9 @@ impl Machine {
         match self.form {
             None => Ok(0),
             Some(form) => {
-                let count = free_bytes(form, self.payload.as_slice()).min(piece.len());
+                let free = free_bytes(form, self.payload.as_slice());
+                make_room(alloc, &mut self.payload, free)?;
+                let count = free.min(piece.len());
                 self.payload.extend_from_slice(&piece[..count])?;
                 Ok(count)
             }

@@ -15,7 +15,7 @@ pub fn run(machine: &mut Machine, alloc: Global, piece: &[u8]) -> Result<Ran, Al
 {
     let mut at = 0;
     while at < piece.len() {
-        let count = machine.gulp(&piece[at..])?;
+        let count = machine.gulp(alloc, &piece[at..])?;
         at += count;
         if at == piece.len() {
             return Ok(Ran::More);

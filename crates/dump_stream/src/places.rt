@@ -8,7 +8,7 @@ ghost use Rattle.dump_stream.specs.Left.{step_data, here, left, Gives, Turns, Is
 
 use crate::part::Part;
 use crate::sections::{put_end, put_kept, put_whole};
-use vnode_model::{Vnode, is_whole_from};
+use vnode_model::{Vnode, Volume, is_whole_from};
 
 /// How far a stream was given. A stream goes by steps: step 0 has the headers, the next ones a vnode each, the last one
 /// the end.
@@ -158,6 +158,13 @@ fn turn(vnodes: &[Vnode], from: u32, place: &mut Place, room: &mut [u8]) -> Opti
     } else {
         None
     }
+}
+
+/// Lets go of a volume's vnodes. Where nothing was left, nothing is left behind none either.
+pub fn let_go(volume: &mut Volume, place: &Place)
+    ensures { (since : ℕ) → left volume.old.vnodes since place.now ≡ [] → left volume.new.vnodes since place.now ≡ [] }
+{
+    volume.clear();
 }
 
 /// Whether nothing is left.

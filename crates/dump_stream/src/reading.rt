@@ -99,21 +99,6 @@ fn add_entry(mut made: IncrementFields, entry: Entry) -> Result<IncrementFields,
     Ok(made)
 }
 
-/// What was made, with what the section of a vnode says that has ended.
-fn add_vnode(
-    alloc: Global,
-    made: IncrementFields,
-    number: u32,
-    uniq: u32,
-    fields: &[Field],
-) -> Result<IncrementFields, AllocError>
-    requires { IsAccessWhole fields.now }
-    ensures { IfOk result (λ more. more ≡ with_entry made (entry_of number uniq fields.now)) }
-{
-    let entry = entry_from(alloc, number, uniq, fields)?;
-    add_entry(made, entry)
-}
-
 fn vnode_begun(alloc: Global, made: IncrementFields, room: usize, head: &[u8]) -> Sofar
     ensures { result ≡ Sofar.Vnode made room (number_from 0 head.now) (number_from 4 head.now) [] }
 {
@@ -181,14 +166,15 @@ fn next_vnode(
     room: usize,
     number: u32,
     uniq: u32,
-    fields: &[Field],
+    fields: List<Field>,
     head: &[u8],
 ) -> Result<Sofar, AllocError>
-    requires { IsAccessWhole fields.now }
-    ensures { IfOk result (λ next. next ≡ Sofar.Vnode (with_entry made (entry_of number uniq fields.now)) (room - length (body_of fields.now)) (number_from 0 head.now) (number_from 4 head.now) []) }
+    requires { IsAccessWhole fields }
+    ensures { IfOk result (λ next. next ≡ Sofar.Vnode (with_entry made (entry_of number uniq fields)) (room - length (body_of fields)) (number_from 0 head.now) (number_from 4 head.now) []) }
 {
-    let made = add_vnode(alloc, made, number, uniq, fields)?;
-    let room = room.saturating_sub(data_of(fields).len());
+    let room = room.saturating_sub(data_of(fields.as_slice()).len());
+    let entry = entry_from(alloc, number, uniq, fields);
+    let made = add_entry(made, entry)?;
     Ok(vnode_begun(alloc, made, room, head))
 }
 
@@ -198,12 +184,13 @@ fn end_vnodes(
     made: IncrementFields,
     number: u32,
     uniq: u32,
-    fields: &[Field],
+    fields: List<Field>,
 ) -> Result<Sofar, AllocError>
-    requires { IsAccessWhole fields.now }
-    ensures { IfOk result (λ next. next ≡ Sofar.Ended (with_entry made (entry_of number uniq fields.now))) }
+    requires { IsAccessWhole fields }
+    ensures { IfOk result (λ next. next ≡ Sofar.Ended (with_entry made (entry_of number uniq fields))) }
 {
-    let made = add_vnode(alloc, made, number, uniq, fields)?;
+    let entry = entry_from(alloc, number, uniq, fields);
+    let made = add_entry(made, entry)?;
     Ok(Sofar::Ended { made })
 }
 
@@ -244,17 +231,9 @@ fn after_vnode(
     ensures { IfOk result (λ next. next ≡ after (Sofar.Vnode made room number uniq fields) tag payload) }
 {
     if tag == 3 {
-        next_vnode(
-            alloc,
-            made,
-            room,
-            number,
-            uniq,
-            fields.as_slice(),
-            payload.as_slice(),
-        )
+        next_vnode(alloc, made, room, number, uniq, fields, payload.as_slice())
     } else if tag == 4 {
-        end_vnodes(alloc, made, number, uniq, fields.as_slice())
+        end_vnodes(alloc, made, number, uniq, fields)
     } else {
         in_vnode(made, room, number, uniq, fields, tag, payload)
     }

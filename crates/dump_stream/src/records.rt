@@ -1,18 +1,18 @@
 //! What whole sections say.
 
-ghost use Rattle.std.specs.Prelude.{◌≡◌, [], IfOk, replicate};
+ghost use Rattle.std.specs.Prelude.{◌≡◌, [], IfOk, drop, replicate, MatchOption};
 ghost use Rattle.dump_stream.specs.Forms.{IsWhole};
-ghost use Rattle.dump_stream.specs.Fields.{AreFields, payload_of, has, byte, string, bytes_or};
+ghost use Rattle.dump_stream.specs.Fields.{AreFields, payload_of, has, byte, string, bytes_or, body_of};
 ghost use Rattle.dump_stream.specs.Stream.{header_table, dump_of, header_of, entry_of, vnode_of, kind_of};
 ghost use Rattle.dump_stream.specs.Sound.{IsNameThere, IsAccessWhole};
 
 use crate::fields::{
-    byte_of, data_of, find, front_of, number_if, number_of, short_of, string_of, week_from,
+    byte_of, find, front_of, has_tag, number_if, number_of, short_of, string_of, taken, week_from,
 };
 use crate::sofar::{DumpHead, Field};
-use bk_text::{Bytes, Name};
+use bk_text::{Bytes, List, Name};
 use std::alloc::{AllocError, Global};
-use vnode_model::{Entry, HeaderFields, Vnode, VnodeKind, VolHeader};
+use vnode_model::{Body, Entry, HeaderFields, Vnode, VnodeKind, VolHeader};
 
 fn name_of(alloc: Global, fields: &[Field]) -> Result<Name, AllocError>
     requires { IsNameThere fields.now }
@@ -105,11 +105,33 @@ fn access_from(fields: &[Field]) -> [u8; 192]
     access
 }
 
-fn vnode_from(alloc: Global, number: u32, uniq: u32, fields: &[Field]) -> Result<Vnode, AllocError>
-    requires { IsAccessWhole fields.now }
-    ensures { IfOk result (λ vnode. vnode ≡ vnode_of number uniq fields.now) }
+/// The bytes behind a length of so many bytes, where there are some.
+fn behind_length(alloc: Global, payload: Option<Bytes>, length: usize) -> Body
+    ensures { MatchOption payload (result ≡ []) (λ bytes. result ≡ drop length bytes) }
 {
-    Ok(Vnode {
+    match payload {
+        None => Body::new(alloc),
+        Some(bytes) => Body::behind(bytes, length),
+    }
+}
+
+/// The data of a vnode, taken out of its fields.
+fn body_from(alloc: Global, fields: List<Field>) -> Body
+    ensures { result ≡ body_of fields }
+{
+    if has_tag(fields.as_slice(), b'f') {
+        behind_length(alloc, taken(fields, b'f'), 4)
+    } else {
+        behind_length(alloc, taken(fields, b'h'), 8)
+    }
+}
+
+/// What a vnode's section says, but for its data.
+fn bare_vnode(alloc: Global, number: u32, uniq: u32, fields: &[Field]) -> Vnode
+    requires { IsAccessWhole fields.now }
+    ensures { result ≡ record (vnode_of number uniq fields.now) { body = [] } }
+{
+    Vnode {
         number,
         uniq,
         kind: kind_from(fields),
@@ -123,22 +145,27 @@ fn vnode_from(alloc: Global, number: u32, uniq: u32, fields: &[Field]) -> Result
         parent: number_of(fields, b'p', 0),
         server_modified: number_of(fields, b's', 0),
         access: access_from(fields),
-        body: Bytes::from_slice(alloc, data_of(fields))?,
-    })
+        body: Body::new(alloc),
+    }
 }
 
-/// What a vnode's section says.
-pub fn entry_from(
-    alloc: Global,
-    number: u32,
-    uniq: u32,
-    fields: &[Field],
-) -> Result<Entry, AllocError>
-    requires { IsAccessWhole fields.now }
-    ensures { IfOk result (λ entry. entry ≡ entry_of number uniq fields.now) }
+fn vnode_from(alloc: Global, number: u32, uniq: u32, fields: List<Field>) -> Vnode
+    requires { IsAccessWhole fields }
+    ensures { result ≡ vnode_of number uniq fields }
 {
-    match fields {
-        [] => Ok(Entry::Kept { number, uniq }),
-        [_, ..] => Ok(Entry::Whole(vnode_from(alloc, number, uniq, fields)?)),
+    let mut vnode = bare_vnode(alloc, number, uniq, fields.as_slice());
+    vnode.body = body_from(alloc, fields);
+    vnode
+}
+
+/// What a vnode's section says. The data is taken out of its fields, so that no memory is taken.
+pub fn entry_from(alloc: Global, number: u32, uniq: u32, fields: List<Field>) -> Entry
+    requires { IsAccessWhole fields }
+    ensures { result ≡ entry_of number uniq fields }
+{
+    if fields.is_empty() {
+        Entry::Kept { number, uniq }
+    } else {
+        Entry::Whole(vnode_from(alloc, number, uniq, fields))
     }
 }

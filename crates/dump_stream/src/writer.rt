@@ -7,7 +7,7 @@ ghost use Rattle.dump_stream.specs.Written.{written};
 ghost use Rattle.dump_stream.specs.Allowed.{Allowed};
 
 use crate::part::Part;
-use crate::places::{Place, give, is_over};
+use crate::places::{Place, give, is_over, let_go};
 use crate::said::volume_is_allowed;
 use crate::sections::put_headers;
 use std::marker::Model;
@@ -73,6 +73,15 @@ impl Writer {
         ensures { IsTrue result ↔ (self.now ≡ []) }
     {
         is_over(self.volume.vnodes(), &self.place)
+    }
+
+    /// Lets go of the volume, of which every byte was given: so that another one may be taken up without holding both. Nothing is
+    /// left then either.
+    pub fn let_go(&mut self)
+        requires { self.old ≡ [] }
+        ensures { self.new ≡ [] }
+    {
+        let_go(&mut self.volume, &self.place);
     }
 
     /// Fills `into` with the next bytes, and says how many these are: fewer than `into` has room for only where no more

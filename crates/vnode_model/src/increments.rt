@@ -34,9 +34,16 @@ pub struct IncrementFields {
 
 /// An increment: a volume's header and an entry for each of its vnodes, in the order, of the parity and within the
 /// limits of a volume's vnodes.
-#[derive(Debug, Drop)]
+#[derive(Debug)]
 pub struct Increment {
     fields: IncrementFields,
+}
+
+/// It is written out, so that each function that lets one go calls it.
+impl Drop for Increment {
+    fn drop(self) {
+        let Increment { fields } = self;
+    }
 }
 
 impl Model for Increment {

@@ -2,6 +2,7 @@
 #![tactic(auto)]
 
 mod applying;
+mod bodies;
 mod fitting;
 mod following;
 mod headers;
@@ -14,6 +15,7 @@ mod vnodes;
 mod volumes;
 
 pub use applying::{ApplyFault, apply};
+pub use bodies::Body;
 pub use fitting::fault_in;
 pub use following::{
     applied_is_a_volume, chains_restore, increments_restore, whole_increments_restore,

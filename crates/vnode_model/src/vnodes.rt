@@ -3,7 +3,7 @@
 ghost use Rattle.std.specs.Prelude.{◌≡◌, ◌↔◌, IsTrue};
 ghost use Rattle.vnode_model.specs.Limits.{StandsBefore, ComesAfter};
 
-use bk_text::Bytes;
+use crate::bodies::Body;
 use std::alloc::AllocError;
 
 /// What a vnode is.
@@ -50,7 +50,7 @@ pub struct Vnode {
     /// A directory's access list, as the server keeps it.
     pub access: [u8; 192],
     /// The data.
-    pub body: Bytes,
+    pub body: Body,
 }
 
 impl Clone for Vnode {

@@ -1,6 +1,6 @@
 //! Volumes.
 
-ghost use Rattle.std.specs.Prelude.{◌≡◌, IfOk, OnOk, IfErr};
+ghost use Rattle.std.specs.Prelude.{◌≡◌, [], IfOk, OnOk, IfErr};
 ghost use Rattle.vnode_model.specs.Limits.{AreVolume};
 ghost use Rattle.vnode_model.specs.Volumes.{IsOrderFault, latest_of};
 
@@ -20,9 +20,16 @@ pub struct VolumeFields {
 }
 
 /// A volume: its header and its vnodes, in the order, of the parity and within the limits. It may have no vnodes.
-#[derive(Debug, Drop)]
+#[derive(Debug)]
 pub struct Volume {
     fields: VolumeFields,
+}
+
+/// It is written out, so that each function that lets one go calls it.
+impl Drop for Volume {
+    fn drop(self) {
+        let Volume { fields } = self;
+    }
 }
 
 /// Why a header and vnodes are no volume.
@@ -93,6 +100,13 @@ impl Volume {
         ensures form { AreVolume self.now.vnodes }
     {
         self.fields.vnodes.as_slice()
+    }
+
+    /// Lets go of the vnodes. It takes no memory.
+    pub fn clear(&mut self)
+        ensures { self.new ≡ record self.old { vnodes = [] } }
+    {
+        self.fields.vnodes.clear();
     }
 
     /// Its fields, for whoever changes them. It takes no memory.

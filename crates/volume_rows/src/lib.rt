@@ -1,4 +1,5 @@
-//! Tests of volumes: which vnodes are refused, what an increment holds, and what is made of one.
+//! Tests of volumes: which vnodes are refused, what an increment holds, and what is made of one. `rows` makes volumes from short rows,
+//! for all the others. Nothing stands on these tests; `vnode_model` stands below.
 #![tactic(auto)]
 
 #[cfg(test)]

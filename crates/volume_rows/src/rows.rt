@@ -2,7 +2,7 @@
 
 use bk_text::{Bytes, List, Name, TextFault};
 use std::alloc::{AllocError, Global};
-use vnode_model::{HeaderFields, Vnode, VnodeKind, VolHeader, Volume};
+use vnode_model::{Body, HeaderFields, Vnode, VnodeKind, VolHeader, Volume};
 
 /// A vnode's number, uniquifier, kind, the time at which the server last changed it, and its data.
 pub type Row = (u32, u32, VnodeKind, u32, &'static [u8]);
@@ -25,7 +25,7 @@ pub fn vnode_from(alloc: Global, row: &Row, byte: u8) -> Result<Vnode, AllocErro
         parent: 1,
         server_modified: row.3,
         access,
-        body: Bytes::from_slice(alloc, row.4)?,
+        body: Body::from_slice(alloc, row.4)?,
     })
 }
 

@@ -5,8 +5,8 @@ use bk_text::{Bytes, List};
 use std::alloc::{AllocError, Global};
 use std::test::Fail;
 use vnode_model::{
-    ApplyFault, Entry, Increment, IncrementFields, Vnode, VnodeKind, Volume, VolumeFault, apply,
-    fault_in,
+    ApplyFault, Body, Entry, Increment, IncrementFields, Vnode, VnodeKind, Volume, VolumeFault,
+    apply, fault_in,
 };
 
 /// 16 MiB, the most that a vnode has; a volume has at most 16 times as much.
@@ -15,7 +15,7 @@ const MOST: usize = 16_777_216;
 /// A file of this number whose data is so many zeros.
 fn file_of(alloc: Global, number: u32, size: usize) -> Result<Vnode, AllocError> {
     let mut file = vnode_from(alloc, &(number, 1, VnodeKind::File, 0, b""), 0)?;
-    file.body = Bytes::from_vec(vec![in alloc; 0; size]?);
+    file.body = Body::behind(Bytes::from_vec(vec![in alloc; 0; size]?), 0);
     Ok(file)
 }
 
