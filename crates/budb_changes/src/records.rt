@@ -85,9 +85,16 @@ impl Clone for VolRecordFields {
 }
 
 /// A volume of a dump's record. It has 1 to 65,535 fragments.
-#[derive(Debug, Drop)]
+#[derive(Debug)]
 pub struct VolRecord {
     fields: VolRecordFields,
+}
+
+/// It is written out, so that each function that lets one go calls it.
+impl Drop for VolRecord {
+    fn drop(self) {
+        let VolRecord { fields } = self;
+    }
 }
 
 impl Model for VolRecord {
@@ -197,9 +204,16 @@ impl Clone for DumpRecordFields {
 
 /// A dump's record: at most 65,535 parts on tapes, fewer than 2^32 volumes, a base of at most 69 bytes, and permanent names
 /// and a cell that have their forms where they aren't empty.
-#[derive(Debug, Drop)]
+#[derive(Debug)]
 pub struct DumpRecord {
     fields: DumpRecordFields,
+}
+
+/// It is written out, so that each function that lets one go calls it.
+impl Drop for DumpRecord {
+    fn drop(self) {
+        let DumpRecord { fields } = self;
+    }
 }
 
 impl Model for DumpRecord {

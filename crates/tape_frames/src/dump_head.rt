@@ -47,9 +47,16 @@ pub struct DumpHeadFields {
 
 /// The head of a dump's part. Id, initial, tape, part and volumes are at least 1, and initial is at most the id. A head
 /// with uses 0 has no cell and no permanent name, and is written in version 1; any other one is written in version 2.
-#[derive(Debug, Drop)]
+#[derive(Debug)]
 pub struct DumpHead {
     fields: DumpHeadFields,
+}
+
+/// It is written out, so that each function that lets one go calls it.
+impl Drop for DumpHead {
+    fn drop(self) {
+        let DumpHead { fields } = self;
+    }
 }
 
 impl Model for DumpHead {

@@ -26,9 +26,16 @@ pub struct LabelFields {
 }
 
 /// A tape's label. Initial and tape are both 0, or both aren't and the AFS name isn't empty.
-#[derive(Debug, Drop)]
+#[derive(Debug)]
 pub struct Label {
     fields: LabelFields,
+}
+
+/// It is written out, so that each function that lets one go calls it.
+impl Drop for Label {
+    fn drop(self) {
+        let Label { fields } = self;
+    }
 }
 
 impl Model for Label {

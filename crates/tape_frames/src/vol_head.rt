@@ -35,9 +35,16 @@ pub struct VolHeadFields {
 }
 
 /// The head of a volume's fragment. The fragment's number is at least 1.
-#[derive(Debug, Drop)]
+#[derive(Debug)]
 pub struct VolHead {
     fields: VolHeadFields,
+}
+
+/// It is written out, so that each function that lets one go calls it.
+impl Drop for VolHead {
+    fn drop(self) {
+        let VolHead { fields } = self;
+    }
 }
 
 impl Model for VolHead {
