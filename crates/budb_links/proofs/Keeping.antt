@@ -1,32 +1,14 @@
 -- What an insert and an unlink keep of the records that are stored.
-use Rattle.std.proofs.Common.{◌≡◌, ◌≢◌, inl, inr, ℕ, ◌<◌, List, [], ◌∷◌, ◌++◌, length, set, map, Bool, eqb, Option, Some, None, refl, sym, ◌∙◌, ap, subst, arith, ⊎_elim}
+use Rattle.std.proofs.Common.{◌≡◌, ◌≢◌, inl, inr, ℕ, zero, suc, ◌<◌, List, [], ◌∷◌, ◌++◌, length, set, Option, Some, None, refl, sym, ◌∙◌, ap, subst, arith, ⊎_elim}
 use Rattle.std.proofs.lemmas.Bool.{cases_eq, eq-eqb, ne_eqb, cond-true, cond-false}
-use Rattle.std.proofs.lemmas.List.{map-append, length-append, length-set, get_or-set_same, get_or-set_other, append-nil}
-use Rattle.std.proofs.lemmas.List.Elements.{filter-append}
-use Rattle.std.specs.List.{filter, AllByRecursion}
+use Rattle.std.proofs.lemmas.List.{map-append, length-append, length-set, get_or-set_same, get_or-set_other}
+use Rattle.std.specs.List.{AllByRecursion}
 use Rattle.budb_changes.specs.declared.records.DumpRecordFields.{DumpRecordFields}
-use Rattle.budb_links.specs.declared.arena.TheConstants.{FAMILIES}
 use Rattle.budb_links.specs.Stands.{Stand}
 use Rattle.budb_links.specs.Chained.{Woven, stand_at, chain_of}
 use Rattle.budb_links.specs.Entries.{Entry, entry_at, dumps_of, record_of}
-use Rattle.budb_links.specs.Stored.{slot_at, head_of, stand_of, stands_in, DistinctIds, HasPlace, AreFree, Stores}
+use Rattle.budb_links.specs.Stored.{slot_at, stand_of, stands_at, DistinctIds, HasPlace, AreFree, Stores}
 use Rattle.budb_links.proofs.Storing.{Holds, free_apart}
-
--- ---- an entry more
-
-module _ (family head : ℕ) (es : List Entry) (e : Entry) where
-  in_both : stands_in family head (es ++ e ∷ []) ≡ stands_in family head es ++ stands_in family head (e ∷ [])
-  in_both =
-      let t : Entry → Bool = λ x. eqb (head_of family x.dump) head in
-      ap (map stand_of) (filter-append t es (e ∷ [])) ∙ map-append stand_of (filter t es) (filter t (e ∷ []))
-
-  pub in_same : head_of family e.dump ≡ head → stands_in family head (es ++ e ∷ []) ≡ stands_in family head es ++ stand_of e ∷ []
-  in_same h =
-      in_both ∙ ap (λ (l : List Entry). stands_in family head es ++ map stand_of l) (cond-true _ (e ∷ []) [] (eq-eqb (head_of family e.dump) head h))
-
-  pub in_other : head_of family e.dump ≢ head → stands_in family head (es ++ e ∷ []) ≡ stands_in family head es
-  in_other h =
-      in_both ∙ ap (λ (l : List Entry). stands_in family head es ++ map stand_of l) (cond-false _ (e ∷ []) [] (ne_eqb (head_of family e.dump) head h)) ∙ append-nil (stands_in family head es)
 
 -- ---- ids
 
@@ -115,16 +97,13 @@ full_apart slots (p ∷ ps) place x f full = (
 
 module _ (arena arena' : Woven) (slots : List (Option DumpRecordFields)) (ps : List ℕ) (place : ℕ) (es : List Entry) (dump : DumpRecordFields)
     (s : Stores arena slots (ps ++ place ∷ []) es) (fresh : record_of dump.id (dumps_of es) ≡ None)
-    (here : (family : ℕ) → family < FAMILIES → chain_of arena' family (head_of family dump) ≡ chain_of arena family (head_of family dump) ++ stand_at place dump.id ∷ [])
-    (others : (family head : ℕ) → family < FAMILIES → head ≢ head_of family dump → chain_of arena' family head ≡ chain_of arena family head)
+    (here : chain_of arena' 0 0 ≡ chain_of arena 0 0 ++ stand_at place dump.id ∷ [])
+    (others : (head : ℕ) → head ≢ 0 → chain_of arena' 0 head ≡ chain_of arena 0 head)
     (rows : length arena'.rows ≡ length arena.rows) (ends : length arena'.ends ≡ length arena.ends) where
-  inserted_chain : (family head : ℕ) → family < FAMILIES → chain_of arena' family head ≡ stands_in family head (es ++ entry_at place dump ∷ [])
-  inserted_chain family head in_range =
-      ⊎_elim
-      (λ (same : head_of family dump ≡ head).
-      subst (λ (h : ℕ). chain_of arena' family h ≡ stands_in family h (es ++ entry_at place dump ∷ [])) same (here family in_range ∙ ap (λ (t : List Stand). t ++ stand_at place dump.id ∷ []) (s.chains family (head_of family dump) in_range) ∙ sym (in_same family (head_of family dump) es (entry_at place dump) refl)))
-      (λ (ne : head_of family dump ≢ head). others family head in_range (λ e. ne (sym e)) ∙ s.chains family head in_range ∙ sym (in_other family head es (entry_at place dump) ne))
-      (cases_eq (head_of family dump) head)
+  inserted_chain : (head : ℕ) → chain_of arena' 0 head ≡ stands_at head (es ++ entry_at place dump ∷ [])
+  inserted_chain zero =
+      here ∙ ap (λ (t : List Stand). t ++ stand_at place dump.id ∷ []) (s.chains 0) ∙ sym (map-append stand_of es (entry_at place dump ∷ []))
+  inserted_chain (suc head) = others (suc head) (λ e. absurd (omega (arith, e))) ∙ s.chains (suc head)
 
   inserted_only : (at : ℕ) (d : DumpRecordFields) → slot_at (set slots place (Some dump)) at ≡ Some d → HasPlace at (es ++ entry_at place dump ∷ [])
   inserted_only at d full =

@@ -5,7 +5,6 @@ pub mod Weaving
 pub mod Columns
 pub mod Growing
 pub mod Families
-pub mod Walking
 pub mod Storing
 pub mod Keeping
 pub mod Removing
@@ -13,6 +12,7 @@ pub mod Room
 pub mod Walks
 pub mod Inserting
 pub mod Unlinking
+pub mod IdLaws
 pub mod KeyedLaws
 pub mod KeyedStoring
 pub mod Lists

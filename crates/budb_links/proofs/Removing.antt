@@ -1,14 +1,13 @@
 -- What an unlink leaves of the records that are stored.
-use Rattle.std.proofs.Common.{◌≡◌, ◌≢◌, inl, inr, ℕ, ◌+◌, ◌<◌, ◌≤◌, List, [], ◌∷◌, ◌++◌, length, set, map, Bool, true, false, not, eqb, Option, Some, None, refl, sym, ◌∙◌, ap, subst, arith, ⊎_elim}
+use Rattle.std.proofs.Common.{◌≡◌, ◌≢◌, inl, inr, ℕ, zero, suc, ◌+◌, ◌<◌, ◌≤◌, List, [], ◌∷◌, ◌++◌, length, set, map, Bool, true, false, not, eqb, Option, Some, None, refl, sym, ◌∙◌, ap, subst, arith, ⊎_elim}
 use Rattle.std.proofs.lemmas.Bool.{cases_eq, cases_lt, cases_Bool, eq-eqb, ne_eqb, cond-true, cond-false, not_from_true, not_from_false}
 use Rattle.std.proofs.lemmas.List.{length-append, length-set, get_or-set_same, get_or-set_other, get_or_past}
 use Rattle.std.specs.List.{filter, AllByRecursion}
 use Rattle.budb_changes.specs.declared.records.DumpRecordFields.{DumpRecordFields}
-use Rattle.budb_links.specs.declared.arena.TheConstants.{FAMILIES}
 use Rattle.budb_links.specs.Stands.{Stand, place_of, without_place}
 use Rattle.budb_links.specs.Chained.{Woven, chain_of}
 use Rattle.budb_links.specs.Entries.{Entry, without_id}
-use Rattle.budb_links.specs.Stored.{slot_at, head_of, stand_of, DistinctIds, HasPlace, Stores}
+use Rattle.budb_links.specs.Stored.{slot_at, stand_of, stands_at, DistinctIds, HasPlace, Stores}
 use Rattle.budb_links.proofs.Places.{filter_keeps, filter_drops}
 use Rattle.budb_links.proofs.Storing.{Holds}
 use Rattle.budb_links.proofs.Keeping.{free_set, free_push, full_apart}
@@ -75,41 +74,12 @@ agree slots id place es h d found =
 
 -- ---- without it
 
-module _ (id place : ℕ) (t : Entry → Bool) where
+module _ (id place : ℕ) where
   abbrev u : Entry → Bool
   u e = not (eqb e.dump.id id)
 
   abbrev v : Stand → Bool
   v s = not (eqb s.place place)
-
-  without_step : (e : Entry) (es : List Entry) → v (stand_of e) ≡ u e → filter v (map stand_of (filter t es)) ≡ map stand_of (filter t (filter u es)) → filter v (map stand_of (filter t (e ∷ es))) ≡ map stand_of (filter t (filter u (e ∷ es)))
-  without_step e es same rest =
-      ⊎_elim
-      (λ (ht : t e ≡ true).
-      ⊎_elim
-      (λ (hu : u e ≡ true).
-      ap (λ (l : List Entry). filter v (map stand_of l)) (filter_keeps t e es ht)
-      ∙ filter_keeps v (stand_of e) (map stand_of (filter t es)) (same ∙ hu)
-      ∙ ap (λ (l : List Stand). stand_of e ∷ l) rest
-      ∙ sym (ap (λ (l : List Entry). map stand_of (filter t l)) (filter_keeps u e es hu) ∙ ap (map stand_of) (filter_keeps t e (filter u es) ht)))
-      (λ (hu : u e ≡ false).
-      ap (λ (l : List Entry). filter v (map stand_of l)) (filter_keeps t e es ht)
-      ∙ filter_drops v (stand_of e) (map stand_of (filter t es)) (same ∙ hu)
-      ∙ rest
-      ∙ sym (ap (λ (l : List Entry). map stand_of (filter t l)) (filter_drops u e es hu)))
-      (cases_Bool (u e)))
-      (λ (ht : t e ≡ false).
-      ⊎_elim
-      (λ (hu : u e ≡ true).
-      ap (λ (l : List Entry). filter v (map stand_of l)) (filter_drops t e es ht)
-      ∙ rest
-      ∙ sym (ap (λ (l : List Entry). map stand_of (filter t l)) (filter_keeps u e es hu) ∙ ap (map stand_of) (filter_drops t e (filter u es) ht)))
-      (λ (hu : u e ≡ false).
-      ap (λ (l : List Entry). filter v (map stand_of l)) (filter_drops t e es ht)
-      ∙ rest
-      ∙ sym (ap (λ (l : List Entry). map stand_of (filter t l)) (filter_drops u e es hu)))
-      (cases_Bool (u e)))
-      (cases_Bool (t e))
 
   same_test : (e : Entry) → (e.place ≡ place → e.dump.id ≡ id) → (e.dump.id ≡ id → e.place ≡ place) → v (stand_of e) ≡ u e
   same_test e to back =
@@ -118,9 +88,22 @@ module _ (id place : ℕ) (t : Entry → Bool) where
       (λ (ne : e.dump.id ≡ id → ⊥). ap not (ne_eqb e.place place (λ p. ne (to p)) ∙ sym (ne_eqb e.dump.id id ne)))
       (cases_eq e.dump.id id)
 
-  pub without_both : (es : List Entry) → Agree id place es → filter v (map stand_of (filter t es)) ≡ map stand_of (filter t (filter u es))
+  without_both : (es : List Entry) → Agree id place es → filter v (map stand_of es) ≡ map stand_of (filter u es)
   without_both [] a = refl
-  without_both (e ∷ es) a = without_step e es (same_test e a.0.0 a.0.1) (without_both es a.1)
+  without_both (e ∷ es) a =
+      let same = same_test e a.0.0 a.0.1 in
+      let rest = without_both es a.1 in
+      ⊎_elim
+      (λ (h : u e ≡ true).
+      filter_keeps v (stand_of e) (map stand_of es) (same ∙ h)
+      ∙ ap (λ (l : List Stand). stand_of e ∷ l) rest
+      ∙ sym (ap (map stand_of) (filter_keeps u e es h)))
+      (λ (h : u e ≡ false). filter_drops v (stand_of e) (map stand_of es) (same ∙ h) ∙ rest ∙ sym (ap (map stand_of) (filter_drops u e es h)))
+      (cases_Bool (u e))
+
+  pub without_at : (head : ℕ) (es : List Entry) → Agree id place es → without_place place (stands_at head es) ≡ stands_at head (without_id id es)
+  without_at zero es a = without_both es a
+  without_at (suc head) es a = refl
 
 module _ (id : ℕ) where
   pub without_fresh : (es : List Entry) → AllByRecursion (λ x. x.dump.id ≢ id) es → without_id id es ≡ es
@@ -129,11 +112,11 @@ module _ (id : ℕ) where
       filter_keeps (λ (e : Entry). not (eqb e.dump.id id)) e es (not_from_false (eqb e.dump.id id) (ne_eqb e.dump.id id a.0))
       ∙ ap (λ (l : List Entry). e ∷ l) (without_fresh es a.1)
 
-  drops : (e : Entry) (es : List Entry) → e.dump.id ≡ id → without_id id (e ∷ es) ≡ without_id id es
+  pub drops : (e : Entry) (es : List Entry) → e.dump.id ≡ id → without_id id (e ∷ es) ≡ without_id id es
   drops e es same =
       filter_drops (λ (e : Entry). not (eqb e.dump.id id)) e es (not_from_true (eqb e.dump.id id) (eq-eqb e.dump.id id same))
 
-  keeps : (e : Entry) (es : List Entry) → e.dump.id ≢ id → without_id id (e ∷ es) ≡ e ∷ without_id id es
+  pub keeps : (e : Entry) (es : List Entry) → e.dump.id ≢ id → without_id id (e ∷ es) ≡ e ∷ without_id id es
   keeps e es ne =
       filter_keeps (λ (e : Entry). not (eqb e.dump.id id)) e es (not_from_false (eqb e.dump.id id) (ne_eqb e.dump.id id ne))
 
@@ -198,7 +181,7 @@ module _ (id : ℕ) where
 
 module _ (arena arena' : Woven) (slots : List (Option DumpRecordFields)) (free : List ℕ) (es : List Entry) (id place : ℕ)
     (s : Stores arena slots free es) (found : place_of id (map stand_of es) ≡ Some place)
-    (cut : (family head : ℕ) → family < FAMILIES → chain_of arena' family head ≡ without_place place (chain_of arena family head))
+    (cut : (head : ℕ) → chain_of arena' 0 head ≡ without_place place (chain_of arena 0 head))
     (rows : length arena'.rows ≡ length arena.rows) (ends : length arena'.ends ≡ length arena.ends) where
   removed_only : (within : place < length slots) (at : ℕ) (d : DumpRecordFields) → slot_at (set slots place None) at ≡ Some d → HasPlace at (without_id id es)
   removed_only within at d full =
@@ -219,7 +202,7 @@ module _ (arena arena' : Woven) (slots : List (Option DumpRecordFields)) (free :
       let long = length-set slots place None in
       let less = one_less id place es s.ids found in
       record {
-        chains = λ family head in_range. cut family head in_range ∙ ap (without_place place) (s.chains family head in_range) ∙ without_both id place (λ e. eqb (head_of family e.dump) head) es a;
+        chains = λ head. cut head ∙ ap (without_place place) (s.chains head) ∙ without_at id place head es a;
         holds = holds_without id slots place es a s.holds;
         only = removed_only within;
         ids = ids_without id es s.ids;

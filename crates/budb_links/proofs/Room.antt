@@ -1,10 +1,12 @@
 -- More places for records.
-use Rattle.std.proofs.Common.{◌≡◌, ◌≢◌, ℕ, zero, suc, ◌+◌, ◌≤◌, List, [], ◌∷◌, ◌++◌, length, replicate, Option, None, refl, sym, ◌∙◌, ap, subst, arith, add-one}
+use Rattle.std.proofs.Common.{◌≡◌, ◌≢◌, ℕ, zero, suc, ◌+◌, ◌<◌, ◌≤◌, List, [], ◌∷◌, ◌++◌, length, replicate, Option, None, refl, sym, ◌∙◌, ap, subst, arith, add-one}
 use Rattle.std.proofs.lemmas.List.{append-nil, append_assoc, length-append, length-replicate, get_or_append_left, get_or_push, replicate_more}
+use Rattle.std.specs.Prelude.{Result, Ok, Err, OnOk, OnErr}
 use Rattle.std.specs.List.{AllByRecursion}
 use Rattle.budb_changes.specs.declared.records.DumpRecordFields.{DumpRecordFields}
 use Rattle.budb_links.specs.Chained.{Woven, chain_of}
 use Rattle.budb_links.specs.Entries.{Entry}
+use Rattle.budb_links.specs.Keys.{Numbering, numbers_in}
 use Rattle.budb_links.specs.Stored.{slot_at, entries_of, AreFree, Stores, numbers_from}
 use Rattle.budb_links.proofs.Storing.{Holds, stored_is, stores_as}
 use Rattle.budb_links.proofs.Keeping.{free_push}
@@ -79,24 +81,24 @@ module _ (arena arena' : Woven) (slots : List (Option DumpRecordFields)) (free :
   -- where the arena alone has grown
   pub wider : Stores arena' slots free es
   wider = record {
-    chains = λ family head in_range. same family head ∙ s.chains family head in_range;
+    chains = λ head. same 0 head ∙ s.chains head;
     holds = s.holds;
     only = s.only;
     ids = s.ids;
     vacant = s.vacant;
     all = s.all;
     rows = omega (arith, s.rows, rows);
-    heads = λ h. omega (arith, s.heads h, ends);
+    heads = λ h. let old = s.heads h in omega (arith, old, ends);
   }
 
   -- where there are more places
-  pub roomier : (count : ℕ) → length slots + count ≤ length arena'.rows → 1024 ≤ length arena'.ends → Stores arena' (slots ++ replicate count None) (free ++ numbers_from (length slots) count) es
+  pub roomier : (count : ℕ) → length slots + count ≤ length arena'.rows → 0 < length arena'.ends → Stores arena' (slots ++ replicate count None) (free ++ numbers_from (length slots) count) es
   roomier count enough heads =
       let long = length-append slots (replicate count None) in
       let none : Option DumpRecordFields = None in
       let blanks = length-replicate count none in
       record {
-        chains = λ family head in_range. same family head ∙ s.chains family head in_range;
+        chains = λ head. same 0 head ∙ s.chains head;
         holds = same_holds slots count es s.holds;
         only = λ place dump full. s.only place dump (sym (same_slot slots count place) ∙ full);
         ids = s.ids;
@@ -111,10 +113,37 @@ pub record Roomy (arena' : Woven) (slots' : List (Option DumpRecordFields)) (fre
   pub stores : Stores arena' slots' free' (entries_of slots' (chain_of arena' 0 0))
   pub same : entries_of slots' (chain_of arena' 0 0) ≡ es
 
-pub roomy : (arena arena' : Woven) (slots slots' : List (Option DumpRecordFields)) (free free' : List ℕ) (es : List Entry) (first count : ℕ) → Stores arena slots free es → ((family head : ℕ) → chain_of arena' family head ≡ chain_of arena family head) → length arena.rows ≤ length arena'.rows → length arena.ends ≤ length arena'.ends → length slots + count ≤ length arena'.rows → 1024 ≤ length arena'.ends → first ≡ length slots → slots' ≡ slots ++ replicate count None → free' ≡ free ++ numbers_from first count → Roomy arena' slots' free' es
+pub roomy : (arena arena' : Woven) (slots slots' : List (Option DumpRecordFields)) (free free' : List ℕ) (es : List Entry) (first count : ℕ) → Stores arena slots free es → ((family head : ℕ) → chain_of arena' family head ≡ chain_of arena family head) → length arena.rows ≤ length arena'.rows → length arena.ends ≤ length arena'.ends → length slots + count ≤ length arena'.rows → 0 < length arena'.ends → first ≡ length slots → slots' ≡ slots ++ replicate count None → free' ≡ free ++ numbers_from first count → Roomy arena' slots' free' es
 roomy arena arena' slots slots' free free' es first count s same rows ends enough heads is slots_are free_are =
     let made = roomier arena arena' slots free es s same rows ends count enough heads in
     let one = subst (λ (n : ℕ). Stores arena' (slots ++ replicate count None) (free ++ numbers_from n count) es) (sym is) made in
     let two = subst (λ (t : List ℕ). Stores arena' (slots ++ replicate count None) t es) (sym free_are) one in
     let all = subst (λ (t : List (Option DumpRecordFields)). Stores arena' t free' es) (sym slots_are) two in
     record { stores = stores_as arena' slots' free' es all; same = stored_is arena' slots' free' es all }
+
+-- ---- where new places were asked for, whether or not memory was refused
+
+module _ {T E : Type 0} (arena arena' : Woven) (slots slots' : List (Option DumpRecordFields)) (free free' : List ℕ) (es : List Entry) (count : ℕ) (s : Stores arena slots free es) where
+  pub asked :
+      (r : Result T E) → OnOk r (slots' ≡ slots ++ replicate count None) → OnErr r (slots' ≡ slots)
+      → OnOk r (free' ≡ free ++ numbers_from (length slots) count) → OnErr r (free' ≡ free)
+      → ((family head : ℕ) → chain_of arena' family head ≡ chain_of arena family head) → length arena.rows ≤ length arena'.rows → length arena.ends ≤ length arena'.ends
+      → length slots + count ≤ length arena'.rows → 0 < length arena'.ends → Roomy arena' slots' free' es
+  asked (Ok v) made none freed same_free same rows ends enough heads =
+      roomy arena arena' slots slots' free free' es (length slots) count s same rows ends enough heads refl made freed
+  asked (Err e) made none freed same_free same rows ends enough heads =
+      let one = wider arena arena' slots free es s same rows ends in
+      let two = subst (λ (t : List ℕ). Stores arena' slots t es) (sym same_free) one in
+      let all = subst (λ (t : List (Option DumpRecordFields)). Stores arena' t free' es) (sym none) two in
+      record { stores = stores_as arena' slots' free' es all; same = stored_is arena' slots' free' es all }
+
+pub asked_long : {T E X : Type 0} (slots slots' : List (Option X)) (count : ℕ) (r : Result T E) → OnOk r (slots' ≡ slots ++ replicate count None) → OnErr r (slots' ≡ slots) → length slots' ≤ length slots + count
+asked_long slots slots' count (Ok v) made none =
+    let blank : Option _ = None in
+    omega (arith, ap length made, length-append slots (replicate count blank), length-replicate count blank)
+asked_long slots slots' count (Err e) made none = omega (arith, ap length none)
+
+pub asked_numbers : {T E X : Type 0} (ids ids' : Numbering) (slots slots' : List X) (r : Result T E) → numbers_in ids ≡ length slots → ids'.used ≡ ids.used → OnOk r (numbers_in ids' ≡ length slots') → OnErr r (slots' ≡ slots) → OnErr r (ids'.spare ≡ ids.spare) → numbers_in ids' ≡ length slots'
+asked_numbers ids ids' slots slots' (Ok v) count used total none same = total
+asked_numbers ids ids' slots slots' (Err e) count used total none same =
+    omega (arith, count, ap length used, ap length none, ap length same)

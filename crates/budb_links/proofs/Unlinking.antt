@@ -1,15 +1,14 @@
--- An unlink, cut by cut.
-use Rattle.std.proofs.Common.{◌≡◌, ◌≢◌, inl, inr, ℕ, zero, suc, ◌%◌, ◌<◌, List, [], ◌∷◌, ◌++◌, length, set, map, Option, Some, None, sym, ◌∙◌, ap, subst, arith, ⊎_elim}
+-- An unlink.
+use Rattle.std.proofs.Common.{◌≡◌, ◌≢◌, inl, inr, ℕ, ◌<◌, List, [], ◌∷◌, ◌++◌, length, set, map, Option, Some, None, sym, ◌∙◌, ap, subst, arith, ⊎_elim}
 use Rattle.std.proofs.lemmas.Bool.{cases_eq, eq-eqb, ne_eqb, cond-true, cond-false}
 use Rattle.budb_changes.specs.declared.records.DumpRecordFields.{DumpRecordFields}
-use Rattle.budb_links.specs.declared.arena.TheConstants.{FAMILIES}
 use Rattle.budb_links.specs.Stands.{Stand, Among, place_of, without_place}
 use Rattle.budb_links.specs.Chained.{Woven, chain_of}
 use Rattle.budb_links.specs.Entries.{Entry, dumps_of, record_of, without_id}
 use Rattle.budb_links.specs.Stored.{slot_at, stand_of, entries_of, Stores}
-use Rattle.budb_links.proofs.Storing.{all_in, slot_of, found_place, found_record, found_slot, stored_is, stores_as}
+use Rattle.budb_links.proofs.Storing.{slot_of, found_slot, stored_is, stores_as}
 use Rattle.budb_links.proofs.Keeping.{fresh_id}
-use Rattle.budb_links.proofs.Removing.{Agree, agree, found_full, full_within, without_fresh, one_less, removed}
+use Rattle.budb_links.proofs.Removing.{Agree, agree, found_full, full_within, without_fresh, removed}
 
 place_among : (id place : ℕ) (ss : List Stand) → place_of id ss ≡ Some place → Among place ss
 place_among id place [] e = absurd (let no : ⊥ = cc in no)
@@ -26,55 +25,40 @@ pub record Cut (old new : Woven) (family place : ℕ) : Type 0 where
   pub places : length new.rows ≡ length old.rows
   pub heads : length new.ends ≡ length old.ends
 
-module _ (arena : Woven) (slots : List (Option DumpRecordFields)) (free : List ℕ) (es : List Entry) (s : Stores arena slots free es) (id bucket : ℕ) (is : bucket ≡ id % 1024) where
+module _ (arena : Woven) (slots : List (Option DumpRecordFields)) (free : List ℕ) (es : List Entry) (s : Stores arena slots free es) (id : ℕ) where
   -- where no record has the id
-  pub none_less : place_of id (chain_of arena 1 bucket) ≡ None → es ≡ without_id id es
+  pub none_less : place_of id (map stand_of es) ≡ None → es ≡ without_id id es
   none_less none =
-      let absent = sym (found_record arena slots free es id bucket is s) ∙ ap (slot_of slots) none in
+      let absent = sym (found_slot slots id es s.holds) ∙ ap (slot_of slots) none in
       sym (without_fresh id es (fresh_id id es absent))
 
-  module _ (place : ℕ) (found : place_of id (chain_of arena 1 bucket) ≡ Some place) where
-    found_whole : place_of id (map stand_of es) ≡ Some place
-    found_whole = sym (found_place arena slots free es id bucket is s) ∙ found
-
+  module _ (place : ℕ) (found : place_of id (map stand_of es) ≡ Some place) where
     pub agreed : Agree id place es
-    agreed = agree slots id place es s.holds s.ids found_whole
+    agreed = agree slots id place es s.holds s.ids found
 
     pub found_in_slots : place < length slots
     found_in_slots =
-        let f = found_full slots id place es s.holds found_whole in
+        let f = found_full slots id place es s.holds found in
         full_within slots place f.dump f.full
 
     pub found_in_rows : place < length arena.rows
     found_in_rows = omega (arith, found_in_slots, s.rows)
 
-    pub among_bucket : Among place (chain_of arena 1 bucket)
-    among_bucket = place_among id place (chain_of arena 1 bucket) found
-
     pub among_all : Among place (chain_of arena 0 0)
-    among_all = subst (Among place) (sym (s.chains 0 0 (omega arith) ∙ all_in es)) (place_among id place (map stand_of es) found_whole)
-
-    pub free_short : length free < length slots
-    free_short = omega (arith, s.all, one_less id place es s.ids found_whole)
+    among_all = subst (Among place) (sym (s.chains 0)) (place_among id place (map stand_of es) found)
 
     pub found_value : slot_at slots place ≡ record_of id (dumps_of es)
-    found_value = ap (slot_of slots) (sym found_whole) ∙ found_slot slots id es s.holds
+    found_value = ap (slot_of slots) (sym found) ∙ found_slot slots id es s.holds
 
     pub found_some : (dump : DumpRecordFields) × (slot_at slots place ≡ Some dump)
-    found_some = let f = found_full slots id place es s.holds found_whole in (f.dump, f.full)
+    found_some = let f = found_full slots id place es s.holds found in (f.dump, f.full)
 
-    module _ (one two : Woven) (first : Cut arena one 0 place) (second : Cut one two 1 place) where
-      cut_chain : (family head : ℕ) → family < FAMILIES → chain_of two family head ≡ without_place place (chain_of arena family head)
-      cut_chain zero head h = second.families 0 head (λ e. cc) ∙ first.chains head
-      cut_chain (suc zero) head h = second.chains head ∙ ap (without_place place) (first.families 1 head (λ e. cc))
-      cut_chain (suc (suc family)) head h = absurd (omega (arith, h))
+    module _ (one : Woven) (cut : Cut arena one 0 place) where
+      after_unlink : Stores one (set slots place None) (free ++ place ∷ []) (without_id id es)
+      after_unlink = removed arena one slots free es id place s found cut.chains cut.places cut.heads
 
-      after_unlink : Stores two (set slots place None) (free ++ place ∷ []) (without_id id es)
-      after_unlink =
-          removed arena two slots free es id place s found_whole cut_chain (second.places ∙ first.places) (second.heads ∙ first.heads)
+      pub unlink_stores : Stores one (set slots place None) (free ++ place ∷ []) (entries_of (set slots place None) (chain_of one 0 0))
+      unlink_stores = stores_as one (set slots place None) (free ++ place ∷ []) (without_id id es) after_unlink
 
-      pub unlink_stores : Stores two (set slots place None) (free ++ place ∷ []) (entries_of (set slots place None) (chain_of two 0 0))
-      unlink_stores = stores_as two (set slots place None) (free ++ place ∷ []) (without_id id es) after_unlink
-
-      pub unlink_is : entries_of (set slots place None) (chain_of two 0 0) ≡ without_id id es
-      unlink_is = stored_is two (set slots place None) (free ++ place ∷ []) (without_id id es) after_unlink
+      pub unlink_is : entries_of (set slots place None) (chain_of one 0 0) ≡ without_id id es
+      unlink_is = stored_is one (set slots place None) (free ++ place ∷ []) (without_id id es) after_unlink

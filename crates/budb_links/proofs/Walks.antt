@@ -1,5 +1,5 @@
 -- A walk along the chain of all records.
-use Rattle.std.proofs.Common.{◌≡◌, ◌≢◌, inl, inr, ℕ, zero, suc, ◌+◌, List, [], ◌∷◌, map, Option, Some, None, refl, sym, ◌∙◌, ap, arith, add-one}
+use Rattle.std.proofs.Common.{◌≡◌, ◌≢◌, inl, inr, ℕ, zero, suc, ◌+◌, List, [], ◌∷◌, map, Option, Some, None, refl, sym, ◌∙◌, ap, add-one}
 use Rattle.std.specs.Prelude.{slice_get}
 use Rattle.std.proofs.lemmas.Bool.{eq-eqb, ne_eqb, cond-true, cond-false}
 use Rattle.budb_changes.specs.declared.records.DumpRecordFields.{DumpRecordFields}
@@ -7,7 +7,6 @@ use Rattle.budb_links.specs.Stands.{Stand, first_place, Apart, Among, Distinct, 
 use Rattle.budb_links.specs.Chained.{Woven, chain_of}
 use Rattle.budb_links.specs.Entries.{Entry, places_of}
 use Rattle.budb_links.specs.Stored.{stand_of, Stores}
-use Rattle.budb_links.proofs.Storing.{all_in}
 
 abbrev pub places_in : List Stand → List ℕ
 places_in = map (λ s. s.place)
@@ -40,7 +39,7 @@ behind_at (s ∷ ss) (suc index) place d e =
 
 module _ (arena : Woven) (slots : List (Option DumpRecordFields)) (free : List ℕ) (es : List Entry) where
   whole : Stores arena slots free es → chain_of arena 0 0 ≡ map stand_of es
-  whole s = s.chains 0 0 (omega arith) ∙ all_in es
+  whole s = s.chains 0
 
   whole_places : Stores arena slots free es → places_in (chain_of arena 0 0) ≡ places_of es
   whole_places s = ap places_in (whole s) ∙ same_places es

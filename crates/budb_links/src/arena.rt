@@ -71,7 +71,7 @@ impl Ends {
 }
 
 ghost use Rattle.budb_links.specs.declared.arena.Link.{Link};
-ghost use Rattle.budb_links.specs.Stands.{first_place, Apart, Among, Distinct, place_behind, place_of, without_place};
+ghost use Rattle.budb_links.specs.Stands.{first_place, Apart, Among, Distinct, place_behind, without_place};
 ghost use Rattle.budb_links.specs.Chained.{chain_of, stand_at, no_link, links_of, link_at, with_link, with_after, with_before, with_first, with_last};
 
 /// Makes a vector at least so long, with a blank value at each new place.
@@ -298,29 +298,5 @@ impl Arena {
             steps,
         );
         self.ends[link.head][family] = ended;
-    }
-
-    /// The place of an id in a chain.
-    pub fn find<L: Ledger>(
-        &self,
-        family: usize,
-        head: usize,
-        id: u32,
-        steps: &mut Steps<L>,
-    ) -> Option<usize>
-        requires { family < FAMILIES }
-        ensures found { result ≡ place_of id (chain_of self.now family head) }
-        ensures cost { steps.new ≤ steps.old + length (chain_of self.now family head) }
-    {
-        let mut at = self.first(family, head);
-        while let Some(place) = at {
-            steps.tick();
-            let link = self.rows[place][family];
-            if link.id == id {
-                return Some(place);
-            }
-            at = link.after;
-        }
-        None
     }
 }

@@ -3,6 +3,7 @@
 
 mod arena;
 mod frags;
+mod ids;
 mod keys;
 mod links;
 mod numbers;

@@ -1,4 +1,4 @@
-//! The records of dumps, linked by index: all of them in the order of recording, those of each bucket of ids, of each
+//! The records of dumps, linked by index: each at the place of its id, all of them in the order of recording, those of each
 //! volume set and of each initial id, and the fragments of each dump and of the volumes of each name.
 
 ghost use Rattle.std.specs.Prelude.{◌≡◌, ℕ, ◌+◌, ◌*◌, ◌<◌, ◌≤◌, List, [], ◌∷◌, ◌++◌, length, slice_get, Some, None, OnOk, OnErr, IsOk, is_some, if◌then◌else◌};

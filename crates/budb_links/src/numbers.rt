@@ -84,6 +84,13 @@ impl Numbers {
         }
     }
 
+    /// How many numbers no key has.
+    pub fn spare(&self) -> usize
+        ensures { result ≡ length self.now.spare }
+    {
+        self.spare.len()
+    }
+
     /// Where a key stands, or where it would stand.
     fn place(&self, key: &[u8]) -> Result<usize, usize>
         ensures { MatchResult result (IsKeyAt key.now self.now.used) (IsNewAt key.now self.now.used) }

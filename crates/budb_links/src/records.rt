@@ -1,15 +1,15 @@
-//! The records of dumps in their chains: all of them in the order of recording, and those of each bucket of ids, of each
-//! volume set and of each initial id.
+//! The records of dumps: each at the place of its id, in the chain of all of them in the order of recording, and in those
+//! of its volume set and of its initial id.
 
-ghost use Rattle.std.specs.Prelude.{◌≡◌, ◌≢◌, ℕ, ◌+◌, ◌%◌, ◌^◌, ◌<◌, ◌≤◌, [], ◌∷◌, ◌++◌, length, slice_get, Some, None, OnOk, OnErr, IsOk, is_some, if◌then◌else◌, vec_len, vec_capacity};
+ghost use Rattle.std.specs.Prelude.{◌≡◌, ◌≢◌, ℕ, ◌+◌, ◌^◌, ◌<◌, ◌≤◌, [], ◌∷◌, ◌++◌, length, slice_get, Some, None, OnOk, OnErr, IsOk, is_some, if◌then◌else◌};
 ghost use Rattle.std.specs.Option.{option_copied};
-ghost use Rattle.budb_links.specs.Entries.{entry_at, dumps_of, places_of, record_of, record_at, without_id, of_bucket, of_set, of_initial};
+ghost use Rattle.budb_links.specs.Entries.{entry_at, dumps_of, places_of, record_of, record_at, without_id, of_set, of_initial};
 ghost use Rattle.budb_links.specs.Keyed.{Differ};
 
 use crate::arena::Arena;
+use crate::ids::{Ids, widen};
 use crate::keys::{IDS, Keys, NAMES, unlink_keys};
 use crate::shelf::Shelf;
-use crate::spare::add_free;
 use crate::steps::Steps;
 use budb_changes::DumpRecord;
 use std::alloc::{AllocError, Global};
@@ -19,42 +19,37 @@ use std::sync::ledger::Ledger;
 /// The family of the one chain of all records.
 const ALL: usize = 0;
 
-/// The family of the chains by the remainder of the id.
-const BY_ID: usize = 1;
-
-/// How many remainders there are.
-const BUCKETS: usize = 1024;
-
 /// Records of dumps in their chains. Contracts see the records in the order of recording, each with its place, and how
 /// many more have room.
 #[derive(Drop)]
 pub(crate) struct Records {
     arena: Arena,
     shelf: Shelf,
-    free: Vec<usize>,
+    ids: Ids,
     keys: Keys,
 }
 
 impl Model for Records {
-    ghost use Rattle.std.specs.Prelude.{◌≤◌, length, vec_capacity};
+    ghost use Rattle.std.specs.Prelude.{length};
     ghost use Rattle.budb_links.specs.Entries.{Recorded};
 
     ghost Value = { Recorded };
 
     ghost use Rattle.budb_links.specs.Chained.{chain_of};
-    ghost use Rattle.budb_links.specs.Stored.{Stores, entries_of};
+    ghost use Rattle.budb_links.specs.Stored.{Stores, NumbersIds, entries_of};
     ghost use Rattle.budb_links.specs.Keyed.{StoresKeys, filed_records};
 
-    ghost view = { λ a. record { entries = entries_of a.shelf (chain_of a.arena 0 0); spare_records = length a.free.items } };
+    ghost view = { λ a. record { entries = entries_of a.shelf (chain_of a.arena 0 0); spare_records = length a.ids.spare } };
 
-    ghost invariant = { λ a. Stores a.arena a.shelf a.free.items (entries_of a.shelf (chain_of a.arena 0 0)) × (length a.shelf ≤ vec_capacity a.free) × StoresKeys a.keys (length a.shelf) (filed_records (entries_of a.shelf (chain_of a.arena 0 0))) };
+    ghost invariant = { λ a. Stores a.arena a.shelf a.ids.spare (entries_of a.shelf (chain_of a.arena 0 0)) × NumbersIds a.ids (length a.shelf) (entries_of a.shelf (chain_of a.arena 0 0)) × StoresKeys a.keys (length a.shelf) (filed_records (entries_of a.shelf (chain_of a.arena 0 0))) };
 }
 
-/// The remainder of an id.
-fn bucket_of(id: u32) -> usize
-    ensures { result ≡ id % 1024 }
+/// The id of a record.
+fn id_of(dump: &DumpRecord) -> u32
+    ensures is { result ≡ dump.now.id }
+    ensures small { result < 2 ^ 32 }
 {
-    id as usize % BUCKETS
+    dump.fields().id
 }
 
 impl Records {
@@ -66,7 +61,7 @@ impl Records {
         Records {
             arena: Arena::new(alloc),
             shelf: Shelf::new(alloc),
-            free: Vec::new(alloc),
+            ids: Ids::new(alloc),
             keys: Keys::new(alloc),
         }
     }
@@ -79,26 +74,23 @@ impl Records {
         ensures err { OnErr result (self.new ≡ self.old) }
         ensures enough { records ≤ self.old.spare_records → IsOk result }
     {
-        let spare = self.free.len();
+        let spare = self.ids.free();
         if records <= spare {
             return Ok(());
         }
         let count = records - spare;
         let first = self.shelf.places();
         let total = first.checked_add(count).ok_or(AllocError)?;
-        self.arena.reserve(BUCKETS, total)?;
-        self.free.reserve(total)?;
+        self.arena.reserve(1, total)?;
         self.keys.reserve(total)?;
-        self.shelf.grow(count)?;
-        add_free(&mut self.free, first, count);
-        Ok(())
+        widen(&mut self.shelf, &mut self.ids, count)
     }
 
     /// How many more records have room.
     pub fn spare_records(&self) -> usize
         ensures { result ≡ self.now.spare_records }
     {
-        self.free.len()
+        self.ids.free()
     }
 
     /// Puts a record behind all others. It takes no memory.
@@ -109,10 +101,9 @@ impl Records {
         ensures spare { self.new.spare_records + 1 ≡ self.old.spare_records }
         ensures cost { steps.new ≤ steps.old + 10 }
     {
-        let id = dump.fields().id;
-        let place = self.free.take_last();
+        let id = id_of(&dump);
+        let place = self.ids.enter(id);
         self.arena.push(ALL, 0, place, id, steps);
-        self.arena.push(BY_ID, bucket_of(id), place, id, steps);
         let fields = dump.fields();
         self.keys
             .link(place, id, fields.set.bytes(), fields.initial, steps);
@@ -124,15 +115,14 @@ impl Records {
         ensures record { result ≡ record_of id (dumps_of self.old.entries) }
         ensures entries { self.new.entries ≡ without_id id self.old.entries }
         ensures spare { self.new.spare_records ≡ (if is_some result then self.old.spare_records + 1 else self.old.spare_records) }
-        ensures cost { steps.new ≤ steps.old + of_bucket id (dumps_of self.old.entries) + 11 }
+        ensures cost { steps.new ≤ steps.old + 9 }
     {
-        match self.arena.find(BY_ID, bucket_of(id), id, steps) {
+        match self.ids.find(id) {
             None => None,
             Some(place) => {
                 let row = self.arena.look(place, steps);
                 self.arena.cut(ALL, place, row[ALL], steps);
-                self.arena.cut(BY_ID, place, row[BY_ID], steps);
-                self.free.push_reserved(place);
+                self.ids.leave(id);
                 let taken = self.shelf.take(place, steps);
                 unlink_keys(&mut self.keys, place, &taken, steps);
                 taken
@@ -143,9 +133,9 @@ impl Records {
     /// The record of an id; `None` where there is none.
     pub fn find<L: Ledger>(&self, id: u32, steps: &mut Steps<L>) -> Option<&DumpRecord>
         ensures record { option_copied result ≡ record_of id (dumps_of self.now.entries) }
-        ensures cost { steps.new ≤ steps.old + of_bucket id (dumps_of self.now.entries) + 1 }
+        ensures cost { steps.new ≤ steps.old + 1 }
     {
-        match self.arena.find(BY_ID, bucket_of(id), id, steps) {
+        match self.ids.find(id) {
             None => None,
             Some(place) => self.shelf.get(place, steps),
         }

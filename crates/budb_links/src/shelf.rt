@@ -1,6 +1,6 @@
 //! The records at their places. Records are reached through it alone, and it counts a step for each that is looked at.
 
-ghost use Rattle.std.specs.Prelude.{◌≡◌, ◌+◌, ◌<◌, ◌≤◌, [], ◌++◌, length, replicate, slice_set, Some, None, OnOk, OnErr, vec_len, vec_capacity};
+ghost use Rattle.std.specs.Prelude.{◌≡◌, ◌+◌, ◌<◌, ◌≤◌, [], ◌++◌, length, take, replicate, slice_set, Some, None, OnOk, OnErr, vec_len, vec_capacity};
 ghost use Rattle.std.specs.Option.{option_copied};
 ghost use Rattle.budb_links.specs.Stored.{slot_at};
 
@@ -60,6 +60,13 @@ impl Shelf {
         self.slots.reserve(count)?;
         add_blanks(&mut self.slots, count);
         Ok(())
+    }
+
+    /// Takes all places away but so many first ones.
+    pub fn shorten(&mut self, places: usize)
+        ensures { self.new ≡ take places self.old }
+    {
+        self.slots.truncate(places);
     }
 
     /// The record at a place.

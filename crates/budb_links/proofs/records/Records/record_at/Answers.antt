@@ -11,7 +11,7 @@ pub returns-clause-record : goal.returns-clause-record
 returns-clause-record g c =
     let arena = c.self.inside.arena in
     let slots = c.self.inside.shelf in
-    let here = record_at_slot arena slots c.self.inside.free.items (entries_of slots (chain_of arena 0 0)) c.args.at c.self.invariant.0 in
+    let here = record_at_slot arena slots c.self.inside.ids.spare (entries_of slots (chain_of arena 0 0)) c.args.at c.self.invariant.0 in
     c.get.ensures.value ∙ here ∙ ap (λ (l : Recorded). record_at c.args.at l.entries) c.self.view_is
 
 pub returns-clause-apart : goal.returns-clause-apart
