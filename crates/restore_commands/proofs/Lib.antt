@@ -1,6 +1,7 @@
 pub mod NameLaws
 pub mod MatchLaws
 pub mod OrderedNames
+pub mod SortedNames
 pub mod PutLaws
 pub mod LineLaws
 pub mod FoundLaws

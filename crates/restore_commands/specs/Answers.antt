@@ -75,6 +75,7 @@ lines_along is_trial target listed one ids =
     if is_trial then would_restore_line target one.dump.id (length ids) ++ need_lines (needs listed ids one.volume.name)
     else restored_line target one.dump.id (length ids)
 
+-- what is told of a restored volume, by the chain of its dump; nothing where a dump of it is missing
 abbrev pub lines_by : Bool → List ℕ → List DumpRecordFields → VolumeDump → Result (List ℕ) ℕ → List ℕ
 lines_by is_trial target listed one (Ok ids) = lines_along is_trial target listed one ids
 lines_by is_trial target listed one (Err missing) = []
@@ -84,6 +85,7 @@ abbrev pub lines_of : Bool → List ℕ → List DumpRecordFields → Option Vol
 lines_of is_trial target listed None = []
 lines_of is_trial target listed (Some one) = lines_by is_trial target listed one (chain_in listed one.dump.id one.volume.name)
 
+-- a volume is refused by this line, and the cell stays as it is
 abbrev pub refused_as : List ℕ → VolumeAnswer
 refused_as text = record { told = Refused text; cells = [] }
 
@@ -124,6 +126,7 @@ abbrev pub told_lines : Told → List ℕ
 told_lines (Restored lines) = lines
 told_lines (Refused line) = line
 
+-- one volume's answer, in front of those of the volumes after it
 abbrev pub behind : VolumeAnswer → RestoreAnswer → RestoreAnswer
 behind first rest = record { reply = told_lines first.told ++ rest.reply; cells = first.cells ++ rest.cells }
 
@@ -142,5 +145,6 @@ abbrev pub entries_answer : Archive → List Stored → Manner → List ℕ → 
 entries_answer a cell manner name None = record { reply = refused_word refusals.NoSuchSet name; cells = [] }
 entries_answer a cell manner name (Some entries) = all_answer a cell manner (set_choices (listed_of a) entries)
 
+-- the answer of `volsetrestore`, over the volume set of this name
 abbrev pub set_answer : Archive → List VolumeSet → List Stored → Manner → List ℕ → RestoreAnswer
 set_answer a sets cell manner name = entries_answer a cell manner name (entries_of name sets)

@@ -20,6 +20,7 @@ use Rattle.restore_commands.specs.Bases.{base_names}
 abbrev pub lay_on : Disk → VolumeDump → Bool
 lay_on disk one = is_same_text one.volume.server disk.server && is_same_text one.volume.partition disk.partition
 
+-- the base name, where its latest dump names that server and that partition
 abbrev pub disk_choice : Disk → List ℕ → Option VolumeDump → List Wanted
 disk_choice disk name None = []
 disk_choice disk name (Some one) =
@@ -38,6 +39,7 @@ abbrev pub matched_by : Option (List Item) → List ℕ → Bool
 matched_by None name = false
 matched_by (Some items) name = match_items items name
 
+-- a pattern matches a name, as the test says that reads it byte by byte
 unfoldable pub is_matched : List ℕ → List ℕ → Bool
 is_matched pattern name = matched_by (read Start (item_mind 0) pattern) name
 
@@ -50,6 +52,7 @@ is_any_or (Some wanted) found = is_same_text wanted found
 abbrev pub suits : VolumeDump → SetEntry → Bool
 suits one entry = is_any_or entry.server one.volume.server && (is_any_or entry.partition one.volume.partition && is_matched entry.pattern one.volume.name)
 
+-- the base name, where some entry has the volume of its latest dump
 abbrev pub set_choice : List SetEntry → List ℕ → Option VolumeDump → List Wanted
 set_choice entries name None = []
 set_choice entries name (Some one) = if list_any (suits one) entries then record { name = name; before = None; server = one.volume.server; partition = one.volume.partition } ∷ [] else []

@@ -23,9 +23,11 @@ use Rattle.restore_commands.specs.Answers.{Manner, VolumeAnswer, RestoreAnswer, 
 abbrev pub last_id : List ℕ → ℕ
 last_id dumps = unwrap_or (slice_get dumps (length dumps - 1)) 0
 
+-- the line of a tape that is needed
 abbrev pub tape_line : TapeNeed → List ℕ
 tape_line tape = need_line tape.name tape.initial
 
+-- what is told of a volume that a plan restores; of a trial its tapes too
 abbrev pub planned_lines : Bool → List ℕ → ChainPlan → List ℕ
 planned_lines is_trial target plan =
     if is_trial then would_restore_line target (last_id plan.dumps) (length plan.dumps) ++ flat_map tape_line plan.tapes
@@ -44,6 +46,7 @@ fault_line name target faults.Memory = []
 
 -- ---- what is told by the cell
 
+-- the volume is restored with these lines, or refused by the fault of the cell
 abbrev pub told_by : List ℕ → List ℕ → Result (Unit {0}) CellFault → Told
 told_by target lines (Ok done) = Restored lines
 told_by target lines (Err fault) = Refused (target_refusal target fault)

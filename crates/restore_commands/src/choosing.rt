@@ -5,14 +5,13 @@ ghost use Rattle.std.specs.List.{list_any};
 ghost use Rattle.std.specs.Option.{unwrap_or};
 ghost use Rattle.bk_text.specs.Patterns.{IsPattern};
 ghost use Rattle.volume_sets.specs.Expansions.{Matches};
-ghost use Rattle.budb_fold.specs.Lookups.{latest};
 ghost use Rattle.restore_commands.specs.Choices.{lay_on, disk_choice, disk_choices, is_matched, suits, set_choice, set_choices};
 
 use crate::bases::base_names;
 use backup_words::{Disk, Wanted};
 use bk_text::{Host, List, Name, Part};
-use budb_changes::DumpRecord;
-use budb_fold::{VolumeDump, latest};
+use budb::Budb;
+use budb_fold::VolumeDump;
 use std::alloc::{AllocError, Global};
 use volume_sets::SetEntry;
 
@@ -72,15 +71,15 @@ fn choose_on(
 /// and that partition.
 pub(crate) fn disk_choices(
     alloc: Global,
-    listed: &[DumpRecord],
+    budb: &Budb,
     disk: &Disk,
 ) -> Result<List<Wanted>, AllocError>
-    ensures { IfOk result (λ choices. choices ≡ disk_choices listed.now disk.now) }
+    ensures { IfOk result (λ choices. choices ≡ disk_choices budb.now.database.listed disk.now) }
 {
-    let names = base_names(alloc, listed)?;
+    let names = base_names(alloc, budb.database().listed.as_slice())?;
     let mut choices = List::new(alloc);
     for name in names.as_slice() {
-        let one = latest(alloc, listed, name.bytes(), None)?;
+        let one = budb.latest(name.bytes(), None)?;
         choose_on(&mut choices, disk, name, one)?;
     }
     Ok(choices)
@@ -139,15 +138,15 @@ fn choose_in(
 /// partition and volume name some entry has.
 pub(crate) fn set_choices(
     alloc: Global,
-    listed: &[DumpRecord],
+    budb: &Budb,
     entries: &[SetEntry],
 ) -> Result<List<Wanted>, AllocError>
-    ensures { IfOk result (λ choices. choices ≡ set_choices listed.now entries.now) }
+    ensures { IfOk result (λ choices. choices ≡ set_choices budb.now.database.listed entries.now) }
 {
-    let names = base_names(alloc, listed)?;
+    let names = base_names(alloc, budb.database().listed.as_slice())?;
     let mut choices = List::new(alloc);
     for name in names.as_slice() {
-        let one = latest(alloc, listed, name.bytes(), None)?;
+        let one = budb.latest(name.bytes(), None)?;
         choose_in(&mut choices, entries, name, one)?;
     }
     Ok(choices)

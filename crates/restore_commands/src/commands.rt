@@ -76,7 +76,7 @@ pub fn restore_disk<P: Plant, C: Cell>(
     ensures cause { HasCauseAt RestoreStop.Plant (P.view plant.old).faults (P.view plant.new).faults result }
     ensures cell_cause { HasCauseAt RestoreStop.Cell (C.faults cell.old) (C.faults cell.new) result }
 {
-    match disk_choices(alloc, budb.database().listed.as_slice(), disk) {
+    match disk_choices(alloc, budb, disk) {
         Ok(choices) => restore_all(alloc, budb, plant, cell, choices.as_slice(), manner),
         Err(_) => Err(RestoreStop::Memory),
     }
@@ -98,7 +98,7 @@ fn restore_entries<P: Plant, C: Cell>(
     ensures looks { LooksAt P.Plant RestoreStop.Plant plant.old plant.new result }
     ensures cause { HasCauseAt RestoreStop.Cell (C.faults cell.old) (C.faults cell.new) result }
 {
-    match set_choices(alloc, budb.database().listed.as_slice(), entries) {
+    match set_choices(alloc, budb, entries) {
         Ok(choices) => restore_all(alloc, budb, plant, cell, choices.as_slice(), manner),
         Err(_) => Err(RestoreStop::Memory),
     }

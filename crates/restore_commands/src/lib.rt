@@ -1,5 +1,7 @@
-//! Restores as commands: of a volume, of the volumes of a partition, and of those of a volume set. Each volume is one look-up in what
-//! the tapes hold, and goes into the cell whole. Definitions in `specs/`.
+//! Restores as commands: of one volume, of the volumes of a partition, and of those of a volume set. Each volume is one look-up in what
+//! the tapes hold, and goes into the cell whole: `volume_answer` in `specs/Answers.antt`. Of several volumes one that is refused has
+//! its line, and those after it are restored. A trial tells what would be restored, and leaves the cell. Enter at `restore_volume`,
+//! `restore_disk` and `restore_set`. `backup_session` stands above; `restore_chain` and `restore_target` stand below.
 #![tactic(auto)]
 
 mod bases;

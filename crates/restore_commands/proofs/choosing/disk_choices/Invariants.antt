@@ -6,4 +6,4 @@ use Rattle.restore_commands.specs.Choices.{disk_choice}
 use Rattle.restore_commands.proofs.choosing.disk_choices.Given as goal
 
 abbrev pub invariant-loop-name : goal.invariant-loop-name
-invariant-loop-name l = l.choices ≡ flat_map (λ (name : List ℕ). disk_choice l.disk name (latest l.listed name None)) (take l.name-index l.name-items)
+invariant-loop-name l = l.choices ≡ flat_map (λ (name : List ℕ). disk_choice l.disk name (latest l.budb.database.listed name None)) (take l.name-index l.name-items)

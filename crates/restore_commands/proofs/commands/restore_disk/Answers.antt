@@ -1,6 +1,5 @@
 use Rattle.std.proofs.Common.{List, sym, ◌∙◌, ap, subst}
 use Rattle.budb_changes.specs.declared.records.DumpRecordFields.{DumpRecordFields}
-use Rattle.budb_fold.specs.declared.database.Database.{Database}
 use Rattle.tape_scan.proofs.Looking.{loads_none, leaves_loads}
 use Rattle.backup_words.specs.declared.command.Wanted.{Wanted}
 use Rattle.restore_commands.specs.Choices.{disk_choices}
@@ -15,9 +14,9 @@ returns-in-Ok-clause-left g c = λ told seen a is.
     let old = C.list c.args.cell.now in
     let new = C.list c.restore_all.new.cell in
     let disk = c.args.disk.now in
-    let listed = c.as_slice.ensures ∙ ap (λ (d : Database). d.listed) c.database.ensures ∙ sym is.lists in
+    let listed = sym is.lists in
     subst (λ (cs : List Wanted). OnTheWay old (all_answer a old c.args.manner.now cs).cells new)
-    (c.as_slice-in-Ok.ensures ∙ c.in-Ok.ensures ∙ ap (λ (l : List DumpRecordFields). disk_choices l disk) listed)
+    (c.as_slice.ensures ∙ c.in-Ok.ensures ∙ ap (λ (l : List DumpRecordFields). disk_choices l disk) listed)
     (c.restore_all.ensures.left told seen a is)
 
 pub returns-in-Err-clause-may : goal.returns-in-Err-clause-may

@@ -1,6 +1,4 @@
-use Rattle.std.proofs.Common.{List, ◌∙◌, ap, subst}
-use Rattle.budb_changes.specs.declared.records.DumpRecordFields.{DumpRecordFields}
-use Rattle.budb_fold.specs.declared.database.Database.{Database}
+use Rattle.std.proofs.Common.{List, ◌∙◌, subst}
 use Rattle.backup_words.specs.declared.command.Wanted.{Wanted}
 use Rattle.restore_commands.specs.Choices.{set_choices}
 use Rattle.restore_commands.specs.Answers.{all_answer}
@@ -14,10 +12,8 @@ returns-in-Ok-clause-left g c = λ told seen a is.
     let C = g.C.Cell in
     let old = C.list c.args.cell.now in
     let new = C.list c.restore_all.new.cell in
-    let entries = c.args.entries.now in
-    let listed = c.as_slice.ensures ∙ ap (λ (d : Database). d.listed) c.database.ensures in
     subst (λ (cs : List Wanted). OnTheWay old (all_answer a old c.args.manner.now cs).cells new)
-    (c.as_slice-in-Ok.ensures ∙ c.in-Ok.ensures ∙ ap (λ (l : List DumpRecordFields). set_choices l entries) listed)
+    (c.as_slice.ensures ∙ c.in-Ok.ensures)
     (c.restore_all.ensures.left told seen a is)
 
 pub returns-in-Err-clause-may : goal.returns-in-Err-clause-may
