@@ -1,12 +1,15 @@
 #!/usr/bin/env python3
 """Tests of `afsbackup run` in a real folder: scripts after one another, standard streams that are closed or full, what can't be
-opened, a full device, a damaged journal, a journal and a volume that are lost and got back, also with a tape out, a journal of the
-first version, and a program that is killed in the midst of its scripts.
+opened, links, files that somebody else changes, rights, calls that are interrupted, a full device, a damaged journal, a
+journal and a volume that are lost and got back, also with a tape out, a journal of the first version, many images, and a
+program that is killed in the midst of its scripts.
 
 The first argument is the program. It works in folders of its own below the second one (else a new one)."""
 import os
 import random
 import re
+import shutil
+import stat
 import subprocess
 import sys
 import time
@@ -109,7 +112,7 @@ def opening():
     first.stdin.write(b"addvolset -name users\n")
     first.stdin.flush()
     check("the first program works", first.stdout.readline() == b"ok\n")
-    says("a second program is refused", run(place, "listvolsets"), 4, "cannot open", "media: ")
+    says("a second program is refused", run(place, "listvolsets"), 4, "cannot open", "media: another afsbackup runs in this folder")
     first.stdin.close()
     check("the first program ends", first.wait() == 0)
 
@@ -138,12 +141,13 @@ def full():
 def cell():
     failed = "a call on the cell failed"
     create = "vos create -server fs1 -partition vicepa -name user.a"
-    for server, partition, path in [("..", "vicepa", "../vicepa"), ("fs1", "..", "fs1/.."), (".", ".", "./.")]:
+    for server, partition in [("..", "vicepa"), ("fs1", ".."), (".", ".")]:
         place = folder()
-        done = run(place, "vos create -server %s -partition %s -name user.a" % (server, partition))
-        says("out of the folder " + path, done, 5, failed, "cell/%s/user.a.vol: " % path)
+        done = run(place, "vos create -server %s -partition %s -name user.a" % (server, partition), "addvolset -name one")
+        name = "out of the folder %s/%s" % (server, partition)
+        check(name + ": the line is refused, and the next one is run", done.returncode == 1 and done.stdout == b"refused 83 TooLarge user.a\nok\n", done)
         left = [name for _, _, names in os.walk(place) for name in names]
-        check("nothing is written out of it " + path, left == ["journal"], left)
+        check(name + ": nothing is written out of it", left == ["journal"], left)
     place = folder()
     program = subprocess.Popen([PROGRAM, "run"], cwd=place, stdin=subprocess.PIPE, stdout=subprocess.PIPE, stderr=subprocess.PIPE)
     program.stdin.write(text([create]))
@@ -164,6 +168,167 @@ def cell():
         says("a full device for an image", done, 5, failed, "cell/fs1/vicepa/user.a.vol: ")
     finally:
         subprocess.run(["umount", place])
+
+
+# ---- links, files that somebody else changes, and rights
+
+
+def tapes(slots):
+    """A folder with a database, a host and so many blank tapes."""
+    place = folder()
+    os.mkdir(path(place, "media"))
+    for slot in range(slots):
+        open(path(place, "media", "slot%d" % slot), "wb").close()
+    with open(path(place, "tapeconfig"), "w") as file:
+        file.write("slots:0-%d 0\n" % (slots - 1))
+    told("a host", place, HOST)
+    return place
+
+
+def contents(place, name):
+    with open(path(place, "media", name), "rb") as file:
+        return file.read()
+
+
+def links():
+    for make in [os.link, os.symlink]:
+        place = tapes(2)
+        journal = contents(place, "journal")
+        os.remove(path(place, "media", "slot1"))
+        make(path(place, "media", "journal"), path(place, "media", "slot1"))
+        done = run(place, "labeltape -name users.full.1 -slot 1")
+        says("a slot is the journal", done, 4, "cannot open", "media/journal and media/slot1: one file under two names")
+        check("the journal is as it was", contents(place, "journal") == journal and done.stdout == b"", done)
+        os.remove(path(place, "media", "slot1"))
+        make(path(place, "media", "slot0"), path(place, "media", "slot1"))
+        done = run(place, "labeltape -name users.full.1 -slot 1")
+        says("a slot is another one", done, 4, "cannot open", "media/slot0 and media/slot1: one file under two names")
+        check("the tape is as it was", contents(place, "slot0") == b"" and done.stdout == b"", done)
+        os.remove(path(place, "media", "slot1"))
+        os.rename(path(place, "media", "slot0"), path(place, "elsewhere"))
+        os.symlink(path(place, "elsewhere"), path(place, "media", "slot0"))
+        told("a tape may be a link", place, "labeltape -name users.full.1 -slot 0")
+        check("the link stays, and the tape is written", os.path.islink(path(place, "media", "slot0")) and os.path.getsize(path(place, "elsewhere")) > 0)
+    for name in ["journal", "slot1"]:
+        for make in [os.mkfifo, lambda at: os.symlink("/dev/null", at)]:
+            place = tapes(2)
+            os.remove(path(place, "media", name))
+            make(path(place, "media", name))
+            says("no regular file: " + name, run(place), 4, "cannot open", "media/%s: not a regular file" % name)
+    for make in [os.mkfifo, os.mkdir]:
+        place = tapes(1)
+        os.makedirs(path(place, "cell", "fs1", "vicepa"))
+        make(path(place, "cell", "fs1", "vicepa", "user.a.vol"))
+        says("an image that is no regular file", run(place), 5, "cannot open", "cell/fs1/vicepa/user.a.vol: not a regular file")
+    place = tapes(1)
+    os.makedirs(path(place, "cell", "fs1", "vicepa"))
+    with open(path(place, "aside"), "w") as file:
+        file.write("mine")
+    for fresh, make in [("-new", os.symlink), ("-copy", os.link)]:
+        make(path(place, "aside"), path(place, "cell", "fs1", "vicepa", fresh))
+    told("a volume and its copy", place, "vos create -server fs1 -partition vicepa -name user.a", "vos backup -volume user.a")
+    with open(path(place, "aside")) as file:
+        check("what a link led to is as it was", file.read() == "mine")
+    left = sorted(os.listdir(path(place, "cell", "fs1", "vicepa")))
+    check("the images stand in their places", left == ["user.a.backup.vol", "user.a.vol"], left)
+    check("they are no links", not any(os.path.islink(path(place, "cell", "fs1", "vicepa", name)) for name in left))
+
+
+def replaced(at):
+    shutil.copy(at, at + ".other")
+    os.rename(at + ".other", at)
+
+
+def longer(at):
+    with open(at, "ab") as file:
+        file.write(b"x")
+
+
+def changed():
+    lines = {"journal": "addvolset -name two", "slot0": "labeltape -name users.full.2 -slot 0"}
+    for name, line in lines.items():
+        for change in [replaced, longer, os.remove]:
+            place = tapes(1)
+            told("a label", place, "labeltape -name users.full.1 -slot 0")
+            program = subprocess.Popen([PROGRAM, "run"], cwd=place, stdin=subprocess.PIPE, stdout=subprocess.PIPE, stderr=subprocess.PIPE)
+            program.stdin.write(b"readlabel\n")
+            program.stdin.flush()
+            check("the program works", program.stdout.readline().startswith(b"label ") and program.stdout.readline() == b"ok\n")
+            change(path(place, "media", name))
+            out, errors = program.communicate(text([line]))
+            found = (program.returncode, out, errors.decode().split("\n"))
+            fits = found[:2] == (4, b"") and found[2][0] == "a call on the journal or a tape failed" and found[2][1].startswith("media/%s: " % name)
+            check("%s is changed by another program (%s)" % (name, change.__name__), fits, found)
+
+
+def rights():
+    place = folder()
+    done = shell(place, 'umask 0; "$P" run', text([HOST, "vos create -server fs1 -partition vicepa -name user.a"]))
+    says("a run that makes all", done, 0)
+    mode = lambda *names: stat.S_IMODE(os.stat(path(place, *names)).st_mode)
+    folders = [("media",), ("cell",), ("cell", "fs1"), ("cell", "fs1", "vicepa")]
+    check("folders are their owner's", all(mode(*names) == 0o700 for names in folders), [oct(mode(*names)) for names in folders])
+    files = [("media", "journal"), ("cell", "fs1", "vicepa", "user.a.vol")]
+    check("files are their owner's", all(mode(*names) == 0o600 for names in files), [oct(mode(*names)) for names in files])
+    os.chmod(path(place, "media"), 0o750)
+    os.chmod(path(place, "media", "journal"), 0o640)
+    done = run(place, "listhosts")
+    check("what is there keeps its rights", done.returncode == 0 and done.stderr == b"" and mode("media") == 0o750 and mode("media", "journal") == 0o640, done)
+
+
+# ---- interrupted calls, the order of names, and time
+
+
+def traced(place, flags, *lines):
+    """Runs lines under strace, whose own output goes to a file beside the folder."""
+    trace = place + ".trace"
+    done = subprocess.run(["strace", "-f", "-o", trace, *flags, PROGRAM, "run"], cwd=place, input=text(lines), capture_output=True, timeout=300)
+    with open(trace) as file:
+        return done, file.read().split("\n")
+
+
+def interrupted():
+    if shutil.which("strace") is None:
+        print("not tried: interrupted calls (no strace)")
+        return
+    lines = ["labeltape -name users.full.1 -slot 0", "vos create -server fs1 -partition vicepa -name user.a",
+             "vos write -volume user.a -vnode 2 -size 100000", "vos backup -volume user.a", "vos remove -volume user.a", "bogus"]
+    for calls in ["read", "write", "mkdir", "rename", "unlink", "statx", "openat", "pread64", "pwrite64", "fsync"]:
+        place = tapes(1)
+        # From the first line of the script on, so that the loader's own calls are left alone.
+        done, trace = traced(place, ["-e", "trace=" + calls, "-e", "inject=%s:error=EINTR:when=20+2" % calls], *lines)
+        known = subprocess.run([PROGRAM, "run"], cwd=tapes(1), input=text(lines), capture_output=True)
+        same = (done.returncode, done.stdout, done.stderr) == (known.returncode, known.stdout, known.stderr)
+        check("interrupted: " + calls, same and known.returncode == 1, (done, known))
+
+
+def order_of_names():
+    if shutil.which("strace") is None:
+        print("not tried: the order of names (no strace)")
+        return
+    place = dumped()
+    told("the volume moves", place, "vos create -server fs2 -partition vicepb -name user.b")
+    done, trace = traced(place, ["-e", "trace=rename,fsync,openat"], "volrestore -server fs2 -partition vicepb -volume user.a")
+    check("a volume is restored elsewhere", done.returncode == 0, done)
+    names = [at for at, line in enumerate(trace) if " rename(" in line and ".vol" in line]
+    between = trace[names[0] : names[1]] if len(names) == 2 else []
+    waits = sum(" fsync(" in line and line.endswith("= 0") for line in between)
+    check("both folders are waited for between the two names", len(names) == 2 and waits == 2, trace[-40:])
+
+
+def many_images():
+    place = folder()
+    partition = path(place, "cell", "fs1", "vicepa")
+    os.makedirs(partition)
+    for number in range(65536):
+        open(path(partition, "user.%d.vol" % (number * 40503 % 65536)), "w").close()
+    start = time.monotonic()
+    done = run(place, "vos listvol")
+    took = time.monotonic() - start
+    check("65,536 images", done.returncode == 0 and done.stdout.count(b"\n") > 65536, (done.returncode, done.stderr))
+    print("an opening of 65,536 images and their list: %.1f s" % took)
+    open(path(partition, "one.more.vol"), "w").close()
+    says("one image more", run(place), 5, "cannot open", "there are more than 65,536 images")
 
 
 # ---- lost journals, and a journal of the first version
@@ -318,6 +483,12 @@ streams()
 opening()
 full()
 cell()
+links()
+changed()
+rights()
+interrupted()
+order_of_names()
+many_images()
 lost()
 first_version()
 kills(int(os.environ.get("KILLS", "200")))

@@ -6,6 +6,7 @@ use host_edge::{DirMedia, DiskFile};
 use media_core::{Media, Source};
 use std::alloc::Global;
 use std::io::Write;
+use std::rt::Files;
 
 /// The exit statuses of a read, of the journal, of memory and of the output.
 const READ: u8 = 3;
@@ -20,8 +21,8 @@ const OUTPUT: u8 = 9;
 const MOST: u64 = 1_000_000_000;
 
 /// Tells all of a piece.
-fn tell_all<F: DiskFile + Drop, W: Write + Drop>(
-    media: &mut DirMedia<F, W>,
+fn tell_all<R: Files<File = F> + AllocGlobal + Clone + Drop, F: DiskFile + Drop, W: Write + Drop>(
+    media: &mut DirMedia<R, F, W>,
     piece: &[u8],
 ) -> Result<(), u8> {
     let mut at = 0;
@@ -38,8 +39,8 @@ fn tell_all<F: DiskFile + Drop, W: Write + Drop>(
 }
 
 /// Writes a line to the end of the journal, waits until it is on the disk, and tells it.
-fn keep<F: DiskFile + Drop, W: Write + Drop>(
-    media: &mut DirMedia<F, W>,
+fn keep<R: Files<File = F> + AllocGlobal + Clone + Drop, F: DiskFile + Drop, W: Write + Drop>(
+    media: &mut DirMedia<R, F, W>,
     line: &[u8],
 ) -> Result<(), u8> {
     let Ok(at) = media.len(0) else {
@@ -55,8 +56,8 @@ fn keep<F: DiskFile + Drop, W: Write + Drop>(
 }
 
 /// Keeps each whole line at the front of what is pending, and leaves the rest.
-fn keep_lines<F: DiskFile + Drop, W: Write + Drop>(
-    media: &mut DirMedia<F, W>,
+fn keep_lines<R: Files<File = F> + AllocGlobal + Clone + Drop, F: DiskFile + Drop, W: Write + Drop>(
+    media: &mut DirMedia<R, F, W>,
     pending: &mut Vec<u8>,
 ) -> Result<(), u8> {
     let mut start = 0;
@@ -71,11 +72,12 @@ fn keep_lines<F: DiskFile + Drop, W: Write + Drop>(
 }
 
 /// Copies a source's lines into the journal. The answer is the exit status.
-pub fn copy_lines<F: DiskFile + Drop, W: Write + Drop, S: Source>(
-    alloc: Global,
-    mut media: DirMedia<F, W>,
-    source: &mut S,
-) -> u8 {
+pub fn copy_lines<
+    R: Files<File = F> + AllocGlobal + Clone + Drop,
+    F: DiskFile + Drop,
+    W: Write + Drop,
+    S: Source,
+>(alloc: Global, mut media: DirMedia<R, F, W>, source: &mut S) -> u8 {
     let mut pending = Vec::new(alloc);
     let mut buffer = [0u8; 4096];
     for _ in 0..u64::MAX {

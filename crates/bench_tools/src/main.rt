@@ -1,6 +1,7 @@
-//! The programs of the benches and of the tests of a real folder, as modes of one. `stream` times reading a volume's stream and writing it
-//! again, `tape` times writing a tape and scanning it, `scan` scans a tape, and `probe` opens the folders of the service, copies
-//! lines of standard input into the journal, or works on the images of the cell by the words behind it.
+//! The programs of the benches and of the tests of a real folder, as modes of one. `stream` times reading a volume's stream and writing
+//! it again, `tape` times writing a tape and scanning it, `scan` scans a tape, and `probe` opens the folders of the service, copies
+//! lines of standard input into the journal, or works on the images of the cell by the words after it. Nothing stands on this program;
+//! the scripts in `bench/` run it.
 #![tactic(auto)]
 
 mod copying;

@@ -13,8 +13,8 @@ use std::time::Instant;
 use tape_scan::{Sections, scan_tape};
 
 /// The plant in the folder `media`.
-fn plant(rt: &HostRuntime) -> anyhow::Result<MediaPlant<DirMedia<File, Stdout>>>
-    ensures { IfOk result (λ plant. ⟦<MediaPlant<DirMedia<File, Stdout>> as Plant>⟧.sound plant) }
+fn plant(rt: &HostRuntime) -> anyhow::Result<MediaPlant<DirMedia<HostRuntime, File, Stdout>>>
+    ensures { IfOk result (λ plant. ⟦<MediaPlant<DirMedia<HostRuntime, File, Stdout>> as Plant>⟧.sound plant) }
 {
     let media = DirMedia::open(rt, "media", rt.stdout())?;
     match MediaPlant::open(media) {

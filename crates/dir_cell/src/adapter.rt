@@ -6,6 +6,7 @@ ghost use Rattle.cell_core.specs.Answers.{OnlyFromOutside};
 ghost use Rattle.cell_core.specs.Listings.{new_id};
 ghost use Rattle.cell_core.specs.Volumes.{new_volume, backup_name};
 ghost use Rattle.dir_cell.specs.Catalogs.{standing_of, entry_of};
+ghost use Rattle.dir_cell.specs.Dots.{LeadsOut};
 ghost use Rattle.dir_cell.specs.Calls.{IsClone, Keeps, KeepsNamed, KeepsCopy, after_removal};
 ghost use Rattle.dir_cell.specs.Refusals.{put_refusal, create_refusal, change_refusal, backup_refusal, remove_refusal, id_for_backup, IsDue, IsDueToChange};
 
@@ -20,7 +21,8 @@ use std::rt::Files;
 use vnode_model::{VolEntry, Volume};
 
 /// The images `server/partition/name.vol` of a folder. What each is was judged at the opening. An image that isn't as the
-/// opening or this program left it is a fault. The refusal is the last one.
+/// opening or this program left it is a fault. For a server, partition or volume `.` or `..` there is no place: `TooLarge`. The refusal
+/// is the last one.
 #[derive(Drop)]
 pub struct DirCell<R: Drop> {
     folder: Folder<R>,
@@ -32,7 +34,7 @@ impl<R: Files + AllocGlobal + Clone + Drop> DirCell<R> {
     ghost use Rattle.dir_cell.specs.Shown.{faults_of};
 
     /// Opens a folder, which is made where it is absent; the folder that it stands in is there. `TooMany` comes where it has
-    /// more than 65,536 images.
+    /// more than 65,536 images. An image's name that is no regular file's is refused.
     pub fn open(rt: &R, root: &str) -> Result<Self, EdgeFault>
         ensures { IfOk result (λ cell. faults_of cell ≡ 0) }
     {
@@ -99,7 +101,8 @@ impl<R: Files + AllocGlobal + Clone + Drop> Cell for DirCell<R> {
     }
 
     fn put(&mut self, server: &Host, partition: &Part, volume: Volume) -> Result<(), CellFault>
-        ensures due { IsDue (put_refusal volume.header.name (catalog_of self.old)) result }
+        ensures outside { LeadsOut server.now partition.now volume.header.name → result ≡ Err CellFault.TooLarge }
+        ensures due { (LeadsOut server.now partition.now volume.header.name → ⊥) → IsDue (put_refusal volume.header.name (catalog_of self.old)) result }
         ensures kept { OnOk result (Keeps server.now partition.now volume (catalog_of self.old) (catalog_of self.new)) }
         ensures stays { OnErr result (catalog_of self.new ≡ catalog_of self.old) }
         ensures cause { HasCauseAt CellFault.Failed (faults_of self.old) (faults_of self.new) result }
@@ -118,7 +121,8 @@ impl<R: Files + AllocGlobal + Clone + Drop> Cell for DirCell<R> {
         name: &Name,
         now: u32,
     ) -> Result<u32, CellFault>
-        ensures due { IsDue (create_refusal name.now (catalog_of self.old)) result }
+        ensures outside { LeadsOut server.now partition.now name.now → result ≡ Err CellFault.TooLarge }
+        ensures due { (LeadsOut server.now partition.now name.now → ⊥) → IsDue (create_refusal name.now (catalog_of self.old)) result }
         ensures id { IfOk result (λ id. new_id standing_of (catalog_of self.old) ≡ Some id) }
         ensures kept { IfOk result (λ id. Keeps server.now partition.now (new_volume id name.now now) (catalog_of self.old) (catalog_of self.new)) }
         ensures stays { OnErr result (catalog_of self.new ≡ catalog_of self.old) }

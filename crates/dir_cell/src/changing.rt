@@ -6,6 +6,7 @@ ghost use Rattle.cell_core.specs.Listings.{new_id};
 ghost use Rattle.cell_core.specs.Volumes.{new_volume};
 ghost use Rattle.dir_cell.specs.Catalogs.{standing_of, known_as, HasPlace, IsCatalog};
 ghost use Rattle.dir_cell.specs.Calls.{Keeps, KeepsNamed};
+ghost use Rattle.dir_cell.specs.Dots.{LeadsOut};
 ghost use Rattle.dir_cell.specs.Refusals.{put_refusal, create_refusal, change_refusal, IsDue, IsDueToChange};
 
 use crate::catalog::{keep, known_as};
@@ -13,7 +14,7 @@ use crate::folder::Folder;
 use crate::known::Known;
 use crate::looking::volume_of;
 use crate::outside::Refusal;
-use crate::saving::{move_in, write_beside};
+use crate::saving::{leads_out, move_in, write_beside};
 use bk_text::{Host, Name, Part};
 use cell_core::{CellFault, Change, Standing, change_volume, new_id, new_volume};
 use std::rt::Files;
@@ -96,7 +97,7 @@ impl<R: Files + AllocGlobal + Clone + Drop> Folder<R> {
         }
     }
 
-    /// Stores a volume under its name.
+    /// Stores a volume under its name. `TooLarge` where its place would be out of the folder.
     pub(crate) fn put(
         &mut self,
         server: &Host,
@@ -104,11 +105,15 @@ impl<R: Files + AllocGlobal + Clone + Drop> Folder<R> {
         volume: Volume,
         last: &mut Option<Refusal>,
     ) -> Result<(), CellFault>
-        ensures due { IsDue (put_refusal volume.header.name self.old.images.items) result }
+        ensures outside { LeadsOut server.now partition.now volume.header.name → result ≡ Err CellFault.TooLarge }
+        ensures due { (LeadsOut server.now partition.now volume.header.name → ⊥) → IsDue (put_refusal volume.header.name self.old.images.items) result }
         ensures kept { OnOk result (Keeps server.now partition.now volume self.old.images.items self.new.images.items) }
         ensures stays { OnErr result (self.new.images.items ≡ self.old.images.items) }
         ensures refused { result ≡ Err CellFault.Failed → IsSome last.new }
     {
+        if leads_out(server, partition, volume.header().fields().name.bytes()) {
+            return Err(CellFault::TooLarge);
+        }
         self.may_put(volume.header().fields().name.bytes())?;
         self.save(server, partition, volume, last)
     }
@@ -129,7 +134,7 @@ impl<R: Files + AllocGlobal + Clone + Drop> Folder<R> {
         }
     }
 
-    /// Makes a read/write volume.
+    /// Makes a read/write volume. `TooLarge` where its place would be out of the folder.
     pub(crate) fn create(
         &mut self,
         server: &Host,
@@ -138,12 +143,16 @@ impl<R: Files + AllocGlobal + Clone + Drop> Folder<R> {
         now: u32,
         last: &mut Option<Refusal>,
     ) -> Result<u32, CellFault>
-        ensures due { IsDue (create_refusal name.now self.old.images.items) result }
+        ensures outside { LeadsOut server.now partition.now name.now → result ≡ Err CellFault.TooLarge }
+        ensures due { (LeadsOut server.now partition.now name.now → ⊥) → IsDue (create_refusal name.now self.old.images.items) result }
         ensures id { IfOk result (λ id. new_id standing_of self.old.images.items ≡ Some id) }
         ensures kept { IfOk result (λ id. Keeps server.now partition.now (new_volume id name.now now) self.old.images.items self.new.images.items) }
         ensures stays { OnErr result (self.new.images.items ≡ self.old.images.items) }
         ensures refused { result ≡ Err CellFault.Failed → IsSome last.new }
     {
+        if leads_out(server, partition, name.bytes()) {
+            return Err(CellFault::TooLarge);
+        }
         let id = self.id_to_create(name.bytes())?;
         let volume = new_volume(self.rt.alloc(), id, name, now)?;
         self.save(server, partition, volume, last)?;

@@ -21,7 +21,7 @@ impl<'a> FolderDoors<'a> {
 impl Doors for FolderDoors<'_> {
     type Lock = FolderLock<File>;
 
-    type Media = DirMedia<File, Stdout>;
+    type Media = DirMedia<HostRuntime, File, Stdout>;
 
     type Cell = DirCell<HostRuntime>;
 
@@ -37,7 +37,7 @@ impl Doors for FolderDoors<'_> {
         lock_folder(self.rt, "media")
     }
 
-    fn media(&self) -> Result<DirMedia<File, Stdout>, EdgeFault> {
+    fn media(&self) -> Result<DirMedia<HostRuntime, File, Stdout>, EdgeFault> {
         DirMedia::open(self.rt, "media", self.rt.stdout())
     }
 

@@ -9,6 +9,7 @@ ghost use Rattle.dir_cell.specs.Judging.{MayStand, IsJudged};
 use bk_text::Name;
 use cell_core::Image;
 use dump_stream::{Input, InputReader};
+use host_edge::read_again;
 use std::alloc::{AllocError, Global};
 use std::fs;
 use std::io::{self, Read};
@@ -64,7 +65,7 @@ fn feed_all<F: Read>(file: &mut F, buffer: &mut [u8], input: &mut InputReader) -
         if input.stops_at().is_some() {
             return Ok(());
         }
-        let count = file.read(buffer)?;
+        let count = read_again(file, buffer)?;
         if count == 0 {
             return Ok(());
         }

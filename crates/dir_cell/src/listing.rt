@@ -10,17 +10,23 @@ use crate::merging::take_in;
 use crate::saving::is_dots;
 use bk_text::{Host, Name, Part, TextFault};
 use cell_core::{Image, Standing};
-use host_edge::{EdgeFault, add, at_path, path_in};
+use host_edge::{EdgeFault, add, again, at_path, not_regular, path_in};
 use std::alloc::{AllocError, Global};
-use std::fs;
+use std::cmp::Ordering;
+use std::fs::{self, Metadata};
 use std::io::{self, ErrorKind};
 use std::rt::Files;
 
-/// The images that were found so far: what is known under each name, and how many there are.
+/// The most images that a folder may have.
+const MOST: usize = 65_536;
+
+/// A file that is an image's.
 #[derive(Drop)]
-pub(crate) struct Listing {
-    pub images: Vec<Known>,
-    pub count: usize,
+struct Found {
+    name: Name,
+    server: Host,
+    partition: Part,
+    path: String,
 }
 
 /// What a text says, unless it isn't of its form.
@@ -69,22 +75,137 @@ fn names_in<R: Files + AllocGlobal + Clone + Drop>(rt: &R, path: &str) -> io::Re
     Ok(names)
 }
 
-/// Whether a path is a folder; not where it is gone.
-fn is_folder<R: Files>(rt: &R, path: &str) -> io::Result<bool> {
-    match fs::metadata(rt, path) {
-        Ok(data) => Ok(data.is_dir()),
-        Err(error) if error.kind() == ErrorKind::NotFound => Ok(false),
+/// What the system says of a path; nothing where it is gone.
+fn look<R: Files>(rt: &R, path: &str) -> io::Result<Option<Metadata>> {
+    match again(|| fs::metadata(rt, path)) {
+        Ok(data) => Ok(Some(data)),
+        Err(error) if error.kind() == ErrorKind::NotFound => Ok(None),
         Err(error) => Err(error),
     }
 }
 
-/// Whether a path is a file; not where it is gone.
-fn is_file<R: Files>(rt: &R, path: &str) -> io::Result<bool> {
-    match fs::metadata(rt, path) {
-        Ok(data) => Ok(data.is_file()),
-        Err(error) if error.kind() == ErrorKind::NotFound => Ok(false),
-        Err(error) => Err(error),
+/// Whether a path is a folder; not where it is gone.
+fn is_folder<R: Files>(rt: &R, path: &str) -> io::Result<bool> {
+    match look(rt, path)? {
+        Some(data) => Ok(data.is_dir()),
+        None => Ok(false),
     }
+}
+
+/// Whether a path is a file; not where it is gone. What is there and no regular file is refused.
+fn is_file<R: Files>(rt: &R, path: &str) -> io::Result<bool> {
+    match look(rt, path)? {
+        Some(data) if data.is_file() => Ok(true),
+        Some(_) => Err(not_regular()),
+        None => Ok(false),
+    }
+}
+
+/// Adds a file of a partition's folder, where it is an image.
+fn find_file<R: Files + AllocGlobal + Clone + Drop>(
+    rt: &R,
+    folder: &str,
+    file: &str,
+    server: &Host,
+    partition: &Part,
+    found: &mut Vec<Found>,
+) -> Result<(), EdgeFault> {
+    let alloc = rt.alloc();
+    let Some(name) = image_name(alloc, file)? else {
+        return Ok(());
+    };
+    let path = path_in(alloc, folder, file)?;
+    if !at_path(alloc, path.as_str(), is_file(rt, path.as_str()))? {
+        return Ok(());
+    }
+    if found.len() >= MOST {
+        return Err(EdgeFault::TooMany);
+    }
+    add(
+        found,
+        Found {
+            name,
+            server: server.clone()?,
+            partition: partition.clone()?,
+            path,
+        },
+    )?;
+    Ok(())
+}
+
+/// Adds the images of one partition.
+fn find_in_partition<R: Files + AllocGlobal + Clone + Drop>(
+    rt: &R,
+    path: &str,
+    server: &Host,
+    partition: &Part,
+    found: &mut Vec<Found>,
+) -> Result<(), EdgeFault> {
+    for file in at_path(rt.alloc(), path, names_in(rt, path))? {
+        find_file(rt, path, file.as_str(), server, partition, found)?;
+    }
+    Ok(())
+}
+
+/// Adds the images of a folder in a server's folder, where it is a partition's.
+fn find_inner<R: Files + AllocGlobal + Clone + Drop>(
+    rt: &R,
+    above: &str,
+    folder: &str,
+    server: &Host,
+    found: &mut Vec<Found>,
+) -> Result<(), EdgeFault> {
+    let alloc = rt.alloc();
+    let Some(partition) = partition_of(alloc, folder)? else {
+        return Ok(());
+    };
+    let path = path_in(alloc, above, folder)?;
+    if !at_path(alloc, path.as_str(), is_folder(rt, path.as_str()))? {
+        return Ok(());
+    }
+    find_in_partition(rt, path.as_str(), server, &partition, found)
+}
+
+/// Adds the images of a folder, where it is a server's.
+fn find_outer<R: Files + AllocGlobal + Clone + Drop>(
+    rt: &R,
+    above: &str,
+    folder: &str,
+    found: &mut Vec<Found>,
+) -> Result<(), EdgeFault> {
+    let alloc = rt.alloc();
+    let Some(server) = server_of(alloc, folder)? else {
+        return Ok(());
+    };
+    let path = path_in(alloc, above, folder)?;
+    if !at_path(alloc, path.as_str(), is_folder(rt, path.as_str()))? {
+        return Ok(());
+    }
+    for inner in at_path(alloc, path.as_str(), names_in(rt, path.as_str()))? {
+        find_inner(rt, path.as_str(), inner.as_str(), &server, found)?;
+    }
+    Ok(())
+}
+
+/// The order of images: by their names, and those of a name by their paths, each in ascending byte order.
+fn order_of(one: &Found, other: &Found) -> Ordering {
+    match one.name.bytes().cmp(other.name.bytes()) {
+        Ordering::Equal => one.path.as_bytes().cmp(other.path.as_bytes()),
+        order => order,
+    }
+}
+
+/// The files of a folder's images, in their order.
+fn find_images<R: Files + AllocGlobal + Clone + Drop>(
+    rt: &R,
+    root: &str,
+) -> Result<Vec<Found>, EdgeFault> {
+    let mut found = Vec::new(rt.alloc());
+    for folder in at_path(rt.alloc(), root, names_in(rt, root))? {
+        find_outer(rt, root, folder.as_str(), &mut found)?;
+    }
+    found.sort_unstable_by(|one, other| order_of(one, other));
+    Ok(found)
 }
 
 /// What is known of an image at a server and partition.
@@ -112,108 +233,38 @@ fn known_image(
     }
 }
 
-/// Takes in a file of a partition's folder, where it is an image.
-fn list_file<R: Files + AllocGlobal + Clone + Drop>(
+/// Takes in an image.
+fn list_found<R: Files + AllocGlobal + Clone + Drop>(
     rt: &R,
-    folder: &str,
-    file: &str,
-    server: &Host,
-    partition: &Part,
-    listing: &mut Listing,
+    found: Found,
+    images: &mut Vec<Known>,
 ) -> Result<(), EdgeFault>
-    requires { IsCatalog listing.old.images.items }
-    ensures { OnOk result (IsCatalog listing.new.images.items) }
+    requires { IsCatalog images.old.items }
+    ensures { OnOk result (IsCatalog images.new.items) }
 {
     let alloc = rt.alloc();
-    let Some(name) = image_name(alloc, file)? else {
-        return Ok(());
-    };
-    let path = path_in(alloc, folder, file)?;
-    if !at_path(alloc, path.as_str(), is_file(rt, path.as_str()))? {
-        return Ok(());
-    }
+    let Found {
+        name,
+        server,
+        partition,
+        path,
+    } = found;
     let answer = read_image(rt, alloc, path.as_str(), &name);
     let image = at_path(alloc, path.as_str(), answer)?;
-    let known = known_image(alloc, name, server, partition, &image, path)?;
-    take_in(listing, known)
+    let known = known_image(alloc, name, &server, &partition, &image, path)?;
+    take_in(images, known)
 }
 
-/// Takes in the images of one partition.
-fn list_partition<R: Files + AllocGlobal + Clone + Drop>(
-    rt: &R,
-    path: &str,
-    server: &Host,
-    partition: &Part,
-    listing: &mut Listing,
-) -> Result<(), EdgeFault>
-    requires { IsCatalog listing.old.images.items }
-    ensures { OnOk result (IsCatalog listing.new.images.items) }
-{
-    for file in at_path(rt.alloc(), path, names_in(rt, path))? {
-        list_file(rt, path, file.as_str(), server, partition, listing)?;
-    }
-    Ok(())
-}
-
-/// Takes in the images of a folder in a server's folder, where it is a partition's.
-fn list_inner<R: Files + AllocGlobal + Clone + Drop>(
-    rt: &R,
-    above: &str,
-    folder: &str,
-    server: &Host,
-    listing: &mut Listing,
-) -> Result<(), EdgeFault>
-    requires { IsCatalog listing.old.images.items }
-    ensures { OnOk result (IsCatalog listing.new.images.items) }
-{
-    let alloc = rt.alloc();
-    let Some(partition) = partition_of(alloc, folder)? else {
-        return Ok(());
-    };
-    let path = path_in(alloc, above, folder)?;
-    if !at_path(alloc, path.as_str(), is_folder(rt, path.as_str()))? {
-        return Ok(());
-    }
-    list_partition(rt, path.as_str(), server, &partition, listing)
-}
-
-/// Takes in the images of a folder, where it is a server's.
-fn list_outer<R: Files + AllocGlobal + Clone + Drop>(
-    rt: &R,
-    above: &str,
-    folder: &str,
-    listing: &mut Listing,
-) -> Result<(), EdgeFault>
-    requires { IsCatalog listing.old.images.items }
-    ensures { OnOk result (IsCatalog listing.new.images.items) }
-{
-    let alloc = rt.alloc();
-    let Some(server) = server_of(alloc, folder)? else {
-        return Ok(());
-    };
-    let path = path_in(alloc, above, folder)?;
-    if !at_path(alloc, path.as_str(), is_folder(rt, path.as_str()))? {
-        return Ok(());
-    }
-    for inner in at_path(alloc, path.as_str(), names_in(rt, path.as_str()))? {
-        list_inner(rt, path.as_str(), inner.as_str(), &server, listing)?;
-    }
-    Ok(())
-}
-
-/// All images of a folder.
+/// All images of a folder. They are taken in the order of their names, so that each comes to the end of the list.
 pub(crate) fn list_images<R: Files + AllocGlobal + Clone + Drop>(
     rt: &R,
     root: &str,
 ) -> Result<Vec<Known>, EdgeFault>
     ensures { IfOk result (λ images. IsCatalog images.items) }
 {
-    let mut listing = Listing {
-        images: Vec::new(rt.alloc()),
-        count: 0,
-    };
-    for folder in at_path(rt.alloc(), root, names_in(rt, root))? {
-        list_outer(rt, root, folder.as_str(), &mut listing)?;
+    let mut images = Vec::new(rt.alloc());
+    for found in find_images(rt, root)? {
+        list_found(rt, found, &mut images)?;
     }
-    Ok(listing.images)
+    Ok(images)
 }

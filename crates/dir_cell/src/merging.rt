@@ -5,14 +5,10 @@ ghost use Rattle.dir_cell.specs.Catalogs.{IsCatalog, IsBad};
 
 use crate::catalog::{add_known, taken_out};
 use crate::known::Known;
-use crate::listing::Listing;
 use cell_core::{Standing, is_full};
 use host_edge::EdgeFault;
 use std::alloc::AllocError;
 use std::cmp::Ordering;
-
-/// The most images that a folder may have.
-const MOST: usize = 65_536;
 
 /// The standing of one of several: a volume's would be one of its own, so that its first wrong byte is told as 0.
 fn spoilt(standing: Standing) -> Standing
@@ -79,25 +75,21 @@ fn merged(old: Known, new: Known) -> Result<Known, AllocError>
 }
 
 /// Takes in one more image.
-pub(crate) fn take_in(listing: &mut Listing, known: Known) -> Result<(), EdgeFault>
-    requires { IsCatalog listing.old.images.items }
-    ensures { OnOk result (IsCatalog listing.new.images.items) }
+pub(crate) fn take_in(images: &mut Vec<Known>, known: Known) -> Result<(), EdgeFault>
+    requires { IsCatalog images.old.items }
+    ensures { OnOk result (IsCatalog images.new.items) }
 {
-    if listing.count >= MOST {
-        return Err(EdgeFault::TooMany);
-    }
-    listing.count += 1;
-    match taken_out(&mut listing.images, known.name.bytes()) {
+    match taken_out(images, known.name.bytes()) {
         Some(old) => {
             let merged = merged(old, known)?;
-            add_known(&mut listing.images, merged)?;
+            add_known(images, merged)?;
             Ok(())
         }
         None => {
-            if is_full(listing.images.as_slice()) {
+            if is_full(images.as_slice()) {
                 return Err(EdgeFault::TooMany);
             }
-            add_known(&mut listing.images, known)?;
+            add_known(images, known)?;
             Ok(())
         }
     }

@@ -20,11 +20,6 @@ pub(crate) struct Refusal {
     pub cause: io::Error,
 }
 
-/// An image isn't as the opening or this program left it.
-pub(crate) fn changed() -> io::Error {
-    io::Error::from(ErrorKind::InvalidData)
-}
-
 /// The answer of a call of the system on a path, of which a refusal is kept.
 pub(crate) fn outside<T: Drop>(
     alloc: Global,

@@ -2,7 +2,7 @@
 
 ghost use Rattle.std.specs.Prelude.{◌≡◌, ◌↔◌, Err, IsTrue, IfOk, IsSome, OnOk};
 ghost use Rattle.cell_core.specs.Answers.{OnlyFromOutside};
-ghost use Rattle.dir_cell.specs.Dots.{IsDots};
+ghost use Rattle.dir_cell.specs.Dots.{IsDots, LeadsOut};
 ghost use Rattle.dir_cell.specs.Catalogs.{IsKnownOf};
 
 use crate::judging::room;
@@ -12,7 +12,7 @@ use crate::outside::{Refusal, outside};
 use bk_text::{Host, Part};
 use cell_core::CellFault;
 use dump_stream::Writer;
-use host_edge::{add, make_folder, path_in, sync_folder};
+use host_edge::{add, again, make_folder, make_new, path_in, remove_file, sync_folder};
 use std::alloc::{AllocError, Global};
 use std::fs::{self, OpenFile};
 use std::io::{self, ErrorKind, Write};
@@ -36,6 +36,13 @@ pub(crate) fn is_dots(text: &[u8]) -> bool
     ensures { IsTrue result ↔ IsDots text.now }
 {
     text == b".".as_slice() || text == b"..".as_slice()
+}
+
+/// Whether one of a server, a partition and a volume's name would lead out of its folder.
+pub(crate) fn leads_out(server: &Host, partition: &Part, name: &[u8]) -> bool
+    ensures { IsTrue result ↔ LeadsOut server.now partition.now name.now }
+{
+    is_dots(server.bytes()) || is_dots(partition.bytes()) || is_dots(name)
 }
 
 /// The text of a name. One that would lead out of the folder is refused.
@@ -91,12 +98,12 @@ fn shown_path(
     Ok(path)
 }
 
-/// Writes a volume's whole stream to a file, which is on the disk then.
+/// Writes a volume's whole stream to a file that is made, which is on the disk then. What has its name goes before.
 fn write_stream<R: Files>(rt: &R, alloc: Global, path: &str, volume: Volume) -> io::Result<()> {
     let mut buffer = room(alloc)?;
     let until = volume.header().fields().updated;
     let mut writer = Writer::new(volume, 0, until);
-    let mut file = fs::create(rt, path)?;
+    let mut file = make_new(rt, path)?;
     for _ in 0..u64::MAX {
         let count = writer.next(&mut buffer);
         file.write_all(&buffer[..count])?;
@@ -172,14 +179,6 @@ fn folder_of(path: &str) -> &str {
     }
 }
 
-/// Removes a file that may be gone already.
-fn remove_file<R: Files>(rt: &R, path: &str) -> io::Result<()> {
-    match fs::remove_file(rt, path) {
-        Err(error) if error.kind() != ErrorKind::NotFound => Err(error),
-        _ => Ok(()),
-    }
-}
-
 /// Removes the image at a path, but for one that stays, and waits until that lasts.
 fn remove_image<R: Files>(rt: &R, path: &str, but: &str) -> io::Result<()> {
     if path != but {
@@ -205,18 +204,33 @@ pub(crate) fn remove_images<R: Files + AllocGlobal>(
     Ok(())
 }
 
+/// Gives a file another path.
+fn rename<R: Files>(rt: &R, from: &str, to: &str) -> io::Result<()> {
+    again(|| fs::rename(rt, from, to))
+}
+
+/// Moves an image to its new place, and waits until that lasts in both folders: its new name is there first, so that at no moment
+/// it is without one.
+fn move_image<R: Files>(rt: &R, from: &str, to: &str) -> io::Result<()> {
+    rename(rt, from, to)?;
+    sync_folder(rt, folder_of(to))?;
+    sync_folder(rt, folder_of(from))
+}
+
 /// Moves the first image of a name to its new place, where that is another one.
 fn move_old<R: Files>(rt: &R, old: &[String], target: &str) -> io::Result<()> {
     match old.first() {
-        Some(first) if first.as_str() != target => fs::rename(rt, first.as_str(), target),
+        Some(first) if first.as_str() != target => move_image(rt, first.as_str(), target),
         _ => Ok(()),
     }
 }
 
-/// Moves a written image to its place. The first image of its name moves there before.
+/// Moves a written image to its place. The first image of its name moves there before, and that lasts before the written one
+/// comes: else a power cut could leave both.
 fn move_both<R: Files>(rt: &R, fresh: &Fresh, old: &[String]) -> io::Result<()> {
-    move_old(rt, old, fresh.target.as_str())?;
-    fs::rename(rt, fresh.beside.as_str(), fresh.target.as_str())?;
+    let target = fresh.target.as_str();
+    move_old(rt, old, target)?;
+    rename(rt, fresh.beside.as_str(), target)?;
     sync_folder(rt, fresh.folder.as_str())
 }
 

@@ -3,7 +3,7 @@
 ghost use Rattle.std.specs.Prelude.{◌≤◌, length, IfOk};
 
 use bk_text::Bytes;
-use host_edge::DiskFile;
+use host_edge::{DiskFile, Node};
 use std::alloc::{AllocError, Allocator, Global};
 use std::cell::RefCell;
 use std::fs::{Metadata, OpenFile, OpenOptions};
@@ -30,6 +30,7 @@ pub struct Kept {
     held: RefCell<Bytes>,
     at: usize,
     refused: Option<ErrorKind>,
+    inode: u64,
     alloc: Global,
 }
 
@@ -116,6 +117,10 @@ impl DiskFile for Kept {
 
     ghost number = { λ file. None };
 
+    ghost is_node = { λ file node. Unit {0} };
+
+    ghost is_under = { λ file path. Unit {0} };
+
     ghost measured = { λ file length. Unit {0} };
 
     ghost gave = { λ file at bytes. Unit {0} };
@@ -128,6 +133,17 @@ impl DiskFile for Kept {
 
     fn number(&self) -> i32 {
         3
+    }
+
+    fn node(&self) -> io::Result<Option<Node>> {
+        Ok(Some(Node {
+            device: 0,
+            inode: self.inode,
+        }))
+    }
+
+    fn is_under<R: Files>(&self, _rt: &R, _path: &str) -> io::Result<bool> {
+        Ok(true)
     }
 
     fn length(&self) -> io::Result<u64> {
@@ -196,6 +212,7 @@ impl Files for Disk {
             held: RefCell::new(held),
             at: 0,
             refused,
+            inode: if path == "media/journal" { 1 } else { 2 },
             alloc: self.alloc,
         })
     }
@@ -226,6 +243,10 @@ impl Files for Disk {
 
     fn create_dir(&self, _path: &str) -> io::Result<()> {
         Err(io::Error::from(ErrorKind::AlreadyExists))
+    }
+
+    fn create_dir_with_mode(&self, path: &str, _mode: u32) -> io::Result<()> {
+        self.create_dir(path)
     }
 
     fn remove_dir(&self, _path: &str) -> io::Result<()> {

@@ -3,7 +3,7 @@
 ghost use Rattle.std.specs.Prelude.{◌≡◌};
 
 use bk_text::Bytes;
-use host_edge::DiskFile;
+use host_edge::{DiskFile, Node};
 use std::alloc::Allocator;
 use std::fs::{Metadata, OpenFile, OpenOptions};
 use std::io::{self, ErrorKind, Read, Seek, SeekFrom, Write};
@@ -17,6 +17,10 @@ pub struct Folder {
     pub number: i32,
     /// Whether calls on opened files are refused.
     pub broken: bool,
+    /// The inode of `slot7`, where it is a regular file; that of `journal` is 1.
+    pub inode: Option<u64>,
+    /// Whether the paths lead to other files by and by.
+    pub moved: bool,
 }
 
 /// A folder of which nothing is refused.
@@ -25,12 +29,16 @@ pub const WHOLE: Folder = Folder {
     kind: ErrorKind::Other,
     number: 3,
     broken: false,
+    inode: Some(2),
+    moved: false,
 };
 
 #[derive(Drop)]
 pub struct File {
     number: i32,
     broken: bool,
+    inode: Option<u64>,
+    moved: bool,
 }
 
 impl File {
@@ -88,6 +96,10 @@ impl DiskFile for File {
 
     ghost number = { λ file. None };
 
+    ghost is_node = { λ file node. Unit {0} };
+
+    ghost is_under = { λ file path. Unit {0} };
+
     ghost measured = { λ file length. Unit {0} };
 
     ghost gave = { λ file at bytes. Unit {0} };
@@ -100,6 +112,14 @@ impl DiskFile for File {
 
     fn number(&self) -> i32 {
         self.number
+    }
+
+    fn node(&self) -> io::Result<Option<Node>> {
+        Ok(self.inode.map(|inode| Node { device: 0, inode }))
+    }
+
+    fn is_under<R: Files>(&self, _rt: &R, _path: &str) -> io::Result<bool> {
+        Ok(!self.moved)
     }
 
     fn length(&self) -> io::Result<u64> {
@@ -138,6 +158,12 @@ impl Files for Folder {
         Ok(File {
             number: self.number,
             broken: self.broken,
+            inode: if path == "media/slot7" {
+                self.inode
+            } else {
+                Some(1)
+            },
+            moved: self.moved,
         })
     }
 
@@ -167,6 +193,10 @@ impl Files for Folder {
 
     fn create_dir(&self, _path: &str) -> io::Result<()> {
         Err(io::Error::from(ErrorKind::AlreadyExists))
+    }
+
+    fn create_dir_with_mode(&self, path: &str, _mode: u32) -> io::Result<()> {
+        self.create_dir(path)
     }
 
     fn remove_dir(&self, _path: &str) -> io::Result<()> {

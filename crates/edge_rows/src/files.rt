@@ -44,6 +44,16 @@ fn a_fault_names_its_path(rt: HostRuntime) -> Result<(), Fail> {
         ..WHOLE
     };
     let closed = Folder { number: 2, ..WHOLE };
+    let linked = Folder {
+        inode: Some(1),
+        ..WHOLE
+    };
+    let device = Folder {
+        inode: None,
+        ..WHOLE
+    };
+    assert!(&rt; opened(alloc, linked, "media/journal and media/slot7: one file ")?);
+    assert!(&rt; opened(alloc, device, "media/slot7: not a regular file")?);
     assert!(&rt; opened(alloc, WHOLE, "opened")?);
     assert!(&rt; opened(alloc, absent, "opened")?);
     assert!(&rt; opened(alloc, journal, "media/journal: ")?);
@@ -72,7 +82,7 @@ fn media(
     broken: bool,
     room: usize,
     refuses: bool,
-) -> Result<DirMedia<File, Output>, Fail> {
+) -> Result<DirMedia<(Folder, Global), File, Output>, Fail> {
     let output = Output {
         taken: Bytes::new(alloc),
         room,
@@ -100,6 +110,25 @@ fn calls_answer_what_the_file_answers(rt: HostRuntime) -> Result<(), Fail> {
     assert!(&rt; media.sync(0).is_ok());
     assert!(&rt; media.write(0, 0, b"ab").is_ok());
     assert!(&rt; media.len(0).is_err(), "another length than was left");
+    assert!(&rt; media.sync(0).is_err(), "another length than was left");
+    Ok(())
+}
+
+#[test]
+fn a_path_that_leads_elsewhere_is_no_sync(rt: HostRuntime) -> Result<(), Fail> {
+    let alloc = rt.alloc();
+    let output = Output {
+        taken: Bytes::new(alloc),
+        room: 0,
+        refuses: false,
+    };
+    let moved = Folder {
+        moved: true,
+        ..WHOLE
+    };
+    let mut media = DirMedia::open(&(moved, alloc), "media", output)?;
+    assert!(&rt; media.len(0).is_ok());
+    assert!(&rt; media.sync(0).is_err());
     Ok(())
 }
 
@@ -108,7 +137,7 @@ fn refused_calls_fail(rt: HostRuntime) -> Result<(), Fail> {
     let alloc = rt.alloc();
     let mut media = media(alloc, true, 0, false)?;
     assert!(&rt; media.read(0, 0, &mut []).is_err());
-    let long = vec![in alloc; 0u8; 262_145]?;
+    let long = vec![in alloc; 0u8; 262_161]?;
     assert!(&rt;
         media.write(0, 0, long.as_slice()).is_err(),
         "too long to wait"

@@ -1,4 +1,5 @@
-//! Tests of files in a folder as media, of what a program opens, of the system's clock and of the whole program, over fakes.
+//! Tests of files in a folder as media, of what a program opens, of the system's clock and of the whole program, over fakes. `fakes`
+//! and `world` are what the program runs in. Nothing stands on these tests; `backup_program` and `host_edge` stand below.
 #![tactic(auto)]
 
 #[cfg(test)]

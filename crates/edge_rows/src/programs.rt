@@ -103,6 +103,7 @@ fn ends(alloc: Global, case: Case, number: u8, told: &[u8], explained: &[u8]) ->
         bytes: case.input,
         at: 0,
         behind: case.behind,
+        interrupted: false,
     };
     let Ok(mut clock) = ClockMem::new(alloc, &[1_000_000]) else {
         return false;
@@ -267,7 +268,7 @@ fn media_that_are_not_opened(rt: HostRuntime) {
             taken,
             4,
             b"",
-            b"cannot open\nmedia: operation would block\n"
+            b"cannot open\nmedia: another afsbackup runs in this folder\n"
         )
     );
 }

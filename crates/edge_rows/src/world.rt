@@ -7,6 +7,7 @@ use crate::disk::{Disk, Kept};
 use crate::fakes::Output;
 use cell_core::CellMem;
 use host_edge::{DirMedia, Doors, EdgeFault, FolderLock, lock_folder, read_config};
+use std::alloc::Global;
 use std::cell::{Cell, RefCell};
 use std::env::{Env, FillError};
 use std::io::{self, ErrorKind, Read, Write};
@@ -59,17 +60,22 @@ impl Env for Words {
     }
 }
 
-/// An input of bytes, and what comes behind them.
+/// An input of bytes, and what comes behind them. Every second read of the bytes is interrupted.
 #[derive(Drop)]
 pub struct Input {
     pub bytes: &'static [u8],
     pub at: usize,
     pub behind: Behind,
+    pub interrupted: bool,
 }
 
 impl Read for Input {
     fn read(&mut self, into: &mut [u8]) -> io::Result<usize> {
         let rest = self.bytes.get(self.at..).unwrap_or_default();
+        self.interrupted = !self.interrupted && !rest.is_empty();
+        if self.interrupted {
+            return Err(io::Error::from(ErrorKind::Interrupted));
+        }
         if rest.is_empty() && self.behind == Behind::Refusal {
             return Err(io::Error::from(ErrorKind::TimedOut));
         }
@@ -135,7 +141,7 @@ pub struct DiskDoors<'a> {
 impl<'a> Doors for DiskDoors<'a> {
     type Lock = Lock<'a>;
 
-    type Media = DirMedia<Kept, Shared<'a>>;
+    type Media = DirMedia<(Disk, Global), Kept, Shared<'a>>;
 
     type Cell = NamedCell;
 
@@ -155,7 +161,7 @@ impl<'a> Doors for DiskDoors<'a> {
         })
     }
 
-    fn media(&self) -> Result<DirMedia<Kept, Shared<'a>>, EdgeFault> {
+    fn media(&self) -> Result<DirMedia<(Disk, Global), Kept, Shared<'a>>, EdgeFault> {
         let output = Shared {
             output: self.output,
             given_back: self.given_back,

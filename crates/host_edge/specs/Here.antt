@@ -1,5 +1,5 @@
 -- Which slots have a file: laws.
-use Rattle.std.proofs.Common.{◌≡◌, inl, inr, ◌-◌, ℕ, zero, suc, ◌<◌, ◌≤◌, Option, List, [], ◌∷◌, length, get_or, refl, sym, arith}
+use Rattle.std.proofs.Common.{◌≡◌, inl, inr, ◌-◌, ℕ, zero, suc, ◌<◌, ◌≤◌, Option, List, [], ◌∷◌, ◌++◌, length, get_or, refl, sym, arith}
 use Rattle.std.proofs.lemmas.Bool.{cases_eq}
 use Rattle.std.proofs.lemmas.Bool.Decides.{nat_tests}
 use Rattle.std.specs.Prelude.{IsTrue, is_some, None}
@@ -26,3 +26,14 @@ here_below slots all f here = elim (cases_eq f 0) [
   | inl is ↦ omega (arith, is)
   | inr other ↦ omega (arith, all, slot_below slots (f - 1) (grind (arith, here, other, nat_tests)))
 ]
+
+-- ---- one more at the end
+
+pub slot_front : {F : Type 0} (slots : List (Option F)) (slot : Option F) (k : ℕ) → k < length slots → slot_at (slots ++ slot ∷ []) k ≡ slot_at slots k
+slot_front [] slot k below = absurd (omega arith)
+slot_front (x ∷ slots) slot zero below = refl
+slot_front (x ∷ slots) slot (suc k) below = slot_front slots slot k (omega arith)
+
+pub slot_last : {F : Type 0} (slots : List (Option F)) (slot : Option F) → slot_at (slots ++ slot ∷ []) (length slots) ≡ slot
+slot_last [] slot = refl
+slot_last (x ∷ slots) slot = slot_last slots slot

@@ -1,6 +1,7 @@
 pub mod Faults
 pub mod Here
 pub mod Locks
+pub mod Nodes
 pub mod Openings
 pub mod Shown
 pub mod Slots

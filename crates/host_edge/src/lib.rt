@@ -5,6 +5,8 @@
 //! then have is what a crash leaves.
 #![tactic(auto)]
 
+mod apart;
+mod calls;
 mod clock;
 mod config;
 mod counting;
@@ -14,20 +16,24 @@ mod fault;
 mod files;
 mod lists;
 mod lock;
+mod node;
 mod opening;
 mod refusal;
 mod slots;
 mod source;
 mod waiting;
 
+pub use calls::{again, read_again};
 pub use clock::SysClock;
 pub use config::read_config;
 pub use dir_media::DirMedia;
 pub use disk_file::DiskFile;
 pub use fault::{EdgeFault, at_path};
-pub use files::{make_folder, open_file, path_in, sync_folder};
+pub use files::{make_folder, make_new, not_regular, open_file, path_in, remove_file, sync_folder};
 pub use lists::add;
 pub use lock::{FolderLock, lock_folder};
+pub use node::Node;
 pub use opening::{Doors, Opened, Place, Unopened, open_all};
 pub use refusal::{Explains, ExplainsMedia, Refusal};
+pub use slots::changed;
 pub use source::StdSource;

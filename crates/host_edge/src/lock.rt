@@ -48,6 +48,18 @@ fn hold_streams<F: DiskFile + Drop, R: Files<File = F>>(
     Err(io::Error::from(ErrorKind::InvalidInput))
 }
 
+/// Why a folder was not given: it is said in words where another program has it.
+fn of_lock(cause: io::Error) -> io::Error {
+    if cause.kind() == ErrorKind::WouldBlock {
+        io::Error::new(
+            ErrorKind::WouldBlock,
+            "another afsbackup runs in this folder",
+        )
+    } else {
+        cause
+    }
+}
+
 /// Makes a folder where it is absent, and takes it.
 fn take_folder<F: DiskFile + Drop, R: Files<File = F>>(
     rt: &R,
@@ -59,8 +71,10 @@ fn take_folder<F: DiskFile + Drop, R: Files<File = F>>(
 {
     make_folder(rt, folder)?;
     let lock = hold_streams(rt, alloc, folder)?;
-    lock.handle.take_lock()?;
-    Ok(lock)
+    match lock.handle.take_lock() {
+        Ok(()) => Ok(lock),
+        Err(cause) => Err(of_lock(cause)),
+    }
 }
 
 /// Takes a folder for this program. The folder is made where it is absent; the one that it stands in is there. It is refused

@@ -20,6 +20,9 @@ pub trait Explains {
 
 /// Media that know the paths of their files, and why their output took no more.
 pub trait ExplainsMedia: Explains {
+    /// Prints, as one line, that the opening made an empty journal; nothing where it was there.
+    fn explain_made<E: Write>(&self, errors: &mut E) -> io::Result<()>;
+
     /// Prints, as one line, why the output took no more; nothing where it took all.
     fn explain_output<E: Write>(&self, errors: &mut E) -> io::Result<()>;
 

@@ -1,6 +1,6 @@
 //! The files `journal` and `slot0` to `slot255` of a folder, and what is known of them.
 
-ghost use Rattle.std.specs.Prelude.{◌≡◌, ◌≢◌, ◌++◌, codes, length, is_some, IfOk, Err};
+ghost use Rattle.std.specs.Prelude.{◌≡◌, ◌≢◌, ◌++◌, codes, length, is_some, slice_get, IfOk, Err, Some};
 ghost use Rattle.std.specs.String.{string_bytes};
 ghost use Rattle.std.specs.Option.{option_copied};
 ghost use Rattle.std.specs.Fmt.{decimal};
@@ -16,20 +16,47 @@ use std::alloc::{AllocError, Global};
 use std::io::{self, ErrorKind};
 use std::rt::Files;
 
-/// How many slots there are.
+/// How many slots there are, and how many files.
 const SLOTS: usize = 256;
+
+pub(crate) const FILES: u32 = 257;
+
+/// A journal.
+#[derive(Drop)]
+pub(crate) struct Journal<F: Drop> {
+    pub file: F,
+    /// Whether it was made here.
+    pub is_made: bool,
+}
+
+/// The journal at a path, which is made where it is absent.
+fn journal_at<F: DiskFile + Drop, R: Files<File = F>>(rt: &R, path: &str) -> io::Result<Journal<F>>
+    ensures { IfOk result (λ journal. IsAboveStreams (F.number journal.file)) }
+{
+    match open_file(rt, path, false) {
+        Ok(file) => Ok(Journal {
+            file,
+            is_made: false,
+        }),
+        Err(cause) if cause.kind() == ErrorKind::NotFound => Ok(Journal {
+            file: open_file(rt, path, true)?,
+            is_made: true,
+        }),
+        Err(cause) => Err(cause),
+    }
+}
 
 /// The journal, which is made where it is absent.
 pub(crate) fn open_journal<F: DiskFile + Drop, R: Files<File = F>>(
     rt: &R,
     alloc: Global,
     folder: &str,
-) -> Result<F, EdgeFault>
-    ensures above { IfOk result (λ file. IsAboveStreams (F.number file)) }
+) -> Result<Journal<F>, EdgeFault>
+    ensures above { IfOk result (λ journal. IsAboveStreams (F.number journal.file)) }
     ensures few { result ≢ Err TooMany }
 {
     let path = path_in(alloc, folder, "journal")?;
-    at_path(alloc, path.as_str(), open_file(rt, path.as_str(), true))
+    at_path(alloc, path.as_str(), journal_at(rt, path.as_str()))
 }
 
 /// The path of a slot's file.
@@ -107,8 +134,11 @@ pub(crate) fn lengths_of<F: DiskFile + Drop>(
 }
 
 /// A file isn't as it was left.
-pub(crate) fn changed() -> io::Error {
-    io::Error::from(ErrorKind::InvalidData)
+pub fn changed() -> io::Error {
+    io::Error::new(
+        ErrorKind::InvalidData,
+        "it was changed, and not by this program",
+    )
 }
 
 /// The file of a slot, where it has one.
@@ -138,13 +168,13 @@ pub(crate) fn file_among<'a, F: Drop>(
 
 /// The length of a file, which is the one that it was left with.
 pub(crate) fn same_length<F: DiskFile + Drop>(file: &F, lengths: &[u64], f: u32) -> io::Result<u64>
-    ensures { IfOk result (λ length. F.measured file.now length) }
+    ensures measured { IfOk result (λ length. F.measured file.now length) }
+    ensures left { IfOk result (λ length. slice_get lengths.now f ≡ Some length) }
 {
     let length = file.length()?;
-    if lengths.get(f as usize) == Some(&length) {
-        Ok(length)
-    } else {
-        Err(changed())
+    match lengths.get(f as usize) {
+        Some(left) if *left == length => Ok(length),
+        _ => Err(changed()),
     }
 }
 

@@ -4,6 +4,7 @@ ghost use Rattle.std.specs.Prelude.{◌≡◌, ◌≤◌, length, IfOk};
 ghost use Rattle.std.specs.Io.KnownBytes.{ReadConsumes};
 ghost use Rattle.crash_moments.specs.Moments.{HasCause};
 
+use crate::calls::read_again;
 use crate::refusal::Explains;
 use crash_moments::raised;
 use media_core::{Failed, Source};
@@ -47,7 +48,7 @@ impl<R: Read + Drop> Source for StdSource<R> {
         ensures bytes { ReadConsumes (R.remaining self.old.reader) (R.remaining self.new.reader) result into.new }
         ensures cause { HasCause self.old.faults self.new.faults result }
     {
-        match self.reader.read(into) {
+        match read_again(&mut self.reader, into) {
             Ok(count) => Ok(count),
             Err(cause) => {
                 self.refused = Some(cause);

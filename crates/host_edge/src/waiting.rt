@@ -9,8 +9,8 @@ use crate::slots::changed;
 use std::alloc::{AllocError, Global};
 use std::io;
 
-/// How many bytes may wait.
-const ROOM: usize = 262_144;
+/// How many bytes may wait: those of sixteen whole records of a tape.
+const ROOM: usize = 16 * 16_385;
 
 /// Bytes that wait to be written to a file of a number, from an offset on. There are none where nothing waits.
 #[derive(Debug, Drop)]
