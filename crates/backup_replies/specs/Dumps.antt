@@ -27,9 +27,11 @@ expires_words expires = if expires == 0 then then_word (codes "none") else (if e
 abbrev pub dump_begins : DumpRecordFields → List ℕ
 dump_begins dump = codes "dump" ++ then_number dump.id ++ then_word (dump_name dump.set dump.level) ++ codes " initial" ++ then_number dump.initial ++ codes " parent" ++ then_number dump.parent
 
+-- the rest of the line of a dump: its level, when it expires, and how many volumes and tapes it has
 abbrev pub dump_ends : DumpRecordFields → List ℕ
 dump_ends dump = codes " level" ++ then_word dump.level ++ codes " expires" ++ expires_words dump.expires ++ codes " volumes" ++ then_number (length dump.volumes) ++ codes " tapes" ++ then_number (length dump.tapes) ++ line_feed
 
+-- the line of a dump
 abbrev pub dump_line : DumpRecordFields → List ℕ
 dump_line dump = dump_begins dump ++ dump_ends dump
 
@@ -40,9 +42,11 @@ abbrev pub cell_line : List ℕ → List ℕ
 cell_line [] = []
 cell_line (b ∷ cell) = codes "cell" ++ then_word (b ∷ cell) ++ line_feed
 
+-- the line of a tape of a dump: its name, how often it was used, and its permanent name or `-`
 abbrev pub tape_line : List ℕ → TapePart → List ℕ
 tape_line base tape = codes "tape" ++ then_word (numbered base tape.tape) ++ codes " uses" ++ then_number tape.uses ++ codes " permanent" ++ then_word (name_or_dash tape.permanent) ++ line_feed
 
+-- The line of a volume of a dump: its name, its id, its clone time, and the time from which on its changes were dumped.
 abbrev pub dumped_line : VolRecordFields → List ℕ
 dumped_line volume = codes "volume" ++ then_word volume.name ++ codes " id" ++ then_number volume.id ++ codes " clone" ++ then_number volume.clone ++ codes " from" ++ then_number volume.from ++ line_feed
 
@@ -57,6 +61,7 @@ abbrev pub listed_line : Option DumpRecordFields → List ℕ
 listed_line None = []
 listed_line (Some dump) = dump_line dump
 
+-- the reply with the lines of the dumps of these ids
 abbrev pub dumps_lines : List DumpRecordFields → List ℕ → List ℕ
 dumps_lines listed ids = flat_map (λ id. listed_line (record_of listed id)) ids ++ ok_line
 
@@ -70,6 +75,7 @@ abbrev pub history_line : List ℕ → ℕ → Option DumpRecordFields → List 
 history_line name id None = []
 history_line name id (Some dump) = on_line id (volume_of dump name)
 
+-- the reply with a line for each of these dumps that has the volume
 abbrev pub history_lines : List DumpRecordFields → List ℕ → List ℕ → List ℕ
 history_lines listed name ids = flat_map (λ id. history_line name id (record_of listed id)) ids ++ ok_line
 
@@ -77,5 +83,6 @@ history_lines listed name ids = flat_map (λ id. history_line name id (record_of
 abbrev pub deleted_line : ℕ → List ℕ
 deleted_line id = codes "deleted" ++ then_number id ++ line_feed
 
+-- the reply with a line for each dump that was forgotten
 abbrev pub deleted_lines : List ℕ → List ℕ
 deleted_lines ids = flat_map deleted_line ids ++ ok_line

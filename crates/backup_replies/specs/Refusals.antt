@@ -3,6 +3,7 @@ use Rattle.std.specs.Prelude.{ℕ, List, codes}
 use Rattle.backup_replies.specs.declared.refusals.Refusal.{Refusal}
 use Rattle.backup_replies.specs.declared.refusals.Refusal.TheVariants.{NoSuchCommand, BadOption, MissingOption, BadValue, LineTooLong, NotAscii, SetExists, NoSuchSet, NoSuchEntry, BadPattern, LevelExists, NoSuchLevel, NoParentLevel, BadDate, DateOutOfRange, PortTaken, NoSuchPort, NoTape, NothingToAppend, SlotEmpty, NoLabel, CapacityTooSmall, NoVolumes, IdsSpent, NoDump, MissingDump, MissingTape, NoSuchDump, AppendedDump, BaseLacks, BadOnTape, BadTape, PartOfDump, DumpKnown, WrongParent, NoVolume, VolumeExists, NoVnode, TooLarge, LogFull, BadImage, CutStream}
 
+-- the number, in two digits, and the name of each refusal
 abbrev pub refusal_text : Refusal → List ℕ
 refusal_text NoSuchCommand = codes "01 NoSuchCommand"
 refusal_text BadOption = codes "02 BadOption"

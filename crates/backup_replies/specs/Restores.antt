@@ -14,6 +14,7 @@ made_line id set level parent volumes tapes =
 abbrev pub would_dump_line : List ℕ → List ℕ → ℕ → List ℕ
 would_dump_line set level parent = codes "would dump" ++ then_word (dump_name set level) ++ codes " parent" ++ then_number parent ++ line_feed
 
+-- a volume that would be dumped, and the time from which on its changes would be
 abbrev pub would_volume_line : List ℕ → ℕ → List ℕ
 would_volume_line name from = codes "volume" ++ then_word name ++ codes " from" ++ then_number from ++ line_feed
 
@@ -27,6 +28,7 @@ from_chain target id chain = then_word target ++ codes " from" ++ then_number id
 abbrev pub restored_line : List ℕ → ℕ → ℕ → List ℕ
 restored_line target id chain = codes "restored" ++ from_chain target id chain
 
+-- a volume that would be restored: the name that it would get, the dump, and how many dumps its chain has
 abbrev pub would_restore_line : List ℕ → ℕ → ℕ → List ℕ
 would_restore_line target id chain = codes "would restore" ++ from_chain target id chain
 

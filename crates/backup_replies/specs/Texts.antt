@@ -9,9 +9,11 @@ use Rattle.backup_replies.specs.Refusals.{refusal_text}
 abbrev pub then_word : List ℕ → List ℕ
 then_word word = 32 ∷ word
 
+-- a number behind a space
 abbrev pub then_number : ℕ → List ℕ
 then_number n = 32 ∷ decimal n
 
+-- what ends a line
 abbrev pub line_feed : List ℕ
 line_feed = 10 ∷ []
 
@@ -29,20 +31,25 @@ refused refusal = codes "refused" ++ then_word (refusal_text refusal)
 abbrev pub refused_alone : Refusal → List ℕ
 refused_alone refusal = refused refusal ++ line_feed
 
+-- the line of a refusal, with a word behind it
 abbrev pub refused_word : Refusal → List ℕ → List ℕ
 refused_word refusal word = refused refusal ++ then_word word ++ line_feed
 
+-- the line of a refusal, with a number behind it
 abbrev pub refused_number : Refusal → ℕ → List ℕ
 refused_number refusal n = refused refusal ++ then_number n ++ line_feed
 
+-- the line of a refusal, with a word and a number behind it
 abbrev pub refused_at : Refusal → List ℕ → ℕ → List ℕ
 refused_at refusal word n = refused refusal ++ then_word word ++ then_number n ++ line_feed
 
+-- the line of a refusal, with two numbers behind it
 abbrev pub refused_numbers : Refusal → ℕ → ℕ → List ℕ
 refused_numbers refusal m n = refused refusal ++ then_number m ++ then_number n ++ line_feed
 
 -- ---- what was told
 
+-- a byte that ends a line
 abbrev pub is_feed : ℕ → Bool
 is_feed b = b == 10
 

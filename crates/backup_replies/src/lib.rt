@@ -1,5 +1,7 @@
-//! The texts that the program tells: the table of refusals, the lines of replies, and the reply to a line that is no
-//! command.
+//! The texts that the program tells: the table of refusals, the lines of replies, and the reply to a line that is no command. Each text
+//! is, byte by byte, the one that `specs/` defines. Enter at `Refusal` for the table, at `fault_line` for a line that is no command,
+//! and else at the call that is named for what it tells, as `levels_lines` is. `dump_commands`, `restore_commands` and `backup_session`
+//! stand above; `backup_words` stands below.
 #![tactic(auto)]
 
 mod dump_lists;

@@ -35,5 +35,6 @@ item_asks_archive Quit = false
 item_asks_archive (Refused text) = false
 item_asks_archive (Runs command) = asks_archive command
 
+-- a line of a script that asks the archive
 abbrev pub line_asks_archive : List ℕ → Bool
 line_asks_archive line = item_asks_archive (item_of line)

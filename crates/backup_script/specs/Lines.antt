@@ -11,6 +11,7 @@ use Rattle.backup_script.specs.declared.lines.LineStop.{LineStop}
 abbrev pub most_script : ℕ
 most_script = 16777216
 
+-- a byte that ends a line
 abbrev pub is_feed : ℕ → Bool
 is_feed b = b == 10
 
@@ -27,6 +28,7 @@ ended (b ∷ rest) = if has_feed (b ∷ rest) then b ∷ ended rest else []
 abbrev pub is_quit : List ℕ → Bool
 is_quit line = bytes_eq line (codes "quit")
 
+-- one of these lines is `quit`
 abbrev pub has_quit : List (List ℕ) → Bool
 has_quit = list_any is_quit
 

@@ -72,20 +72,24 @@ pub record TookAll (old new : List ℕ) : Type 0 where
   pub few : length old ≤ most_script
   pub no_quit : has_quit (lines (ended old)) ≡ false
 
+-- The bytes up to a line `quit` and its line feed were taken, and no line before it is `quit`.
 pub record TookToQuit (old new : List ℕ) : Type 0 where
   pub took : Took old new
   pub whole : ended took.taken ≡ took.taken
   pub quit : EndsAtQuit (lines took.taken)
 
+-- one byte more than a script may have was read, and no line of it is `quit`
 pub record TookTooMany (old new : List ℕ) : Type 0 where
   pub took : Took old new
   pub many : length took.taken ≡ 16777217
   pub no_quit : has_quit (lines (ended took.taken)) ≡ false
 
+-- what was read before a fault, in which no line is `quit`
 pub record TookToFault (old new : List ℕ) : Type 0 where
   pub took : Took old new
   pub no_quit : has_quit (lines (ended took.taken)) ≡ false
 
+-- the bytes that are taken, by the answer: all of a script, those up to `quit`, one too many, or those before a fault
 abbrev pub Takes : List ℕ → List ℕ → Result Bool ServeStop → Type 0
 Takes old new (Ok refused) = TookAll old new ⊎ TookToQuit old new
 Takes old new (Err TooLong) = TookTooMany old new
@@ -150,6 +154,8 @@ pub record LineLeft {D E : Type 0} (P : Plant D) (C : Cell E) (w : World) (ms : 
 abbrev pub OnTurn : List Effect → World → List ℕ → Turn → Stage → Type 0
 OnTurn before w ms t stage = InsideTurn before w ms t stage ⊎ (stage ≡ ending before (t.effects ++ tells t.reply ∷ []) (after_turn w t) ms)
 
+-- A command was cut short: the cell has a list of some stage of its turn, the clock has that stage's moments left, and the images are
+-- those of the stage's effects.
 pub record TurnLeft {D E : Type 0} (P : Plant D) (C : Cell E) (w : World) (ms : List ℕ) (t : Turn) (old new : D) (site : E) (left : List ℕ) : Type 0 where
   pub stage : Stage
   pub on_turn : OnTurn [] w ms t stage
@@ -190,10 +196,12 @@ IsOneLine these = (these ≡ []) ⊎ ((line : List ℕ) × (these ≡ line ∷ [
 abbrev pub TookOn : List ℕ → List ℕ → Type 0
 TookOn old new = (line : List ℕ) × TookPiece old (10 ∷ new) line × (is_quit (strip_carriage_return line) ≡ false)
 
+-- the script is at its end, or the line that was read is `quit`
 abbrev pub TookEnd : List ℕ → List ℕ → ℕ → Type 0
 TookEnd old new taken =
     ((new ≡ []) × (taken ≤ 16777216) × All (λ b. is_feed b ≡ false) old) ⊎ ((line : List ℕ) × TookPiece old (10 ∷ new) line × (is_quit (strip_carriage_return line) ≡ true))
 
+-- the bytes that reading one line takes, by the answer
 abbrev pub TakesNext : List ℕ → List ℕ → ℕ → Result Passed ServeStop → Type 0
 TakesNext old new taken (Ok passed) = ((passed.goes ≡ true) → TookOn old new) × ((passed.goes ≡ false) → TookEnd old new taken)
 TakesNext old new taken (Err stop) =

@@ -13,7 +13,7 @@ use bk_text::Bytes;
 use std::alloc::{AllocError, Global};
 
 /// What a line of a script says.
-#[derive(Debug, Drop)]
+#[derive(Drop)]
 pub enum Item {
     /// Nothing; it has no reply.
     Silent,

@@ -11,6 +11,7 @@ pub data Asks : Type 0 where
   AsksArchive : RestoreCommand → Asks
   AsksFitness : Asks
 
+-- what a command asks of the world that it finds
 abbrev pub asks : Command → Asks
 asks (Database command) = AsksNothing
 asks (Tape command) = AsksNothing
@@ -20,11 +21,13 @@ asks (Restore command) = AsksArchive command
 
 -- ---- read from it
 
+-- it asks for an archive
 abbrev pub is_archive : Asks → Bool
 is_archive AsksNothing = false
 is_archive (AsksArchive command) = true
 is_archive AsksFitness = false
 
+-- it asks for a world that is fit to be dumped
 abbrev pub is_fitness : Asks → Bool
 is_fitness AsksNothing = false
 is_fitness (AsksArchive command) = false

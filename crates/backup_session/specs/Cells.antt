@@ -44,6 +44,7 @@ data_for (Some text) size = text
 data_for None (Some size) = replicate size 120
 data_for None None = []
 
+-- what a command on the cell is answered, and the lists of volumes on the way
 abbrev pub cell_answer : List Stored → ℕ → CellCommand → CellAnswer
 cell_answer cell time (VosCreate server partition name) = answered name 0 (created (after_create cell server partition name time))
 cell_answer cell time (VosWrite volume vnode text size) = answered volume vnode (after_write cell volume vnode (data_for text size) time)

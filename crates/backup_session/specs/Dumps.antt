@@ -21,5 +21,6 @@ scene_of w = record {
 abbrev pub answered : World → Answer → Turn
 answered w answer = record (said w answer.reply) { effects = answer.effects; log = answer.log; time = answer.time; contents = answer.contents w.contents }
 
+-- what a dump makes of a world
 abbrev pub dump_turn : World → DumpCommand → Turn
 dump_turn w command = answered w (dump_answer (scene_of w) command)

@@ -74,6 +74,8 @@ OnTheWay old cells new = Contains (old ∷ cells) new
 
 -- ---- inside the crate: a world that stands there, and a turn that was done, of the plant alone
 
+-- The plant's part of a world stands there: the journal with its database, time, configuration, slots and tapes, of which more may be
+-- settled. The cell isn't spoken of.
 pub record FitsPlant {D : Type 0} (P : Plant D) (w : World) (plant : D) (session : SessionView) : Type 0 where
   pub keeps : Keeps w.log w.state.log session.budb
   pub time : session.time ≡ w.time
@@ -82,6 +84,7 @@ pub record FitsPlant {D : Type 0} (P : Plant D) (w : World) (plant : D) (session
   pub slots : (P.view plant).slots ≡ w.setting.slots
   pub present : (k : ℕ) → (P.view plant).present k ≡ w.setting.present k
 
+-- The plant's part of a turn was done: its effects, with the reply handed back, and the plant's part of the world after it stands there.
 pub record TurnedPlant {D : Type 0} (P : Plant D) (w : World) (t : Turn) (old new : D) (session : SessionView) (reply : ReplyView) : Type 0 where
   pub done : DoneAhead P t.effects old new
   pub text : reply.text ≡ t.reply

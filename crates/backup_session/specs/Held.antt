@@ -17,5 +17,6 @@ abbrev pub HeldWhere : Bool → World → Type 0
 HeldWhere true w = HoldsArchive w
 HeldWhere false w = Unit {0}
 
+-- what a command finds: the archive of the world, where it asks for it
 abbrev pub HeldFor : World → Command → Type 0
 HeldFor w command = HeldWhere (asks_archive command) w

@@ -13,6 +13,7 @@ use Rattle.tape_frames.specs.Frames.{spelling}
 abbrev pub number_at : ℕ → List ℕ → ℕ
 number_at at bytes = from_be_bytes w32 (take 4 (drop at bytes))
 
+-- a text that stands behind its length at a place
 abbrev pub text_at : ℕ → List ℕ → List ℕ
 text_at at bytes = take (slice_index bytes at) (drop (at + 1) bytes)
 

@@ -24,6 +24,7 @@ abbrev pub HasRoom : List Change → List DumpRecordFields → Type 0
 HasRoom log [] = Unit {0}
 HasRoom log (d ∷ dumps) = length (encoded (log ++ found_changes (d ∷ dumps))) ≤ 268435456
 
+-- the log has no room for the first of these dumps behind those that are listed; of none nothing is said
 abbrev pub IsFullAt : List Change → List DumpRecordFields → List DumpRecordFields → Type 0
 IsFullAt log listed [] = Unit {0}
 IsFullAt log listed (d ∷ dumps) = 268435456 < length (encoded (log ++ found_changes (listed ++ d ∷ [])))

@@ -23,6 +23,7 @@ use Rattle.backup_session.specs.Worlds.{World, Setting, Contents}
 abbrev pub with_clone : ℕ → VolRecordFields → ℕ
 with_clone time volume = max time volume.clone
 
+-- the greatest of a time and the clone times of a dump
 abbrev pub with_clones : ℕ → DumpRecordFields → ℕ
 with_clones time dump = fold with_clone time dump.volumes
 
@@ -35,6 +36,7 @@ abbrev pub with_state : ℕ → EntryState → ℕ
 with_state time (Good id kind latest) = max time latest
 with_state time (Bad at) = time
 
+-- the greatest of a time and a volume's latest change; a bad image counts for nothing
 abbrev pub with_stored : ℕ → Stored → ℕ
 with_stored time stored = with_state time (state_of stored.image)
 

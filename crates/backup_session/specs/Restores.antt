@@ -20,6 +20,7 @@ use Rattle.backup_session.specs.Turns.{said}
 abbrev pub manner_at : ℕ → RestoreCommand → Manner
 manner_at time command = record { extension = command.extension; time = time; is_trial = command.trial }
 
+-- the answer of a restore, by which volumes it wants
 abbrev pub volumes_answer : Archive → List VolumeSet → List Stored → Manner → RestoredVolumes → RestoreAnswer
 volumes_answer a sets cell manner (One wanted) = one_answer a cell manner wanted
 volumes_answer a sets cell manner (OfDisk disk) = disk_answer a cell manner disk
@@ -34,11 +35,13 @@ restore_answer a sets cell time command = volumes_answer a sets cell (manner_at 
 abbrev pub restored : World → RestoreAnswer → Turn
 restored w answer = record (said w answer.reply) { cells = answer.cells }
 
+-- what a restore makes of a world
 abbrev pub archive_turn : World → RestoreCommand → Turn
 archive_turn w command = restored w (restore_answer (archive_of w) (after w.log).sets w.cell w.time command)
 
 -- ---- whatever stands on the tapes
 
+-- how a restore may leave the cell, by which volumes it wants
 abbrev pub MayPutVolumes : Database → Manner → RestoredVolumes → List Stored → List Stored → Type 0
 MayPutVolumes db manner (One wanted) old new = MayPut manner wanted old new
 MayPutVolumes db manner (OfDisk disk) old new = MayPutEach manner (disk_choices db.listed disk) old new

@@ -25,6 +25,7 @@ use Rattle.backup_session.specs.Opening.{with_clones}
 
 -- ---- which tapes
 
+-- the port, or the refusal that no port has this offset
 abbrev pub port_at : ℕ → Option PortFields → Result PortFields (List ℕ)
 port_at offset None = Err (refused_number NoSuchPort offset)
 port_at offset (Some port) = Ok port
@@ -48,6 +49,7 @@ abbrev pub stopped_at : ℕ → Option ℕ → List ℕ
 stopped_at slot None = []
 stopped_at slot (Some place) = refused_numbers BadTape slot place
 
+-- the line of a slot whose scan stops; nothing where it doesn't
 abbrev pub stopped_line : Sections → List ℕ
 stopped_line sections = stopped_at sections.slot sections.stop
 
@@ -74,6 +76,7 @@ pub record Step : Type 0 where
 abbrev pub recorded : World → DumpRecordFields → Turn
 recorded w dump = record (said w (added_line dump.id)) { effects = commits (encoded (change.Found dump ∷ [])) ∷ []; log = w.log ++ change.Found dump ∷ []; time = time_with w.time dump }
 
+-- a text is told and nothing else is done; the log's room stays as it was
 abbrev pub says : World → Bool → List ℕ → Step
 says w full text = record { turn = said w text; full = full }
 
@@ -100,6 +103,7 @@ then_turn s t = record t { effects = s.effects ++ t.effects; reply = s.reply ++ 
 abbrev pub with_front : List ℕ → Turn → Turn
 with_front text t = record t { reply = text ++ t.reply }
 
+-- a text behind a turn's reply
 abbrev pub then_said : Turn → List ℕ → Turn
 then_said t text = record t { reply = t.reply ++ text }
 
@@ -107,6 +111,7 @@ then_said t text = record t { reply = t.reply ++ text }
 abbrev pub next_step : Step → DumpRecordFields → Step → Step
 next_step so_far dump step = record { turn = then_turn so_far.turn (with_front (found_line dump) step.turn); full = step.full }
 
+-- one found dump more: its line, and its record where it may be added
 abbrev pub with_dump : World → Step → DumpRecordFields → Step
 with_dump w so_far dump = next_step so_far dump (added_if (before_reply w so_far.turn) so_far.full dump)
 
@@ -114,6 +119,7 @@ with_dump w so_far dump = next_step so_far dump (added_if (before_reply w so_far
 unfoldable pub adding : World → List DumpRecordFields → Step
 adding w dumps = fold (with_dump w) (says w false []) dumps
 
+-- the found dumps are told, and each that may be is added where the command adds
 abbrev pub dumps_turn : World → Bool → List DumpRecordFields → Turn
 dumps_turn w dbadd dumps = if dbadd then (adding w dumps).turn else said w (flat_map found_line dumps)
 
@@ -123,9 +129,11 @@ dumps_turn w dbadd dumps = if dbadd then (adding w dumps).turn else said w (flat
 abbrev pub tapes_turn : World → Bool → List Sections → Found → Turn
 tapes_turn w dbadd tapes found = then_said (then_turn (said w (flat_map stopped_line tapes)) (dumps_turn w dbadd found.whole)) (flat_map left_line found.parts ++ ok_line)
 
+-- what a scan makes of these slots
 unfoldable pub slots_turn : World → Bool → List ℕ → Turn
 slots_turn w dbadd slots = tapes_turn w dbadd (scans_of w.state.tape slots) (found_in (scans_of w.state.tape slots))
 
+-- what a scan makes of a world: the port is refused, or its tapes that are here are scanned
 abbrev pub scan_turn : World → Bool → Result PortFields (List ℕ) → Turn
 scan_turn w dbadd (Err text) = said w text
 scan_turn w dbadd (Ok port) = slots_turn w dbadd (slots_here w.setting.present port)

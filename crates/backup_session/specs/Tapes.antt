@@ -32,6 +32,7 @@ abbrev pub slot_in : (ℕ → Bool) → PortFields → ℕ → Result ℕ (List 
 slot_in present port slot =
     if nat_le port.first slot && nat_le slot port.last then (if present slot then Ok slot else Err (refused_number SlotEmpty slot)) else Err (refused_word BadValue (codes "-slot"))
 
+-- the slot that a command names, or the refusal of its port or of its slot
 abbrev pub slot_at : (ℕ → Bool) → ℕ → Option PortFields → Option ℕ → Result ℕ (List ℕ)
 slot_at present offset None slot = Err (refused_number NoSuchPort offset)
 slot_at present offset (Some port) slot = slot_in present port (unwrap_or slot port.first)
@@ -43,10 +44,12 @@ slot_of setting hosts offset slot =
 
 -- ---- a label is read
 
+-- the lines of a tape's label, or the refusal that it has none
 abbrev pub label_reply : ℕ → Option LabelFields → List ℕ
 label_reply slot None = refused_number NoLabel slot
 label_reply slot (Some a) = label_lines a.afs a.permanent a.initial a.tape slot
 
+-- what `readlabel` makes of a world
 abbrev pub read_turn : World → Result ℕ (List ℕ) → Turn
 read_turn w (Err text) = said w text
 read_turn w (Ok slot) = said w (label_reply slot (label_of (w.state.tape slot)))
@@ -79,12 +82,14 @@ labeled w slot a (change ∷ changes) =
     if nat_lt 268435456 (length_with w (change ∷ changes)) then said w (refused_number LogFull (length_with w (change ∷ changes)))
     else record (said w (labeled_lines a.afs a.permanent slot)) { effects = commits (encoded (change ∷ changes)) ∷ putting_label slot a; log = w.log ++ change ∷ changes }
 
+-- what `labeltape` makes of a world
 abbrev pub label_turn : World → Option (List ℕ) → Option (List ℕ) → Result ℕ (List ℕ) → Turn
 label_turn w name pname (Err text) = said w text
 label_turn w name pname (Ok slot) = labeled w slot (new_label (label_of (w.state.tape slot)) name pname) (taken (after w.log).listed (label_of (w.state.tape slot)))
 
 -- ---- the commands
 
+-- what a command on tapes makes of a world
 abbrev pub tape_turn : World → TapeCommand → Turn
 tape_turn w (Labeltape name pname offset slot) = label_turn w name pname (slot_of w.setting (after w.log).hosts offset slot)
 tape_turn w (Readlabel offset slot) = read_turn w (slot_of w.setting (after w.log).hosts offset slot)

@@ -31,6 +31,7 @@ use Rattle.backup_session.specs.Levels.{first_known, first_unfounded, first_miss
 abbrev pub is_host_port : List ℕ → ℕ → HostPort → Bool
 is_host_port host port there = (there.port == port) && is_same_text there.host host
 
+-- some tape host has this name and this port
 abbrev pub has_host_port : List HostPort → List ℕ → ℕ → Bool
 has_host_port hosts host port = list_any (is_host_port host port) hosts
 
@@ -77,6 +78,7 @@ abbrev pub set_goes : List DumpRecordFields → ℕ → ℕ → Verdict
 set_goes listed id initial =
     if initial == id then forgets (set_ids listed id) else (if has_dump listed initial then Refuses (refused_numbers AppendedDump id initial) else forgets (id ∷ []))
 
+-- what a deletion of this dump forgets; of no such dump, the refusal
 abbrev pub dump_goes : List DumpRecordFields → ℕ → Option DumpRecordFields → Verdict
 dump_goes listed id None = Refuses (refused_number NoSuchDump id)
 dump_goes listed id (Some dump) = set_goes listed id dump.initial
@@ -93,6 +95,7 @@ told_dumps listed count (Some id) = one_dump id (record_of listed id)
 
 -- ---- the commands
 
+-- WHAT A COMMAND ON THE DATABASE DECIDES, by what it finds: a refusal, a reply, changes with a reply, or a checkpoint.
 abbrev pub verdict : Database → DatabaseCommand → Verdict
 verdict db (Addhost host port) = if has_port db.hosts port then Refuses (refused_number PortTaken port) else Makes (AddHost host port ∷ []) ok_line
 verdict db (Delhost host port) = if has_host_port db.hosts host port then Makes (DelHost port ∷ []) ok_line else Refuses (refused_number NoSuchPort port)

@@ -4,11 +4,10 @@ ghost use Rattle.std.specs.Prelude.{◌≡◌, IfOk};
 ghost use Rattle.backup_session.specs.Verdicts.{verdict};
 
 use crate::dumps::{delete_dump, show_dumps, show_history};
-use crate::hosts::{add_host, drop_host};
-use crate::levels::{add_levels, drop_level, set_expiries};
+use crate::hosts::{add_host, drop_host, show_hosts};
+use crate::levels::{add_levels, drop_level, set_expiries, show_levels};
 use crate::sets::{add_entry, add_set, drop_entry, drop_set, show_sets};
 use crate::verdict::Verdict;
-use backup_replies::{hosts_lines, levels_lines};
 use backup_words::DatabaseCommand;
 use budb::Budb;
 use std::alloc::{AllocError, Global};
@@ -42,12 +41,8 @@ pub(crate) fn decide(
             set_expiries(alloc, &database.levels, dump.as_slice(), *expires)
         }
         DatabaseCommand::Deldump { dump } => drop_level(alloc, &database.levels, dump),
-        DatabaseCommand::Listdumps => {
-            Ok(Verdict::Shows(levels_lines(alloc, database.levels.list())?))
-        }
-        DatabaseCommand::Listhosts => {
-            Ok(Verdict::Shows(hosts_lines(alloc, database.hosts.as_slice())?))
-        }
+        DatabaseCommand::Listdumps => show_levels(alloc, &database.levels),
+        DatabaseCommand::Listhosts => show_hosts(alloc, database.hosts.as_slice()),
         DatabaseCommand::Addhost {
             tapehost,
             portoffset,

@@ -6,9 +6,10 @@ ghost use Rattle.budb_changes.specs.declared.change.Change.TheVariants as change
 ghost use Rattle.backup_replies.specs.declared.refusals.Refusal.TheVariants as refusals;
 ghost use Rattle.backup_replies.specs.Texts.{refused_number, ok_line};
 ghost use Rattle.backup_session.specs.Verdicts.{is_host_port, has_host_port};
+ghost use Rattle.backup_replies.specs.Hosts.{hosts_lines};
 
 use crate::verdict::{Verdict, makes, refuses_number};
-use backup_replies::Refusal;
+use backup_replies::{Refusal, hosts_lines};
 use bk_text::Host;
 use budb_journal::{Change, HostPort};
 use std::alloc::{AllocError, Global};
@@ -73,4 +74,11 @@ pub(crate) fn drop_host(
         return refuses_number(alloc, Refusal::NoSuchPort, port as u64);
     }
     makes(alloc, Change::DelHost { port })
+}
+
+/// `listhosts`.
+pub(crate) fn show_hosts(alloc: Global, hosts: &[HostPort]) -> Result<Verdict, AllocError>
+    ensures { IfOk result (λ v. v ≡ Verdict.Shows (hosts_lines hosts.now)) }
+{
+    Ok(Verdict::Shows(hosts_lines(alloc, hosts)?))
 }

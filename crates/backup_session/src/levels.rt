@@ -8,9 +8,10 @@ ghost use Rattle.backup_replies.specs.declared.refusals.Refusal.TheVariants as r
 ghost use Rattle.backup_replies.specs.Texts.{refused_word, ok_line};
 ghost use Rattle.backup_session.specs.Levels.{has_path, first_known, is_founded, first_unfounded, first_missing};
 ghost use Rattle.backup_session.specs.Verdicts.{levels_come, levels_expire};
+ghost use Rattle.backup_replies.specs.Levels.{levels_lines};
 
 use crate::verdict::{Verdict, makes, makes_all, refuses_word};
-use backup_replies::Refusal;
+use backup_replies::{Refusal, levels_lines};
 use bk_text::{Expiry, LevelPath, List};
 use budb_journal::Change;
 use dump_levels::Levels;
@@ -161,4 +162,11 @@ pub(crate) fn drop_level(
     }
     let level = path.clone()?;
     makes(alloc, Change::DelLevel { level })
+}
+
+/// `listdumps`.
+pub(crate) fn show_levels(alloc: Global, levels: &Levels) -> Result<Verdict, AllocError>
+    ensures { IfOk result (λ v. v ≡ Verdict.Shows (levels_lines levels.now)) }
+{
+    Ok(Verdict::Shows(levels_lines(alloc, levels.list())?))
 }

@@ -1,4 +1,7 @@
-//! The session of the backup service: what each command makes of the journal, the tapes and the cell, and what it replies.
+//! The session of the backup service: what each command makes of the journal, the tapes and the cell, and what it replies. A command is
+//! one function from the world that it finds to its turn, which has effects, a reply, changes, a time and lists of the cell: `turn` in
+//! `specs/Machine.antt`. The reply is handed back, and the caller tells it. Enter at `Session::open`, then at `Session::exec` for each
+//! command. `backup_script` and `rehearsal` stand above; `dump_commands`, `restore_commands` and `budb` stand below.
 #![tactic(auto)]
 
 mod adding;

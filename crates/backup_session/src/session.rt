@@ -43,11 +43,17 @@ use tape_config::Config;
 use tape_text::one_reading;
 
 /// The service between two commands. Contracts see it as the configuration, the database and the time.
-#[derive(Drop)]
 pub struct Session {
     pub(crate) config: Config,
     pub(crate) budb: Budb,
     pub(crate) time: u32,
+}
+
+/// It is written out, so that each function that lets one go calls it.
+impl Drop for Session {
+    fn drop(self) {
+        let Session { config, budb, time } = self;
+    }
 }
 
 impl Model for Session {

@@ -51,6 +51,24 @@ fn bytes_of(alloc: Global, pattern: &Pattern) -> Result<PatternBytes, AllocError
     PatternBytes::from_bytes(alloc, pattern.bytes())
 }
 
+/// The change that puts an entry into a set.
+fn entry_change(
+    alloc: Global,
+    name: &SetName,
+    server: &Option<Host>,
+    partition: &Option<Part>,
+    pattern: &Pattern,
+) -> Result<Change, AllocError>
+    ensures { IfOk result (λ change. change ≡ changes.AddEntry name.now server.now partition.now pattern.now) }
+{
+    Ok(Change::AddEntry {
+        set: name.clone()?,
+        server: server.clone()?,
+        partition: partition.clone()?,
+        pattern: bytes_of(alloc, pattern)?,
+    })
+}
+
 /// `addvolentry`.
 pub(crate) fn add_entry(
     alloc: Global,
@@ -65,12 +83,7 @@ pub(crate) fn add_entry(
     if !has_set(sets, name) {
         return refuses_word(alloc, Refusal::NoSuchSet, name.bytes());
     }
-    let change = Change::AddEntry {
-        set: name.clone()?,
-        server: server.clone()?,
-        partition: partition.clone()?,
-        pattern: bytes_of(alloc, pattern)?,
-    };
+    let change = entry_change(alloc, name, server, partition, pattern)?;
     makes(alloc, change)
 }
 

@@ -199,7 +199,9 @@ fn listed<C: Cell>(alloc: Global, cell: &mut C) -> Result<Bytes, CellFault>
     let mut lines = Out::new(alloc);
     for i in 0..cell.count() {
         let entry = cell.entry(i)?;
-        put_listed(&mut lines, &entry)?;
+        let told = put_listed(&mut lines, &entry);
+        drop(entry);
+        told?;
     }
     lines.piece(b"ok\n")?;
     Ok(lines.into_bytes())

@@ -79,6 +79,7 @@ built VosBackup w = command.Cell (cell.VosBackup (word_at option.Volume w))
 built VosRemove w = command.Cell (cell.VosRemove (word_at option.Volume w))
 built VosListvol w = command.Cell cell.VosListvol
 
+-- a fault of values, as a line is refused by it
 abbrev pub told : ValueFault → WordFault
 told (Unfit option) = BadValue (option_word option)
 told (NoPattern at) = BadPattern at
@@ -99,6 +100,7 @@ refusal rules words =
           ]
     ]
 
+-- the command, where nothing is wrong with its words; else what is wrong
 abbrev pub command_with : Kind → List (List ℕ) → Option WordFault → Result Command WordFault
 command_with kind words None = Ok (built kind words)
 command_with kind words (Some fault) = Err fault

@@ -35,6 +35,7 @@ pub record Fits (words : List (List ℕ)) (rule : Rule) : Type 0 where
   pub there : is_missing words rule ≡ false
   pub good : rule_fault words rule ≡ None
 
+-- each option of these rules fits
 abbrev pub AllFit : List (List ℕ) → List Rule → Type 0
 AllFit words [] = Unit {0}
 AllFit words (rule ∷ rules) = Fits words rule × AllFit words rules

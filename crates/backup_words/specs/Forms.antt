@@ -13,6 +13,7 @@ use Rattle.backup_words.specs.declared.options.TextForm.TheVariants.{SetName, Na
 abbrev pub is_any : List ℕ → Bool
 is_any word = is_same word (codes ".*")
 
+-- a word that ends in ".backup"
 abbrev pub ends_in_backup : List ℕ → Bool
 ends_in_backup word = ends_with nat_eq word backup_ending
 
@@ -30,6 +31,7 @@ is_text LevelPath word = level_path_test word
 is_text Extension word = word_test AnyFirst 30 word && not (ends_in_backup word)
 is_text Any word = true
 
+-- a number that isn't below the least and not above the most
 abbrev pub within : ℕ → ℕ → Option ℕ → Option ℕ
 within least most None = None
 within least most (Some n) = if nat_le least n && nat_le n most then Some n else None

@@ -40,6 +40,7 @@ kind_word VosBackup = codes "backup"
 kind_word VosRemove = codes "remove"
 kind_word VosListvol = codes "listvol"
 
+-- the commands of one word
 abbrev pub plain_kinds : List Kind
 plain_kinds =
     Addvolset ∷ Delvolset ∷ Addvolentry ∷ Delvolentry ∷ Listvolsets ∷ Adddump ∷ Setexp ∷ Deldump ∷ Listdumps ∷ Listhosts ∷ Checkpoint ∷ Addhost ∷ Delhost ∷ Labeltape ∷ Readlabel ∷ Scantape ∷ Dump ∷ Deletedump ∷ Dumpinfo ∷ Volinfo ∷ Volrestore ∷ Diskrestore ∷ Volsetrestore ∷ []
@@ -48,9 +49,11 @@ plain_kinds =
 abbrev pub vos_kinds : List Kind
 vos_kinds = VosCreate ∷ VosWrite ∷ VosRmvnode ∷ VosBackup ∷ VosRemove ∷ VosListvol ∷ []
 
+-- of these commands the one that the word names
 abbrev pub kind_among : List ℕ → List Kind → Option Kind
 kind_among word kinds = find (λ kind. is_same word (kind_word kind)) kinds
 
+-- the command that the word behind "vos" names
 abbrev pub vos_kind : List (List ℕ) → Option Kind
 vos_kind [] = None
 vos_kind (word ∷ rest) = kind_among word vos_kinds

@@ -1,4 +1,16 @@
-//! The commands of a script: their words, and what the words say.
+//! The commands of a script and the program's own words: what each word says, and which line is refused by what. The table of options
+//! stands in `specs/Table.antt`. A line gives exactly the command or the refusal that `command_of` in `specs/Commands.antt` says,
+//! unless memory runs out. Enter at `Command::parse` for a line, and at `outer` for the program's words. `backup_replies` and the
+//! crates of commands stand above; `dump_levels` and `volume_sets` stand below.
+//!
+//! # Example
+//!
+//! ```
+//! // Ok(Command::Database(DatabaseCommand::Addvolset { .. }))
+//! let read = Command::parse(alloc, b"addvolset -name users");
+//! // Err(WordFault::MissingOption { option }), where `option` is -name
+//! let refused = Command::parse(alloc, b"addvolset");
+//! ```
 #![tactic(auto)]
 
 mod building;

@@ -63,6 +63,7 @@ abbrev pub is_at : List ℕ → Option VolEntry → Option ℕ → ℕ → Optio
 is_at name None rest place = rest
 is_at name (Some e) rest place = if is_same_text e.name name then Some place else rest
 
+-- the first of these places of the cell's list at which a volume has this name
 abbrev pub place_of : List Stored → List ℕ → List ℕ → Option ℕ
 place_of cell [] name = None
 place_of cell (place ∷ places) name = is_at name (entry_at cell place) (place_of cell places name) place
@@ -73,6 +74,7 @@ given_by s o contents name before None = before
 given_by s o contents name before (Some c) =
     clone_or_refusal (contents o.parent name) (from_of (record_of (database_in s).listed o.parent) name c.born) c.volume
 
+-- the contents of a dump that has the clone at this place; at no place, what was there before
 abbrev pub given_at : Scene → DumpOrder → Contents → List ℕ → Result VolumeFields Refusal → Option ℕ → Result VolumeFields Refusal
 given_at s o contents name before None = before
 given_at s o contents name before (Some place) = given_by s o contents name before (clone_at s.cell place o.time)
@@ -88,9 +90,11 @@ contents_with s o contents id name =
 abbrev pub begin_of : Scene → DumpOrder → FirstTape → List Change
 begin_of s o t = begin_changes (id_of o (database_in s)) t.take
 
+-- the effects of a begin: the one commit of its changes
 abbrev pub commit_of : Scene → DumpOrder → FirstTape → List Effect
 commit_of s o t = commits (encoded (begin_of s o t)) ∷ []
 
+-- where a dump stands after its begin: the journal with the begin's changes, the plant with their commit, and the dump's own state
 abbrev pub begun_point : Scene → DumpOrder → FirstTape → Point
 begun_point s o t = record {
   log = s.log ++ begin_of s o t;
@@ -112,6 +116,7 @@ end_line set offset listed PlantFailed = []
 end_line set offset listed CellFailed = []
 end_line set offset listed Memory = []
 
+-- what is told of a dump that has ended
 abbrev pub end_text : DumpOrder → List DumpRecordFields → StepAnswer → List ℕ
 end_text o listed a = end_line o.set o.port.offset listed a
 
@@ -125,6 +130,7 @@ ended s o t c = record {
   contents = contents_with s o;
 }
 
+-- a dump that was begun goes its course, and this comes of it
 unfoldable pub begun : Scene → DumpOrder → FirstTape → Answer
 begun s o t = ended s o t (course s (begun_point s o t))
 
@@ -134,6 +140,7 @@ begun s o t = ended s o t (course s (begun_point s o t))
 unfoldable pub tape_for : Scene → DumpOrder → Result FirstTape JobFault
 tape_for s o = first_tape (database_in s) (slots_in s) (whole_in s) o (length (encoded s.log))
 
+-- the dump is begun, or refused by what the search for its first tape was refused by
 abbrev pub begun_or : Scene → DumpOrder → Result FirstTape JobFault → Answer
 begun_or s o (Ok t) = begun s o t
 begun_or s o (Err f) = said s (fault_text o f)
@@ -143,6 +150,7 @@ abbrev pub refused_or : Scene → Option (List ℕ) → Answer → Answer
 refused_or s (Some text) otherwise = said s text
 refused_or s None otherwise = otherwise
 
+-- a dump that is no trial: the first of its refusals, or the dump
 unfoldable pub real_answer : Scene → DumpOrder → Answer
 real_answer s o = refused_or s (refusal_by (entries_in s) o (fault_of (tape_for s o))) (begun_or s o (tape_for s o))
 
@@ -150,9 +158,11 @@ real_answer s o = refused_or s (refusal_by (entries_in s) o (fault_of (tape_for 
 abbrev pub trial_answer : Scene → DumpOrder → Answer
 trial_answer s o = refused_or s (trial_refusal (entries_in s) o) (said s (trial_text (database_in s).listed s.cell o))
 
+-- an order is tried or carried out
 unfoldable pub order_answer : Scene → DumpCommand → DumpOrder → Answer
 order_answer s a o = if a.trial then trial_answer s o else real_answer s o
 
+-- the port is refused, or what the command orders is answered
 abbrev pub port_answer : Scene → DumpCommand → Result PortFields (List ℕ) → Answer
 port_answer s a (Err text) = said s text
 port_answer s a (Ok port) = order_answer s a (order_of s.config (database_in s) (entries_in s) s.time a port)

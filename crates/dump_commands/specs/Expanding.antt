@@ -19,6 +19,7 @@ abbrev pub items_match : Option (List Item) → List ℕ → Bool
 items_match None name = false
 items_match (Some items) name = match_items items name
 
+-- A pattern matches a name: the items that are read of the pattern match the whole of the name.
 unfoldable pub matches : List ℕ → List ℕ → Bool
 matches pattern name = items_match (read Start (set_mind false []) pattern) name
 
@@ -26,6 +27,7 @@ matches pattern name = items_match (read Start (set_mind false []) pattern) name
 abbrev pub suits : SetEntry → VolEntry → Bool
 suits entry volume = is_any_or entry.server volume.server && (is_any_or entry.partition volume.partition && matches entry.pattern volume.name)
 
+-- some entry of these has the volume
 abbrev pub some_suits : List SetEntry → VolEntry → Bool
 some_suits entries volume = list_any (λ entry. suits entry volume) entries
 

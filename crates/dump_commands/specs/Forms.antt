@@ -22,6 +22,7 @@ pub record IsSceneForm (s : Scene) : Type 0 where
   pub name : IsMaybe IsHost (name_or_nothing s.config.cell)
   pub ports : (offset : ℕ) (port : PortFields) → port_in offset s.config.entries ≡ Some port → port.capacity ≤ 4000000000
 
+-- the command's set and level are such names
 pub record IsCommandForm (a : DumpCommand) : Type 0 where
   pub set : IsSetName a.set
   pub level : IsLevelPath a.level

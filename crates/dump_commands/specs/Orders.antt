@@ -21,6 +21,7 @@ use Rattle.dump_commands.specs.Expanding.{expansion}
 
 -- ---- what has to be there: the set, the level, the port
 
+-- the port, or the refusal that no port has this offset
 abbrev pub port_at : ℕ → Option PortFields → Result PortFields (List ℕ)
 port_at offset None = Err (refused_number NoSuchPort offset)
 port_at offset (Some port) = Ok port

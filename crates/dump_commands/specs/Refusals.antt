@@ -35,6 +35,7 @@ passed_on (fault.LogFull size) = Ok (fault.LogFull size)
 passed_on fault.Failed = Err stop.Plant
 passed_on fault.Memory = Err stop.Memory
 
+-- the line by which an order is refused
 abbrev pub fault_text : DumpOrder → JobFault → List ℕ
 fault_text o f = fault_line o.set o.port.offset f
 
@@ -48,10 +49,12 @@ is_early (fault.LogFull size) = false
 is_early fault.Failed = false
 is_early fault.Memory = false
 
+-- the line of a refusal that comes before the question whether the set has volumes
 abbrev pub early_by : DumpOrder → Option JobFault → Option (List ℕ)
 early_by o None = None
 early_by o (Some f) = if is_early f then Some (fault_text o f) else None
 
+-- the line of a refusal that comes after that question
 abbrev pub late_by : DumpOrder → Option JobFault → Option (List ℕ)
 late_by o None = None
 late_by o (Some f) = if is_early f then None else Some (fault_text o f)
@@ -67,16 +70,19 @@ abbrev pub bad_by : List ℕ → EntryState → Option (List ℕ) → Option (Li
 bad_by name (Good id kind latest) rest = rest
 bad_by name (Bad at) rest = Some (refused_at BadImage name at)
 
+-- a volume that is no good image refuses the dump; else this is said
 abbrev pub bad_or : Option VolEntry → Option (List ℕ) → Option (List ℕ)
 bad_or None rest = rest
 bad_or (Some e) rest = bad_by e.name e.state rest
 
+-- of the volumes at these places the first one that is no good image, where there is one
 abbrev pub first_bad : List VolEntry → List ℕ → Option (List ℕ)
 first_bad cell [] = None
 first_bad cell (place ∷ places) = bad_or (slice_get cell place) (first_bad cell places)
 
 -- ---- in order
 
+-- the first of two refusals
 abbrev pub or_else : Option (List ℕ) → Option (List ℕ) → Option (List ℕ)
 or_else (Some text) other = Some text
 or_else None other = other
@@ -89,6 +95,7 @@ trial_refusal cell o = or_else (none_of o) (first_bad cell o.volumes)
 abbrev pub refusal_by : List VolEntry → DumpOrder → Option JobFault → Option (List ℕ)
 refusal_by cell o f = or_else (early_by o f) (or_else (none_of o) (or_else (late_by o f) (first_bad cell o.volumes)))
 
+-- what a search for the first tape was refused by, if it was
 abbrev pub fault_of : Result FirstTape JobFault → Option JobFault
 fault_of (Ok tape) = None
 fault_of (Err f) = Some f

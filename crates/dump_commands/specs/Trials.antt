@@ -21,8 +21,10 @@ volume_line parent None taken = []
 abbrev pub line_at : Option DumpRecordFields → List Stored → ℕ → ℕ → List ℕ
 line_at parent cell time place = volume_line parent (entry_at cell place) (clone_at cell place time)
 
+-- the lines of the volumes at these places
 abbrev pub volume_lines : Option DumpRecordFields → List Stored → ℕ → List ℕ → List ℕ
 volume_lines parent cell time places = flat_map (line_at parent cell time) places
 
+-- The reply to a trial: the dump that would be made, a line for each volume, and that all is well.
 abbrev pub trial_text : List DumpRecordFields → List Stored → DumpOrder → List ℕ
 trial_text listed cell o = would_dump_line o.set o.level o.parent ++ volume_lines (record_of listed o.parent) cell o.time o.volumes ++ ok_line

@@ -1,4 +1,7 @@
-//! The command `dump`: what it is refused by, what it orders, what it tells of a trial, and the dump from its begin to its end.
+//! The command `dump`: which volumes its set has, what it is refused by, what it orders, what it tells of a trial, and the dump from
+//! its begin to its end. All of this is one function of the scene that the command finds, `dump_answer` in `specs/Answers.antt`. Enter
+//! at `dump`; the other calls are laws about it. `backup_session` stands above; `dump_courses`, `backup_replies` and `dump_forms` stand
+//! below.
 #![tactic(auto)]
 
 mod commands;

@@ -145,7 +145,9 @@ pub(crate) fn make_or_refuse<P: Plant, C: Cell>(
 {
     the_slots_are_read();
     let fault = checked(alloc, budb, plant, &order)?;
-    match refusal_by(alloc, entries, &order, &fault)? {
+    let refusal = refusal_by(alloc, entries, &order, &fault);
+    drop(fault);
+    match refusal? {
         Some(text) => Ok(Dumped {
             text,
             time: order.time,

@@ -42,6 +42,7 @@ around s p = record {
   cell = s.cell;
 }
 
+-- the next event of a dump at a point
 abbrev pub next_event : Scene → Point → Event
 next_event s p = event (around s p) p.job
 
@@ -65,6 +66,7 @@ events_for parent cell time place = 10 + length (stream_of parent (entry_at cell
 abbrev pub places_left : JobFields → List ℕ
 places_left j = drop (length (volumes_done j)) j.places
 
+-- what is left of the stream in hand
 abbrev pub bytes_left : Option Hand → ℕ
 bytes_left None = 0
 bytes_left (Some h) = length h.stream
@@ -93,6 +95,7 @@ pub record Course : Type 0 where
   pub log : List Change
   pub answer : StepAnswer
 
+-- the dump isn't over with this answer
 abbrev pub goes_on : StepAnswer → Bool
 goes_on More = true
 goes_on (Done id) = false
@@ -105,9 +108,11 @@ goes_on Memory = false
 abbrev pub last_event : Point → Event → Course
 last_event p e = record { effects = e.effects; log = p.log ++ e.changes; answer = e.answer }
 
+-- an event in front of what comes after it
 abbrev pub event_then : Event → Course → Course
 event_then e c = record { effects = e.effects ++ c.effects; log = c.log; answer = c.answer }
 
+-- an event alone where it is the last one, else the event and what comes after it
 abbrev pub course_by : (Point → Course) → Point → Event → Course
 course_by rest p e = if goes_on e.answer then event_then e (rest (behind p e)) else last_event p e
 

@@ -27,6 +27,7 @@ pub record IsAtPoint {D E : Type 0} (P : Plant D) (C : Cell E) (s : Scene) (p : 
   pub cell : C.list site ≡ s.cell
   pub job : has ≡ p.job
 
+-- the end of a dump, as its last step answers it
 abbrev pub answer_of : End → StepAnswer
 answer_of (Made id) = answer.Done id
 answer_of (Refused fault) = answer.Refused fault

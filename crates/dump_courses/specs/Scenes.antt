@@ -30,6 +30,7 @@ pub record Scene : Type 0 where
   pub state : State
   pub time : ℕ
 
+-- the database, which the journal's changes make
 abbrev pub database_in : Scene → Database
 database_in s = after s.log
 
@@ -47,6 +48,7 @@ is_bad (block_with bytes) = false
 is_bad mark = false
 is_bad bad = true
 
+-- the tape of a slot has no bad record
 abbrev pub whole_in : Scene → ℕ → Bool
 whole_in s k = not (list_any is_bad (s.state.tape k))
 

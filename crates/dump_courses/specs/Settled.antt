@@ -21,5 +21,6 @@ IsSettledAt phase.PartEnd slot s = IsSettledBut slot s
 IsSettledAt phase.DumpEnd slot s = IsSettledBut slot s
 IsSettledAt phase.Over slot s = IsSettled s
 
+-- what is settled between two events of this dump
 abbrev pub IsSettledFor : JobFields → State → Type 0
 IsSettledFor j s = IsSettledAt j.phase j.reel.slot s

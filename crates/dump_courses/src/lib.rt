@@ -1,5 +1,6 @@
-//! The course of a dump: its events one after the other, as a function, and the loop over the steps of a dump that goes it.
-//! Commands that make dumps stand on it, and so do dumps that take turns.
+//! The course of a dump: its events one after the other until it is done or refused, as a function (`course` in `specs/Courses.antt`),
+//! and the loop over its steps that goes it. What a crash leaves of the loop is what the first so many effects of the course leave.
+//! Enter at `run_steps`. `dump_commands` stands above; `dump_job` stands below.
 #![tactic(auto)]
 
 mod laws;

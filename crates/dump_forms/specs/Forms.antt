@@ -19,6 +19,7 @@ use Rattle.dump_job.specs.Events.{Around, Event}
 abbrev pub LabelsFit : List Slot → Type 0
 LabelsFit slots = (k : ℕ) (s : Slot) → slice_get slots k ≡ Some s → IfSome (label_in s.items) FitsLabel
 
+-- The labels on the tapes fit, and the cell's good images are volumes as their types allow them.
 pub record AroundHasForms (a : Around) : Type 0 where
   pub labels : LabelsFit a.slots
   pub cell : All IsStoredForm a.cell

@@ -50,6 +50,7 @@ use Rattle.dump_job.specs.Faults.{Answers, DoneBehindLoads}
 abbrev pub new_id : ℕ → ℕ → ℕ
 new_id time greatest = min 4294967295 (max time (greatest + 1))
 
+-- no id is left above the greatest one
 abbrev pub are_spent : ℕ → Bool
 are_spent greatest = nat_le 4294967295 greatest
 
@@ -78,6 +79,7 @@ wanting_of o listed initial name = record {
 abbrev pub new_label : ℕ → List ℕ → ℕ → Option LabelFields → LabelFields
 new_label initial base number old = record { initial = initial; tape = number; afs = numbered base number; permanent = permanent_in old }
 
+-- a first tape that is taken: it gets a new label, keeps its permanent name, and is cut to nothing
 abbrev pub taken_tape : ℕ → List ℕ → ℕ → Chosen → FirstTape
 taken_tape initial base number c = record {
   initial = initial;
@@ -90,6 +92,7 @@ taken_tape initial base number c = record {
   take = c.take;
 }
 
+-- that tape, or the refusal that tells the name that was looked for
 abbrev pub taken_or_none : ℕ → List ℕ → ℕ → Option Chosen → Result FirstTape JobFault
 taken_or_none initial base number None = Err (NoTape (numbered base number))
 taken_or_none initial base number (Some c) = Ok (taken_tape initial base number c)
@@ -102,9 +105,11 @@ next_tape o listed slots initial base number =
 
 -- ---- a tape that is appended to
 
+-- how much of a port's tape is used at a place
 abbrev pub counts_at : PortFields → Place → Counts
 counts_at port p = record { port = port; blocks = p.blocks; marks = p.marks }
 
+-- a first tape that is appended to: it keeps its label, and the records up to the place stay
 abbrev pub place_tape : Place → FirstTape
 place_tape p = record {
   initial = p.initial;
@@ -127,6 +132,7 @@ tape_behind o listed slots p =
 abbrev pub tape_within : DumpOrder → List DumpRecordFields → List Slot → ℕ → Place → Result FirstTape JobFault
 tape_within o listed slots id p = if nat_le p.initial id then tape_behind o listed slots p else Err (NoTape (numbered p.base p.tape))
 
+-- the first tape of a dump that is appended, by what was found; or what it is refused by
 abbrev pub tape_by : DumpOrder → List DumpRecordFields → List Slot → ℕ → Appending → Result FirstTape JobFault
 tape_by o listed slots id NoSet = Err NothingToAppend
 tape_by o listed slots id (NotFound base tape) = Err (NoTape (numbered base tape))
@@ -141,20 +147,25 @@ tape_found o listed slots whole id =
 
 -- ---- what is committed
 
+-- the commit of a begin: the id is begun, and the dump set that the first tape held is forgotten
 abbrev pub begin_changes : ℕ → Option ℕ → List Change
 begin_changes id take = Begin id ∷ takes take
 
+-- the length that a log has with this commit
 abbrev pub length_with : ℕ → ℕ → Option ℕ → ℕ
 length_with size id take = size + length (encoded (begin_changes id take))
 
 -- ---- what a dump is refused by where a tape was found
 
+-- nothing of a port's tape is used
 abbrev pub fresh : PortFields → Counts
 fresh port = record { port = port; blocks = 0; marks = 0 }
 
+-- the first tape, or the refusal of a log of more than 268,435,456 bytes
 abbrev pub unless_full : ℕ → FirstTape → Result FirstTape JobFault
 unless_full size t = if nat_lt 268435456 size then Err (LogFull size) else Ok t
 
+-- the same, where an id is left at all
 abbrev pub unless_spent : ℕ → ℕ → ℕ → FirstTape → Result FirstTape JobFault
 unless_spent size greatest id t = if are_spent greatest then Err IdsSpent else unless_full (length_with size id t.take) t
 
@@ -162,10 +173,12 @@ unless_spent size greatest id t = if are_spent greatest then Err IdsSpent else u
 abbrev pub unless_refused : DumpOrder → ℕ → ℕ → ℕ → FirstTape → Result FirstTape JobFault
 unless_refused o size greatest id t = if has_room 6 3 (fresh o.port) then unless_spent size greatest id t else Err CapacityTooSmall
 
+-- the first tape that was found, or what refuses it: tapes too small, no id left, a log too long
 abbrev pub tape_passed : DumpOrder → ℕ → ℕ → ℕ → Result FirstTape JobFault → Result FirstTape JobFault
 tape_passed o size greatest id (Ok t) = unless_refused o size greatest id t
 tape_passed o size greatest id (Err fault) = Err fault
 
+-- the id that a dump of this order gets
 abbrev pub id_of : DumpOrder → Database → ℕ
 id_of o db = new_id o.time db.greatest
 
@@ -176,6 +189,7 @@ first_tape db slots whole o size = tape_passed o size db.greatest (id_of o db) (
 
 -- ---- what a dump has when it is begun
 
+-- the head of the first part
 abbrev pub first_head : DumpOrder → ℕ → FirstTape → DumpHeadFields
 first_head o id t = record {
   id = id;
@@ -193,6 +207,7 @@ first_head o id t = record {
   uses = t.uses;
 }
 
+-- what a dump has that was begun: no volume is in hand, and its tape step is next
 abbrev pub begun_job : DumpOrder → List DumpRecordFields → ℕ → FirstTape → JobFields
 begun_job o listed id t = record {
   port = o.port;
@@ -217,6 +232,8 @@ abbrev pub IsBlankOrRoomy : Option LabelFields → Counts → Type 0
 IsBlankOrRoomy None c = HasRoom 5 2 c
 IsBlankOrRoomy (Some label) c = (c.blocks ≡ 0) × (c.marks ≡ 0)
 
+-- A first tape is in a slot of the port that is here, its dump set, its number and its uses count from 1, and it has room for the
+-- smallest part.
 pub record IsStart (present : ℕ → Bool) (port : PortFields) (t : FirstTape) : Type 0 where
   pub here : IsTrue (present t.reel.slot)
   pub first : port.first ≤ t.reel.slot
@@ -234,6 +251,7 @@ pub record Stands {D : Type 0} (P : Plant D) (slot count : ℕ) (plant : D) : Ty
   pub records : P.tells → count ≤ length ((state_of P plant).tape slot)
   pub whole : P.tells → 0 < count → NoBad ((state_of P plant).tape slot)
 
+-- where a place was found, the tape in its slot has the records up to it, and none is bad
 abbrev pub FoundStands : {D : Type 0} → Plant D → Appending → D → Type 0
 FoundStands P NoSet plant = Unit {0}
 FoundStands P (NotFound base tape) plant = Unit {0}
@@ -271,6 +289,7 @@ abbrev pub Checks : Result FirstTape JobFault → Result (Unit {0}) JobFault →
 Checks told (Ok none) = (t : FirstTape) × (told ≡ Ok t)
 Checks told (Err fault) = Answers {T = FirstTape} told (Err fault)
 
+-- where a begin is refused, the order is refused by the same, unless the outside or memory refused; of one that is begun nothing is said
 abbrev pub Refuses : Result FirstTape JobFault → Result JobFields JobFault → Type 0
 Refuses told (Ok job) = Unit {0}
 Refuses told (Err fault) = Answers {T = FirstTape} told (Err fault)

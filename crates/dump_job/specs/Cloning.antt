@@ -27,6 +27,7 @@ record_with tape h = record {
   frags = h.frags ++ record { tape = tape; at = h.at } ∷ [];
 }
 
+-- the record of the volume in hand, behind those of the volumes before it
 abbrev pub with_hand : ℕ → Option Hand → List VolRecordFields → List VolRecordFields
 with_hand tape None volumes = volumes
 with_hand tape (Some h) volumes = volumes ++ record_with tape h ∷ []
@@ -65,6 +66,7 @@ first_hand j e c = record {
   bytes = 0;
 }
 
+-- The dump after a clone step: the volume before is done, the clone is in hand, and its first head is next.
 abbrev pub cloned : VolEntry → Taken → JobFields → JobFields
 cloned e c j = record j { volumes = volumes_done j; hand = Some (first_hand j e c); phase = phase.Head }
 

@@ -14,6 +14,7 @@ use Rattle.dump_job.specs.Reels.{records_on}
 abbrev pub part_end : ℕ → JobFields → DumpEndFields
 part_end more j = record { dump = j.head.id; tape = j.head.tape; more = more }
 
+-- the end of a part and a filemark, as they are put
 abbrev pub part_end_items : ℕ → JobFields → List Item
 part_end_items more j = Says (frames.DumpEnd (part_end more j)) ∷ Filemark ∷ []
 
@@ -30,6 +31,7 @@ closed_part j = record {
 
 -- ---- the dump's record
 
+-- where an ended part lies, as the dump's record has it
 abbrev pub place_of_part : Filled → TapePart
 place_of_part f = f.part
 
@@ -37,6 +39,7 @@ place_of_part f = f.part
 abbrev pub all_parts : JobFields → List TapePart
 all_parts j = map place_of_part j.filled ++ closed_part j ∷ []
 
+-- the record by which a dump is listed, with all its parts and volumes
 abbrev pub done_record : JobFields → DumpRecordFields
 done_record j = record {
   id = j.head.id;

@@ -54,6 +54,7 @@ putting items j next = record { effects = puts_on j.reel.slot items; changes = [
 
 -- ---- tape
 
+-- what the records on a tape say; nothing where there is no such slot
 abbrev pub items_of : Option Slot → List Item
 items_of None = []
 items_of (Some s) = s.items
@@ -74,6 +75,7 @@ clone_by (Some e) (Some c) j = record { effects = []; changes = []; job = cloned
 clone_by (Some e) None j = idle answers.CellFailed j
 clone_by None taken j = idle answers.CellFailed j
 
+-- the next volume is cloned, at its place in the cell's list; where no place is left the cell failed
 abbrev pub clone_from : List Stored → Option ℕ → JobFields → Event
 clone_from cell None j = idle answers.CellFailed j
 clone_from cell (Some place) j = clone_by (entry_at cell place) (clone_at cell place j.time) j
@@ -130,6 +132,7 @@ hand_event step (Some h) j = step h
 
 -- ---- the step of a phase
 
+-- THE TABLE OF EVENTS: what the next step does, by the phase of the dump.
 abbrev pub event_by : Phase → Around → JobFields → Event
 event_by phase.Tape a j = tape_event (uses_for j (items_at a.slots j.reel.slot)) j
 event_by phase.Clone a j = clone_event a.cell j

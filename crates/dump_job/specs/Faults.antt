@@ -10,6 +10,7 @@ use Rattle.tape_scan.specs.Looking.{Loads, LeavesLoads}
 use Rattle.dump_job.specs.declared.fault.JobFault.{JobFault}
 use Rattle.dump_job.specs.declared.fault.JobFault.TheVariants.{NothingToAppend, NoTape, CapacityTooSmall, IdsSpent, LogFull, Failed, Memory}
 
+-- what a choice of a tape failed by, as a dump is failed by it
 abbrev pub job_fault : ChoiceFault → JobFault
 job_fault choice.Failed = Failed
 job_fault choice.Memory = Memory

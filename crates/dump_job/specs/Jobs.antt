@@ -33,6 +33,7 @@ pub record IsAtTape (j : JobFields) : Type 0 where
   pub uses : 1 ≤ j.head.uses
   pub hand : IsHandOrFirst j.hand j
 
+-- before a clone step: a volume is left, and the tape has room for the part's end and its filemark
 pub record IsAtClone (j : JobFields) : Type 0 where
   pub room : HasRoom 1 1 (counts_on j.port j.reel)
   pub left : length (volumes_done j) < length j.places
@@ -49,6 +50,7 @@ pub record IsAtPiece (j : JobFields) : Type 0 where
   pub left : IfSome j.hand (λ h. h.stream ≢ [])
   pub bytes : IfSome j.hand (λ h. h.bytes ≤ 16352 * j.reel.blocks)
 
+-- before the end of a volume: a volume is in hand, and the tape has room for its end and the part's
 pub record IsAtVolumeEnd (j : JobFields) : Type 0 where
   pub room : HasRoom 2 2 (counts_on j.port j.reel)
   pub hand : IsSome j.hand
@@ -96,6 +98,7 @@ pub record FitsTape {D : Type 0} (P : Plant D) (j : JobFields) (plant : D) : Typ
   pub next : IsFor P j.reel.slot (records_on j.reel) plant
   pub last : IfSome (last_filled j.filled) (IsWholeIn P plant)
 
+-- what the tape in hand has to be before a step: with the records that the dump counts, and none of them bad
 abbrev pub FitsAt : {D : Type 0} → Plant D → Phase → JobFields → D → Type 0
 FitsAt P phase.Tape j plant = FitsTape P j plant
 FitsAt P phase.Clone j plant = IsOn P j.reel.slot (records_on j.reel) plant

@@ -34,5 +34,6 @@ parts_left j = 65534 - length j.filled
 abbrev pub weighed : ℕ → ℕ → ℕ → ℕ → ℕ
 weighed volumes bytes parts kind = ((volumes * 1073741824 + bytes) * 65536 + parts) * 8 + kind
 
+-- how much is left of a dump, as one number
 abbrev pub left_of : JobFields → ℕ
 left_of j = weighed (volumes_left j) (bytes_left j.hand) (parts_left j) (rank j.phase)

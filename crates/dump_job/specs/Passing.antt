@@ -31,6 +31,7 @@ use Rattle.dump_job.specs.Closing.{Closes, Makes}
 abbrev pub next_name : JobFields → List ℕ
 next_name j = numbered j.head.base (j.head.tape + 1)
 
+-- the slot of an ended part
 abbrev pub slot_of : Filled → ℕ
 slot_of f = f.slot
 

@@ -9,6 +9,7 @@ use Rattle.dump_job.specs.declared.fields.Phase.{Phase}
 use Rattle.dump_job.specs.declared.fields.Phase.TheVariants as phase
 use Rattle.dump_job.specs.Reels.{turn_of}
 
+-- the same of a part that may be none
 abbrev pub slot_in : Option Filled → Option ℕ
 slot_in None = None
 slot_in (Some f) = Some f.slot

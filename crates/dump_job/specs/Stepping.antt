@@ -129,11 +129,13 @@ put_answer (Ok true) = More
 put_answer (Ok false) = Memory
 put_answer (Err fault) = PlantFailed
 
+-- what a clone step answers
 abbrev pub clone_answer : Result (Unit {0}) CloneFault → StepAnswer
 clone_answer (Ok none) = More
 clone_answer (Err clone.Failed) = CellFailed
 clone_answer (Err clone.Memory) = Memory
 
+-- what the end of a part answers; a refusal that no part end has counts as want of memory
 abbrev pub pass_answer : Result Bool JobFault → StepAnswer
 pass_answer (Ok true) = More
 pass_answer (Ok false) = Memory
@@ -145,6 +147,7 @@ pass_answer (Err faults.NothingToAppend) = Memory
 pass_answer (Err faults.CapacityTooSmall) = Memory
 pass_answer (Err faults.IdsSpent) = Memory
 
+-- what the end of a dump answers: that it is listed under its id, or what its commit failed by
 abbrev pub done_answer : ℕ → Result Bool CommitFault → StepAnswer
 done_answer id (Ok true) = Done id
 done_answer id (Ok false) = Memory

@@ -30,17 +30,21 @@ abbrev pub uses_by : Option LabelFields → ℕ → List Item → ℕ
 uses_by None known old = known
 uses_by (Some label) known old = (taken label old).uses
 
+-- the uses that the part's head tells: one more than the tape's old head where the tape is taken, the known ones where it is appended to
 abbrev pub uses_for : JobFields → List Item → ℕ
 uses_for j old = uses_by j.label j.head.uses old
 
+-- a part's head that tells so many uses
 abbrev pub head_with : ℕ → DumpHeadFields → DumpHeadFields
 head_with uses head = record head { uses = uses }
 
 -- ---- what is put
 
+-- what a part begins with: the new label and a filemark where the tape is taken, and the part's head
 abbrev pub tape_items : ℕ → JobFields → List Item
 tape_items uses j = begun j.label (head_with uses j.head)
 
+-- the effects of a tape step: the tape is cut to the records that stay, and the part's beginning is put
 abbrev pub tape_effects : ℕ → JobFields → List Effect
 tape_effects uses j = cuts j.reel.slot (records_on j.reel) ∷ puts_on j.reel.slot (tape_items uses j)
 
@@ -49,6 +53,7 @@ abbrev pub reel_begun : Option LabelFields → Reel → Reel
 reel_begun None reel = with_more 1 0 reel
 reel_begun (Some label) reel = with_more 2 1 reel
 
+-- the record at which the part's head stands: behind a new label and its filemark, or behind what stays
 abbrev pub head_at : Option LabelFields → Reel → ℕ
 head_at None reel = records_on reel
 head_at (Some label) reel = records_on reel + 2
@@ -58,6 +63,7 @@ abbrev pub phase_begun : Option Hand → Phase
 phase_begun None = phase.Clone
 phase_begun (Some h) = phase.Head
 
+-- The dump after a tape step: the part is begun, its head tells the uses, and a clone or the volume in hand is next.
 abbrev pub taped : ℕ → JobFields → JobFields
 taped uses j = record j {
   head = head_with uses j.head;

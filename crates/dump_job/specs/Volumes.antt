@@ -16,6 +16,7 @@ phase_behind left = if length left == 0 then phase.VolumeEnd else phase.Piece
 
 -- ---- head
 
+-- the head of a fragment, as it is put
 abbrev pub head_items : Hand → List Item
 head_items h = Says (frames.VolHead h.head) ∷ []
 
@@ -23,6 +24,7 @@ head_items h = Says (frames.VolHead h.head) ∷ []
 abbrev pub begun_at : ℕ → Hand → Hand
 begun_at at h = record h { at = at; bytes = 0 }
 
+-- the dump after the head of a fragment: one block more is on the tape, and the volume's stream is next
 abbrev pub headed : Hand → JobFields → JobFields
 headed h j = record j { reel = with_more 1 0 j.reel; hand = Some (begun_at (records_on j.reel) h); phase = phase_behind h.stream }
 
@@ -41,20 +43,25 @@ next_piece h = record {
   bytes = take (next_used h) h.stream ++ replicate (16352 - next_used h) 0;
 }
 
+-- the next piece of the stream, as it is put
 abbrev pub piece_items : Hand → List Item
 piece_items h = Says (frames.Data (next_piece h)) ∷ []
 
+-- the volume in hand without that piece, which counts among the fragment's bytes
 abbrev pub without_piece : Hand → Hand
 without_piece h = record h { stream = drop (next_used h) h.stream; bytes = h.bytes + next_used h }
 
+-- the dump after a piece: one block more is on the tape, and another piece or the volume's end is next
 abbrev pub pieced : Hand → JobFields → JobFields
 pieced h j = record j { reel = with_more 1 0 j.reel; hand = Some (without_piece h); phase = phase_behind (without_piece h).stream }
 
 -- ---- volume end
 
+-- the end of the fragment in hand; `last` is 1 where its volume ends with it
 abbrev pub fragment_end : ℕ → Hand → VolEndFields
 fragment_end last h = record { dump = h.head.dump; index = h.head.index; fragment = h.head.fragment; last = last; bytes = h.bytes }
 
+-- that end and a filemark, as they are put
 abbrev pub end_items : ℕ → Hand → List Item
 end_items last h = Says (frames.VolEnd (fragment_end last h)) ∷ Filemark ∷ []
 

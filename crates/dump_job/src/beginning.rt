@@ -22,6 +22,7 @@ ghost use Rattle.dump_job.specs.Beginning.{id_of, first_tape, begin_changes, beg
 
 use crate::changes::with_change;
 use crate::checking::{new_id, passed_tape};
+use crate::dump_names::DumpNames;
 use crate::fault::JobFault;
 use crate::fields::{JobFields, Phase};
 use crate::first_tapes::FirstTape;
@@ -50,6 +51,9 @@ fn first_head(order: &DumpOrder, id: u32, tape: &FirstTape) -> Result<DumpHead, 
     requires few { length order.now.volumes ≤ 4294967295 }
     ensures { IfOk result (λ head. head ≡ first_head order.now id tape.now) }
 {
+    let names = DumpNames::of(&order.set, &order.level, &tape.base, &order.cell)?;
+    let permanent = tape.permanent.copy()?;
+    let (set, level, base, cell) = names.into_parts();
     Ok(DumpHead::new(DumpHeadFields {
         id,
         initial: tape.initial,
@@ -58,11 +62,11 @@ fn first_head(order: &DumpOrder, id: u32, tape: &FirstTape) -> Result<DumpHead, 
         tape: tape.tape,
         part: 1,
         volumes: order.volumes.len() as u32,
-        set: order.set.clone()?,
-        level: order.level.clone()?,
-        base: tape.base.clone()?,
-        cell: order.cell.copy()?,
-        permanent: tape.permanent.copy()?,
+        set,
+        level,
+        base,
+        cell,
+        permanent,
         uses: tape.uses,
     }))
 }
@@ -202,6 +206,8 @@ pub(crate) fn begin_job<P: Plant>(
     let changes = begin_changes(alloc, id, tape.take)?;
     let listed = budb.database().listed.as_slice();
     let job = begun_job(alloc, listed, order, id, tape)?;
-    commit_begin(budb, plant, changes.as_slice())?;
+    let committed = commit_begin(budb, plant, changes.as_slice());
+    drop(changes);
+    committed?;
     Ok(job)
 }

@@ -25,7 +25,7 @@ pub(crate) enum CloneFault {
 }
 
 /// A volume of the cell: what its list says of it, and its clone.
-#[derive(Debug, Drop)]
+#[derive(Drop)]
 pub(crate) struct Looked {
     pub(crate) entry: VolEntry,
     pub(crate) clone: Taken,

@@ -8,6 +8,7 @@ ghost use Rattle.dump_job.specs.Cloning.{volumes_done};
 ghost use Rattle.budb_changes.specs.Dumps.{IsNamed};
 
 use crate::cloning::record_with;
+use crate::dump_names::DumpNames;
 use crate::fields::{Filled, JobFields};
 use crate::puts::put_last;
 use crate::volumes::count_on;
@@ -117,18 +118,20 @@ pub(crate) fn dump_record(alloc: Global, job: &JobFields) -> Result<DumpRecord, 
     ensures { IfOk result (λ dump. dump ≡ done_record job.now) }
 {
     let head = job.head.fields();
+    let names = DumpNames::of(&head.set, &head.level, &head.base, &head.cell)?;
     let tapes = all_parts(alloc, job)?;
     let volumes = all_volumes(job)?;
+    let (set, level, base, cell) = names.into_parts();
     Ok(DumpRecord::new(DumpRecordFields {
         id: head.id,
         initial: head.initial,
         parent: head.parent,
         expires: head.expires,
-        set: head.set.clone()?,
-        level: head.level.clone()?,
-        base: head.base.clone()?,
+        set,
+        level,
+        base,
         tapes,
         volumes,
-        cell: head.cell.copy()?,
+        cell,
     }))
 }

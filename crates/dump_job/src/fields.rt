@@ -1,5 +1,7 @@
 //! What a dump has in hand between two steps.
 
+ghost use Rattle.std.specs.Prelude.{◌≡◌};
+
 use bk_text::List;
 use budb_journal::{DumpRecord, Frag, TapePart, VolRecord};
 use dump_stream::Writer;
@@ -39,7 +41,6 @@ pub struct Reel {
 }
 
 /// The volume in hand.
-#[derive(Debug, Drop)]
 pub struct Hand {
     /// The head of its open fragment, or of the next one.
     pub head: VolHead,
@@ -53,8 +54,39 @@ pub struct Hand {
     pub bytes: u32,
 }
 
+/// It is written out, so that each function that lets one go calls it.
+impl Drop for Hand {
+    fn drop(self) {
+        let Hand {
+            head,
+            stream,
+            frags,
+            at,
+            bytes,
+        } = self;
+    }
+}
+
+impl Hand {
+    /// The head of the open fragment, the stream, the record at which the fragment begins, and how many bytes it has.
+    pub(crate) fn into_parts(self) -> (VolHead, Writer, u32, u32)
+        ensures head { result.0 ≡ self.head }
+        ensures stream { result.1 ≡ self.stream }
+        ensures at { result.2 ≡ self.at }
+        ensures bytes { result.3 ≡ self.bytes }
+    {
+        let Hand {
+            head,
+            stream,
+            frags,
+            at,
+            bytes,
+        } = self;
+        (head, stream, at, bytes)
+    }
+}
+
 /// A part of the dump that is ended: the slot of its tape, and its place there.
-#[derive(Debug, Drop)]
 pub struct Filled {
     /// The slot.
     pub slot: u32,
@@ -62,8 +94,14 @@ pub struct Filled {
     pub part: TapePart,
 }
 
+/// It is written out, so that each function that lets one go calls it.
+impl Drop for Filled {
+    fn drop(self) {
+        let Filled { slot, part } = self;
+    }
+}
+
 /// A dump between two steps.
-#[derive(Debug)]
 pub struct JobFields {
     /// The port whose slots it fills.
     pub port: Port,

@@ -32,7 +32,6 @@ use tape_writer::Writer;
 const LAST_TAPE: u64 = 4_294_967_295;
 
 /// The tape on which a dump begins.
-#[derive(Debug)]
 pub struct FirstTape {
     /// The initial id of the dump set that the dump goes to.
     pub initial: u32,

@@ -31,10 +31,16 @@ use std::alloc::Global;
 use std::marker::Model;
 
 /// A dump between two steps. Contracts see what it has in hand. It fits the plant and the database that it was begun on.
-#[derive(Drop)]
 pub struct Job {
     fields: JobFields,
     alloc: Global,
+}
+
+/// It is written out, as that of what it has in hand is.
+impl Drop for Job {
+    fn drop(self) {
+        let Job { fields, alloc } = self;
+    }
 }
 
 impl Model for Job {

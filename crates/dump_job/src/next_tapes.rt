@@ -11,6 +11,7 @@ ghost use Rattle.tape_choice.specs.Scene.{UnlessFailed};
 ghost use Rattle.tape_choice.specs.Choice.{is_used};
 ghost use Rattle.dump_job.specs.Passing.{next_name, slot_of, slots_taken, next_wanting, may_go_on, next_choice, label_by, head_by};
 
+use crate::dump_names::DumpNames;
 use crate::fields::{Filled, JobFields};
 use crate::first_tapes::permanent_in;
 use crate::naming::name_of;
@@ -134,6 +135,9 @@ fn next_head(job: &JobFields, permanent: &Bytes) -> Result<DumpHead, AllocError>
     ensures { IfOk result (λ head. head ≡ record job.now.head { tape = job.now.head.tape + 1; part = job.now.head.part + 1; uses = 1; permanent = permanent.now }) }
 {
     let head = job.head.fields();
+    let names = DumpNames::of(&head.set, &head.level, &head.base, &head.cell)?;
+    let permanent = permanent.copy()?;
+    let (set, level, base, cell) = names.into_parts();
     Ok(DumpHead::new(DumpHeadFields {
         id: head.id,
         initial: head.initial,
@@ -142,17 +146,16 @@ fn next_head(job: &JobFields, permanent: &Bytes) -> Result<DumpHead, AllocError>
         tape: head.tape + 1,
         part: head.part + 1,
         volumes: head.volumes,
-        set: head.set.clone()?,
-        level: head.level.clone()?,
-        base: head.base.clone()?,
-        cell: head.cell.copy()?,
-        permanent: permanent.copy()?,
+        set,
+        level,
+        base,
+        cell,
+        permanent,
         uses: 1,
     }))
 }
 
 /// The next part's label and head, and the head once more.
-#[derive(Debug)]
 pub(crate) struct NextHeads {
     pub(crate) label: Label,
     pub(crate) head: DumpHead,

@@ -6,7 +6,6 @@ use bk_text::{Bytes, LevelPath, List, SetName};
 use tape_config::Port;
 
 /// What a dump is asked to do.
-#[derive(Debug)]
 pub struct DumpOrder {
     /// The volume set.
     pub set: SetName,

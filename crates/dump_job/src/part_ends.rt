@@ -27,11 +27,35 @@ use std::alloc::{AllocError, Global};
 use tape_choice::{ChoiceFault, Chosen};
 use tape_frames::{Label, VolHead};
 
-/// What the next part is begun with, and what is committed for it.
-#[derive(Debug, Drop)]
-struct NextPart {
+/// What a dump goes on with on its next tape: the part's label and heads, and where the fragments of the volume in hand begin, if
+/// one was put on the tape before.
+struct Onward {
     heads: NextHeads,
     frags: Option<List<Frag>>,
+}
+
+/// It is written out, so that each function that lets it go calls it.
+impl Drop for Onward {
+    fn drop(self) {
+        let Onward { heads, frags } = self;
+    }
+}
+
+impl Onward {
+    /// The label and the heads, and the fragments.
+    fn into_parts(self) -> (NextHeads, Option<List<Frag>>)
+        ensures heads { result.0 ≡ self.heads }
+        ensures frags { result.1 ≡ self.frags }
+    {
+        let Onward { heads, frags } = self;
+        (heads, frags)
+    }
+}
+
+/// What the next part is begun with, and what is committed for it.
+#[derive(Drop)]
+struct NextPart {
+    onward: Onward,
     filled: Filled,
     changes: List<Change>,
 }
@@ -78,22 +102,36 @@ fn next_part(
     requires part { job.now.head.part + 1 ≤ 4294967295 }
     requires marks { job.now.reel.marks ≤ job.now.reel.blocks }
     requires room { HasRoom 1 1 (counts_on job.now.port job.now.reel) }
-    ensures label { IfOk result (λ next. next.heads.label ≡ label_by label job.now) }
-    ensures head { IfOk result (λ next. next.heads.head ≡ head_by label job.now) }
-    ensures spare { IfOk result (λ next. next.heads.spare ≡ head_by label job.now) }
-    ensures frags { IfOk result (λ next. next.frags ≡ next_frags cut job.now.head.tape job.now.hand) }
+    ensures label { IfOk result (λ next. next.onward.heads.label ≡ label_by label job.now) }
+    ensures head { IfOk result (λ next. next.onward.heads.head ≡ head_by label job.now) }
+    ensures spare { IfOk result (λ next. next.onward.heads.spare ≡ head_by label job.now) }
+    ensures frags { IfOk result (λ next. next.onward.frags ≡ next_frags cut job.now.head.tape job.now.hand) }
     ensures filled { IfOk result (λ next. next.filled ≡ record { slot = job.now.reel.slot; part = closed_part job.now }) }
     ensures changes { IfOk result (λ next. next.changes ≡ takes take) }
 {
-    Ok(NextPart {
+    let onward = Onward {
         heads: next_heads(alloc, job, label)?,
         frags: next_frags(job, cut)?,
-        filled: Filled {
-            slot: job.reel.slot,
-            part: closed_part(job)?,
-        },
+    };
+    let filled = Filled {
+        slot: job.reel.slot,
+        part: closed_part(job)?,
+    };
+    Ok(NextPart {
+        onward,
+        filled,
         changes: takes(alloc, take)?,
     })
+}
+
+/// The head of a volume's next fragment.
+fn head_behind(head: VolHead) -> VolHead
+    requires { head.fragment ≤ 4294967294 }
+    ensures { result ≡ record head { fragment = head.fragment + 1 } }
+{
+    let mut fields = head.into_fields();
+    fields.fragment += 1;
+    VolHead::new(fields)
 }
 
 /// The volume in hand behind a fragment of it.
@@ -101,17 +139,9 @@ fn carried(hand: Hand, frags: List<Frag>) -> Hand
     requires { hand.head.fragment ≤ 4294967294 }
     ensures { result ≡ record hand { head = record hand.head { fragment = hand.head.fragment + 1 }; frags = frags } }
 {
-    let Hand {
-        head,
-        stream,
-        at,
-        bytes,
-        ..
-    } = hand;
-    let mut fields = head.into_fields();
-    fields.fragment += 1;
+    let (head, stream, at, bytes) = hand.into_parts();
     Hand {
-        head: VolHead::new(fields),
+        head: head_behind(head),
         stream,
         frags,
         at,
@@ -134,10 +164,11 @@ fn hand_with(frags: Option<List<Frag>>, hand: Option<Hand>) -> Option<Hand>
 }
 
 /// Goes on on the tape in a slot.
-fn go_on(job: &mut JobFields, slot: u32, heads: NextHeads, frags: Option<List<Frag>>)
+fn go_on(job: &mut JobFields, slot: u32, onward: Onward)
     requires { IfSome job.old.hand (λ h. h.head.fragment ≤ 4294967294) }
-    ensures { job.new ≡ record job.old { head = heads.head; spare = Some heads.spare; label = Some heads.label; reel = record { slot = slot; blocks = 0; marks = 0 }; hand = hand_with frags job.old.hand; phase = Phase.Tape } }
+    ensures { job.new ≡ record job.old { head = onward.heads.head; spare = Some onward.heads.spare; label = Some onward.heads.label; reel = record { slot = slot; blocks = 0; marks = 0 }; hand = hand_with onward.frags job.old.hand; phase = Phase.Tape } }
 {
+    let (heads, frags) = onward.into_parts();
     let (label, head, spare) = heads.into_parts();
     job.hand = hand_with(frags, job.hand.take());
     job.head = head;
@@ -218,14 +249,15 @@ fn end_and_pass<P: Plant>(
         Err(_) => return Err(JobFault::Memory),
     };
     let NextPart {
-        heads,
-        frags,
+        onward,
         filled,
         changes,
     } = next;
-    match close_filled(job, budb, plant, filled, changes.as_slice()) {
+    let closed = close_filled(job, budb, plant, filled, changes.as_slice());
+    drop(changes);
+    match closed {
         Ok(true) => {
-            go_on(job, slot, heads, frags);
+            go_on(job, slot, onward);
             Ok(true)
         }
         Ok(false) => Ok(false),

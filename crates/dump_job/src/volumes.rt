@@ -140,6 +140,17 @@ fn phase_after(job: &JobFields) -> Phase
     }
 }
 
+/// Lets go of the volume in hand where every byte of it was put, so that the next one is taken up beside none.
+fn let_go(hand: &mut Option<Hand>)
+    ensures { hand.new ≡ hand.old }
+{
+    if let Some(hand) = hand {
+        if hand.stream.is_over() {
+            hand.stream.let_go();
+        }
+    }
+}
+
 /// Ends the volume's last fragment.
 pub(crate) fn volume_end_step<P: Plant>(job: &mut JobFields, plant: &mut P) -> Result<bool, Failed>
     requires fit { IsOn P.Plant job.old.reel.slot (records_on job.old.reel) plant.old }
@@ -156,6 +167,7 @@ pub(crate) fn volume_end_step<P: Plant>(job: &mut JobFields, plant: &mut P) -> R
     if !end_fragment(job, plant, 1)? {
         return Ok(false);
     }
+    let_go(&mut job.hand);
     job.phase = phase;
     Ok(true)
 }

@@ -12,6 +12,7 @@ use Rattle.backup_words.specs.declared.command.Wanted.{Wanted}
 use Rattle.rehearsal.specs.declared.batch.Batch.{Batch}
 use Rattle.rehearsal.specs.Names.{tape_host, server, partition, volumes, volume_name, extension, set_name, pattern, full_level, first_level, second_level, third_level}
 
+-- some commands at one moment
 abbrev pub at : ℕ → List Command → Batch
 at now commands = record { now = now; commands = commands }
 
@@ -21,6 +22,7 @@ at now commands = record { now = now; commands = commands }
 abbrev pub writing : ℕ → ℕ → Command
 writing k size = Cell (VosWrite (volume_name k) 2 None (Some size))
 
+-- a volume is made
 abbrev pub creating : ℕ → Command
 creating k = Cell (VosCreate server partition (volume_name k))
 
@@ -36,6 +38,7 @@ dumping level = Dump (record { set = set_name; level = level; offset = 0; append
 abbrev pub wanted : ℕ → Wanted
 wanted k = record { name = volume_name k; before = None; server = server; partition = partition }
 
+-- a volume is restored under its own name with the extension
 abbrev pub restoring : ℕ → Command
 restoring k = Restore (record { volumes = One (wanted k); extension = Some extension; trial = false })
 
@@ -53,9 +56,11 @@ scanning = Tape (Scantape true 0)
 abbrev pub adding_set : Command
 adding_set = Database (Addvolset set_name)
 
+-- the volume set gets an entry for any server and partition
 abbrev pub adding_entry : Command
 adding_entry = Database (Addvolentry set_name None None pattern)
 
+-- the four levels are added, without an expiration
 abbrev pub adding_levels : Command
 adding_levels = Database (Adddump (full_level ∷ (first_level ∷ (second_level ∷ (third_level ∷ [])))) Unset)
 
@@ -67,6 +72,7 @@ adding = hosting ∷ (adding_set ∷ (adding_entry ∷ (adding_levels ∷ [])))
 abbrev pub is_changed : ℕ → ℕ → Bool
 is_changed r k = k % 3 == r % 3
 
+-- in a round the volumes that are changed in it
 abbrev pub changing : ℕ → ℕ → List Command
 changing n r = map (λ k. writing k (1000 * k + r)) (filter (is_changed r) (volumes n))
 
@@ -74,14 +80,17 @@ changing n r = map (λ k. writing k (1000 * k + r)) (filter (is_changed r) (volu
 abbrev pub round : ℕ → ℕ → List ℕ → List Batch
 round n r level = at (1000050 + 100 * r) (changing n r) ∷ (at (1000100 + 100 * r) (dumping level ∷ []) ∷ [])
 
+-- the first session: the service is set up, volumes are made, and they are dumped once fully and three times by increments
 abbrev pub first_session : ℕ → List Batch
 first_session n =
     at 1000000 (adding ++ flat_map making (volumes n)) ∷ (at 1000100 (dumping full_level ∷ []) ∷ (round n 1 first_level ++ round n 2 second_level ++ round n 3 third_level))
 
 -- ---- the second and the third session: the tapes are scanned, and each volume is restored
 
+-- the second session: a tape host is added, the tapes are scanned, and each volume's restore is tried
 abbrev pub second_session : ℕ → List Batch
 second_session n = at 1000500 (hosting ∷ (scanning ∷ map restoring (volumes n))) ∷ []
 
+-- the third session: the tapes are scanned again, and each volume is restored
 abbrev pub third_session : ℕ → List Batch
 third_session n = at 1000600 (scanning ∷ map restoring (volumes n)) ∷ []

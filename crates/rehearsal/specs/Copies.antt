@@ -16,6 +16,7 @@ use Rattle.rehearsal.specs.Names.{volumes, volume_name, copy_name}
 
 -- ---- the same vnodes
 
+-- two vnodes of one type
 abbrev pub is_same_kind : VnodeKind → VnodeKind → Bool
 is_same_kind File File = true
 is_same_kind File Directory = false
@@ -34,15 +35,18 @@ is_same_vnode a b =
     && ((a.author == b.author) && ((a.owner == b.owner) && ((a.group == b.group) && ((a.mode == b.mode) && ((a.parent == b.parent) && ((a.server_modified == b.server_modified)
     && (is_same_text a.access b.access && is_same_text a.body b.body))))))))))))
 
+-- two lists of the same vnodes, one by one
 abbrev pub are_same : List Vnode → List Vnode → Bool
 are_same = pointwise is_same_vnode
 
 -- ---- in a cell
 
+-- the volume of an image that is good
 abbrev pub volume_in : Image → Option VolumeFields
 volume_in (Good volume) = Some volume
 volume_in (Bad at) = None
 
+-- the same of a stored volume, where there is one
 abbrev pub volume_of : Option Stored → Option VolumeFields
 volume_of None = None
 volume_of (Some s) = volume_in s.image
@@ -67,6 +71,7 @@ is_restored_equal cell k = are_equal (volume_under (volume_name k) cell) (volume
 abbrev pub bytes_in : List Vnode → ℕ
 bytes_in vnodes = sum_by (λ v. length v.body) vnodes
 
+-- how many bytes of data a volume has; 0 where there is none
 abbrev pub data_of : Option VolumeFields → ℕ
 data_of None = 0
 data_of (Some volume) = bytes_in volume.vnodes
@@ -75,6 +80,7 @@ data_of (Some volume) = bytes_in volume.vnodes
 abbrev pub equal_copies : List Stored → ℕ → List ℕ
 equal_copies cell n = filter (is_restored_equal cell) (volumes n)
 
+-- how many bytes of data the equal copies have together
 abbrev pub copied_data : List Stored → ℕ → ℕ
 copied_data cell n = sum_by (λ k. data_of (volume_under (copy_name k) cell)) (equal_copies cell n)
 
@@ -87,6 +93,7 @@ pub record IsPlace (name : List ℕ) (cell : List Stored) (i : ℕ) : Type 0 whe
   pub good : is_good_image stored.image ≡ true
   pub found : find (λ s. is_same_text s.name name) cell ≡ Some stored
 
+-- a good volume stands under a name at a place, or none does
 abbrev pub StandsAt : List ℕ → List Stored → Option ℕ → Type 0
 StandsAt name cell None = volume_under name cell ≡ None
 StandsAt name cell (Some i) = IsPlace name cell i

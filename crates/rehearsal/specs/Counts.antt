@@ -11,11 +11,13 @@ use Rattle.backup_replies.specs.Texts.{is_feed}
 abbrev pub lines_with : List ℕ → List ℕ → ℕ
 lines_with front text = count_by (λ line. starts_with nat_eq line front) (slice_split is_feed text)
 
+-- a record is a block, not a filemark and not a bad one
 abbrev pub is_block : Record → Bool
 is_block (block_with bytes) = true
 is_block mark = false
 is_block bad = false
 
+-- a record is a filemark
 abbrev pub is_mark : Record → Bool
 is_mark (block_with bytes) = false
 is_mark mark = true

@@ -14,5 +14,6 @@ restore_lines t =
     ++ codes "added" ++ then_number t.added ++ codes " restored" ++ then_number t.restored ++ codes " equal" ++ then_number t.equal ++ codes " bytes" ++ then_number t.bytes ++ line_feed
     ++ ok_line
 
+-- the five lines that a rehearsal tells of what it counted
 abbrev pub tally_lines : Tally → List ℕ
 tally_lines t = dump_lines t ++ restore_lines t

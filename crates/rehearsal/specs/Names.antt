@@ -7,9 +7,11 @@ use Rattle.std.specs.List.{range_with_len}
 abbrev pub tape_host : List ℕ
 tape_host = codes "th"
 
+-- the server on which all volumes lie
 abbrev pub server : List ℕ
 server = codes "fs1"
 
+-- the partition in which all volumes lie
 abbrev pub partition : List ℕ
 partition = codes "vicepa"
 
@@ -17,6 +19,7 @@ partition = codes "vicepa"
 abbrev pub volumes : ℕ → List ℕ
 volumes n = range_with_len 1 n
 
+-- the name of the volume of this number: `reh.1`, `reh.2` and so on
 abbrev pub volume_name : ℕ → List ℕ
 volume_name k = codes "reh." ++ decimal k
 
@@ -24,6 +27,7 @@ volume_name k = codes "reh." ++ decimal k
 abbrev pub extension : List ℕ
 extension = codes ".r"
 
+-- the name of its restored copy: the same with the extension behind it
 abbrev pub copy_name : ℕ → List ℕ
 copy_name k = volume_name k ++ extension
 
@@ -31,6 +35,7 @@ copy_name k = volume_name k ++ extension
 abbrev pub set_name : List ℕ
 set_name = codes "reh"
 
+-- the pattern of the set's entry: `reh\..*`, which all of them match
 abbrev pub pattern : List ℕ
 pattern = codes "reh" ++ 92 ∷ codes "..*"
 
@@ -38,11 +43,14 @@ pattern = codes "reh" ++ 92 ∷ codes "..*"
 abbrev pub full_level : List ℕ
 full_level = codes "/full"
 
+-- the level of the first incremental dump, whose parent is the full one
 abbrev pub first_level : List ℕ
 first_level = codes "/full/r1"
 
+-- the level of the second incremental dump, whose parent is the first
 abbrev pub second_level : List ℕ
 second_level = codes "/full/r1/r2"
 
+-- the level of the third incremental dump, whose parent is the second
 abbrev pub third_level : List ℕ
 third_level = codes "/full/r1/r2/r3"

@@ -23,20 +23,24 @@ pub record Stage : Type 0 where
 abbrev pub then_turn : Stage → Turn → Stage
 then_turn s t = record { world = after_turn s.world t; told = s.told ++ t.reply }
 
+-- a world after these commands at one moment, and all that they told
 unfoldable pub given : Stage → ℕ → List Command → Stage
 given s now [] = s
 given s now (command ∷ commands) = given (then_turn s (turn s.world now command)) now commands
 
+-- the same after these batches of commands
 unfoldable pub played : Stage → List Batch → Stage
 played s [] = s
 played s (batch ∷ batches) = played (given s batch.now batch.commands) batches
 
 -- ---- each command that asks the archive finds a plant that holds it
 
+-- each of these commands at a moment finds the archive where it asks for it
 unfoldable pub FindsHeld : Stage → ℕ → List Command → Type 0
 FindsHeld s now [] = Unit {0}
 FindsHeld s now (command ∷ commands) = HeldFor (at_moment s.world now) command × FindsHeld (then_turn s (turn s.world now command)) now commands
 
+-- each command of these batches finds it
 unfoldable pub AllFindHeld : Stage → List Batch → Type 0
 AllFindHeld s [] = Unit {0}
 AllFindHeld s (batch ∷ batches) = FindsHeld s batch.now batch.commands × AllFindHeld (given s batch.now batch.commands) batches

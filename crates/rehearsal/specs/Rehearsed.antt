@@ -23,5 +23,6 @@ tally n = record {
   bytes = copied_data (restored n).world.cell n;
 }
 
+-- WHAT A REHEARSAL of so many volumes tells.
 unfoldable pub rehearsed : ℕ → List ℕ
 rehearsed n = tally_lines (tally n)

@@ -25,9 +25,11 @@ settings = record { entries = Device (record { offset = 0; capacity = 2147483648
 abbrev pub all_here : ℕ → Bool
 all_here k = nat_lt k 4
 
+-- all tapes are here, that of slot 2 excepted
 abbrev pub one_out : ℕ → Bool
 one_out k = nat_lt k 4 && not (k == 2)
 
+-- the settings of a rehearsal, with these tapes here
 abbrev pub setting : (ℕ → Bool) → Setting
 setting present = record { config = settings; slots = 4; present = present }
 
@@ -37,6 +39,7 @@ setting present = record { config = settings; slots = 4; present = present }
 abbrev pub nothing_dumped : Contents
 nothing_dumped id name = Err NoDump
 
+-- the world in which a rehearsal begins: nothing is dumped, no change is in the journal, and no volume is in the cell
 abbrev pub blank_world : World
 blank_world = opened (setting all_here) [] [] nothing_dumped blank
 
@@ -44,9 +47,11 @@ blank_world = opened (setting all_here) [] [] nothing_dumped blank
 abbrev pub resting : List Change → State → State
 resting log s = record { log = encoded log; tape = s.tape; told = s.told; log_settled = length (encoded log); settled = λ k. length (s.tape k) }
 
+-- the world of a session that is opened after another one, with these changes in the journal and these tapes here
 abbrev pub reopened : (ℕ → Bool) → List Change → World → World
 reopened present log w = opened (setting present) log w.cell w.contents (resting log w.state)
 
+-- a world, and nothing told yet
 abbrev pub start : World → Stage
 start w = record { world = w; told = [] }
 
@@ -60,6 +65,7 @@ dumped n = played (start blank_world) (first_session n)
 unfoldable pub lost : ℕ → World
 lost n = reopened one_out [] (dumped n).world
 
+-- what the second session leaves and tells: the scan with a tape out, and the restores that it refuses
 unfoldable pub scanned : ℕ → Stage
 scanned n = played (start (lost n)) (second_session n)
 
@@ -67,6 +73,7 @@ scanned n = played (start (lost n)) (second_session n)
 unfoldable pub put_back : ℕ → World
 put_back n = reopened all_here (scanned n).world.log (scanned n).world
 
+-- what the third session leaves and tells: the scan with all tapes, and the restores
 unfoldable pub restored : ℕ → Stage
 restored n = played (start (put_back n)) (third_session n)
 

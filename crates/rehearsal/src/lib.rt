@@ -1,4 +1,7 @@
-//! The program's rehearsal of itself: dumps of made volumes onto tapes in memory, a journal that is lost, scans and restores.
+//! The program's rehearsal of itself, in memory: volumes are made and dumped onto four tapes, the journal is lost and a tape is out,
+//! and scans and restores get the volumes back. What it tells is one function of the number of volumes, `rehearsed` in
+//! `specs/Rehearsed.antt`. It touches no file. Enter at `rehearse`. `backup_top` stands above; `backup_session` and `lost_journals`
+//! stand below.
 #![tactic(auto)]
 
 mod batch;

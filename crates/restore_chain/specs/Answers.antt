@@ -11,6 +11,7 @@ abbrev pub chain_over : ℕ → Option VolumeDump → Result (List ℕ) ℕ → 
 chain_over id None up = Err id
 chain_over id (Some d) up = if d.volume.from == 0 then Ok (id ∷ []) else followed_by up id
 
+-- the id of a dump's parent; 0 where there is no dump
 abbrev pub parent_in : Option VolumeDump → ℕ
 parent_in None = 0
 parent_in (Some d) = d.dump.parent
@@ -24,6 +25,7 @@ chain_up (suc n) records name id = chain_over id (dump_of records name id) (chai
 abbrev pub chain_in : List DumpRecordFields → ℕ → List ℕ → Result (List ℕ) ℕ
 chain_in records id name = chain_up (id + 1) records name id
 
+-- what the archive has of a volume by this dump of it; of no dump, that there is none
 abbrev pub looked_up_one : Archive → Option VolumeDump → Result VolumeFields Refusal
 looked_up_one a None = Err NoDump
 looked_up_one a (Some one) = looked_up_by a one (chain_in (listed_of a) one.dump.id one.volume.name)

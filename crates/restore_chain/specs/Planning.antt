@@ -27,6 +27,7 @@ abbrev pub located_by : Need → Option (ℕ × Slot) → Option TapeNeed
 located_by n None = None
 located_by n (Some s) = Some (record { name = numbered n.dump.base n.tape; initial = n.dump.initial; tape = n.tape; slot = s.0 })
 
+-- a tape that is needed, with the least slot here that holds it
 abbrev pub located : List Slot → Need → Option TapeNeed
 located slots n = located_by n (holder_here n.dump n.tape slots)
 
@@ -76,6 +77,7 @@ PlansNothing (Err faults.TooLarge) = ⊥
 PlansNothing (Err faults.Failed) = Unit {0}
 PlansNothing (Err faults.Memory) = Unit {0}
 
+-- the plan of a volume's latest dump, or that there is none
 abbrev pub PlansFor : List Slot → List DumpRecordFields → Option VolumeDump → Result ChainPlan RestoreFault → Type 0
 PlansFor slots listed None result = PlansNothing result
 PlansFor slots listed (Some one) result = PlansOne slots listed one result
@@ -151,6 +153,7 @@ number_of (Some s) = Some s.0
 abbrev pub need_at : DumpRecordFields → Frag → Need
 need_at d f = record { dump = d; tape = f.tape }
 
+-- what a dump needs for a volume, by the volume's record in it
 abbrev pub needs_by : DumpRecordFields → Option VolRecordFields → List Need
 needs_by d None = []
 needs_by d (Some v) = map (need_at d) v.frags
@@ -160,6 +163,7 @@ abbrev pub needs_for : List ℕ → Option DumpRecordFields → List Need
 needs_for name None = []
 needs_for name (Some d) = needs_by d (volume_of d name)
 
+-- what the dump of an id needs for a volume
 abbrev pub needs_in : List DumpRecordFields → List ℕ → ℕ → List Need
 needs_in listed name id = needs_for name (record_of listed id)
 
@@ -173,6 +177,7 @@ abbrev pub Locates : List Slot → List Need → Found → Type 0
 Locates slots all (All tapes) = map (located slots) all ≡ map Some tapes
 Locates slots all (Missing name initial) = IsFirstMissing slots all name initial
 
+-- the plan, where the tapes of all needs are here; else the first tape that isn't
 abbrev pub answered : Found → List ℕ → List ℕ → Result ChainPlan RestoreFault
 answered (All tapes) name dumps = Ok (record { name = name; dumps = dumps; tapes = tapes })
 answered (Missing missing initial) name dumps = Err (faults.MissingTape missing initial)
@@ -189,6 +194,7 @@ AnswersChain slots listed name dumps (Err faults.TooLarge) = ⊥
 AnswersChain slots listed name dumps (Err faults.Failed) = Unit {0}
 AnswersChain slots listed name dumps (Err faults.Memory) = Unit {0}
 
+-- a fault of a look-up, as a restore is failed by it
 abbrev pub restore_fault : LookFault → RestoreFault
 restore_fault look_faults.Failed = faults.Failed
 restore_fault look_faults.Memory = faults.Memory

@@ -62,6 +62,7 @@ pub record ReadsLoaded {D : Type 0} (P : Plant D) (items : List Item) (plant : D
 
 -- ---- the frames of a fragment that is called for
 
+-- a fragment that is called for: its tape, its place, its head, and whether its volume ends with it
 abbrev pub lying_of : Called → Lying
 lying_of c = record { tape = c.tape; at = c.at; head = c.head; last = if c.ends then 1 else 0 }
 
@@ -110,12 +111,15 @@ pub record StandsBefore (c : Lying) (items : List Item) (place : ℕ) (pieces : 
 
 -- ---- the joined data of a volume's fragments
 
+-- the bytes that these pieces have, one piece after the other
 abbrev pub joined_bytes : List Piece → List ℕ
 joined_bytes pieces = flat_map (λ p. bytes_of p.data_frame) pieces
 
+-- how many bytes they have together
 abbrev pub joined_used : List Piece → ℕ
 joined_used pieces = sum_by (λ p. p.data_frame.used) pieces
 
+-- a record of a tape, by the tape's number and the record's place
 abbrev pub spot_of : Site → Spot
 spot_of s = record { tape = s.tape; place = s.place }
 
@@ -124,6 +128,7 @@ abbrev pub HasNoted : List Piece → Joined → Option Site → Type 0
 HasNoted pieces j None = HasTaken (joined_bytes pieces) j.input × Begins (joined_bytes pieces)
 HasNoted pieces j (Some site) = (at : ℕ) × StopsAt (joined_bytes pieces) at × HasByte pieces at (spot_of site)
 
+-- Pieces were joined: each Data fits, and the first byte that no stream has there is noted, where there is one.
 pub record HasJoined (pieces : List Piece) (j : Joined) : Type 0 where
   pub fit : All (λ p. FitsData p.data_frame) pieces
   pub noted : HasNoted pieces j j.noted
@@ -134,6 +139,7 @@ Joins more old new = (before : List Piece) → joined_used (before ++ more) ≤ 
 
 -- ---- a record behind those seen, and a whole fragment
 
+-- What one more record makes of a fragment: one Data more, the fragment whole, or its first bad record.
 abbrev pub Steps : Lying → List Item → ℕ → List DataFields → Seen → Joined → Joined → Step → Type 0
 Steps c items place pieces s old new steps.More =
     (d : DataFields) × StandsBefore c items (place + 1) (pieces ++ d ∷ []) × HasSeen c (pieces ++ d ∷ []) s × Joins (record { spot = record { tape = c.tape; place = place }; data_frame = d } ∷ []) old new

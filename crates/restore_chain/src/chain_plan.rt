@@ -16,7 +16,7 @@ pub struct TapeNeed {
 }
 
 /// What a restore of a volume plays.
-#[derive(Debug, Drop)]
+#[derive(Debug)]
 pub struct ChainPlan {
     /// The name of the volume that was found; it may be that of the backup volume, which ends in `.backup`.
     pub name: Name,
@@ -24,4 +24,11 @@ pub struct ChainPlan {
     pub dumps: List<u32>,
     /// The tapes in playing order; a tape may stand there more than once.
     pub tapes: List<TapeNeed>,
+}
+
+/// It is written out, so that each function that lets one go calls it.
+impl Drop for ChainPlan {
+    fn drop(self) {
+        let ChainPlan { name, dumps, tapes } = self;
+    }
 }

@@ -30,34 +30,24 @@ fn place_of(dump: &DumpRecord, tape: u32) -> Option<&TapePart>
 }
 
 /// Whether a frame is the label of a dump set's tape.
-fn is_label(frame: Option<Frame>, initial: u32, tape: u32) -> bool
-    ensures { result ≡ is_frame (is_label_frame initial tape) frame }
+fn is_label(frame: &Option<Frame>, initial: u32, tape: u32) -> bool
+    ensures { result ≡ is_frame (is_label_frame initial tape) frame.now }
 {
     match frame {
-        None => false,
         Some(Frame::Label(label)) => {
             label.fields().initial == initial && label.fields().tape == tape
         }
-        Some(Frame::DumpHead(_)) => false,
-        Some(Frame::VolHead(_)) => false,
-        Some(Frame::Data(_)) => false,
-        Some(Frame::VolEnd(_)) => false,
-        Some(Frame::DumpEnd(_)) => false,
+        _ => false,
     }
 }
 
 /// Whether a frame is the head of a dump on a tape.
-fn is_head(frame: Option<Frame>, id: u32, tape: u32) -> bool
-    ensures { result ≡ is_frame (is_head_frame id tape) frame }
+fn is_head(frame: &Option<Frame>, id: u32, tape: u32) -> bool
+    ensures { result ≡ is_frame (is_head_frame id tape) frame.now }
 {
     match frame {
-        None => false,
-        Some(Frame::Label(_)) => false,
         Some(Frame::DumpHead(head)) => head.fields().id == id && head.fields().tape == tape,
-        Some(Frame::VolHead(_)) => false,
-        Some(Frame::Data(_)) => false,
-        Some(Frame::VolEnd(_)) => false,
-        Some(Frame::DumpEnd(_)) => false,
+        _ => false,
     }
 }
 
@@ -80,7 +70,11 @@ fn has_head<P: Plant>(
         Err(_) => return Err(LookFault::Failed),
     }
     match read_frame(alloc, plant, place) {
-        Ok(frame) => Ok(is_head(frame, id, tape)),
+        Ok(frame) => {
+            let is = is_head(&frame, id, tape);
+            drop(frame);
+            Ok(is)
+        }
         Err(fault) => Err(fault),
     }
 }
@@ -99,7 +93,11 @@ fn has_label<P: Plant>(
     ensures looks { LooksAt P.Plant LookFault.Failed plant.old plant.new result }
 {
     match first_frame(alloc, plant, slot) {
-        Ok(frame) => Ok(is_label(frame, initial, tape)),
+        Ok(frame) => {
+            let is = is_label(&frame, initial, tape);
+            drop(frame);
+            Ok(is)
+        }
         Err(fault) => Err(fault),
     }
 }

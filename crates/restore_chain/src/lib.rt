@@ -1,4 +1,14 @@
-//! A restore of one volume from the tapes of a chain of dumps: first the plan, which dumps and which tapes, then the playing.
+//! A restore of one volume from the tapes of a chain of dumps: first the plan, which dumps and which tapes, then the playing. A plan
+//! that is played gives exactly what the look-up in the archive gives, or its refusal: `what_is_planned_and_played_is_looked_up`. Tapes
+//! are loaded, and nothing is written. Enter at `plan`, then at `play`. `restore_commands` stands above; `archive_model`, `budb` and
+//! `dump_stream` stand below.
+//!
+//! # Example
+//!
+//! ```
+//! let plan = plan(alloc, &budb, &mut plant, &name, None)?; // of the latest dump; Some(second) for the latest one before it
+//! let volume = play(alloc, &plan, &budb, &mut plant)?;
+//! ```
 #![tactic(auto)]
 
 mod chain_plan;

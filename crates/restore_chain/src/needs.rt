@@ -17,7 +17,7 @@ use std::marker::Model;
 use tape_frames::tape_name;
 
 /// A tape that a chain is played from, with the dump whose record names it.
-#[derive(Debug, Drop)]
+#[derive(Drop)]
 pub(crate) struct Need<'a> {
     /// The dump.
     pub(crate) dump: &'a DumpRecord,

@@ -8,12 +8,23 @@ use tape_frames::{Frame, VolHead, VolHeadFields};
 
 /// A fragment of a volume's stream that is called for: the number of its tape, the number of the record at which it begins, its
 /// head, and whether the volume's stream ends with it.
-#[derive(Debug, Drop)]
 pub struct Called {
     pub tape: u32,
     pub at: u32,
     pub head: VolHead,
     pub ends: bool,
+}
+
+/// It is written out, so that each function that lets one go calls it.
+impl Drop for Called {
+    fn drop(self) {
+        let Called {
+            tape,
+            at,
+            head,
+            ends,
+        } = self;
+    }
 }
 
 /// What was seen of a fragment: the sum of its bytes, whether it has a Data, and whether the last one had all the room used, so
@@ -76,8 +87,10 @@ fn is_same_head(one: &VolHeadFields, other: &VolHeadFields) -> bool
 pub(crate) fn is_head(found: Frame, called: &Called) -> bool
     ensures { IsTrue result ↔ (found ≡ frames.VolHead called.now.head) }
 {
-    match &found {
+    let is = match &found {
         Frame::VolHead(head) => is_same_head(head.fields(), called.head.fields()),
         _ => false,
-    }
+    };
+    drop(found);
+    is
 }

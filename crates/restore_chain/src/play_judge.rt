@@ -15,7 +15,7 @@ const MOST_BYTES: u32 = 4_294_967_295;
 const ROOM: u32 = 16_352;
 
 /// How a frame is judged: the fragment's next Data, its end, or none of what is called for.
-#[derive(Debug, Drop)]
+#[derive(Drop)]
 pub enum Judged {
     Piece(Data),
     End,

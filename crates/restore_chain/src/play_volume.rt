@@ -33,7 +33,7 @@ pub enum Turn {
 }
 
 /// What a volume of a dump gives.
-#[derive(Debug, Drop)]
+#[derive(Drop)]
 pub enum Given {
     /// An increment.
     Stream(Increment),

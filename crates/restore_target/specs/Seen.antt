@@ -10,9 +10,11 @@ use Rattle.cell_core.specs.Cells.{standing_of}
 use Rattle.cell_core.specs.Listings.{name_order}
 use Rattle.restore_target.specs.declared.looking.Seen.{Seen}
 
+-- the name of an entry
 abbrev pub name_of : Seen → List ℕ
 name_of s = s.name
 
+-- how the volume of an entry stands
 abbrev pub standing_seen : Seen → Standing
 standing_seen s = s.standing
 
@@ -21,12 +23,15 @@ abbrev pub standing_by : EntryState → Standing
 standing_by (state.Good id kind latest) = standing.Volume id kind
 standing_by (state.Bad at) = standing.Bad at
 
+-- what an entry of a cell's list shows: its name, and how the volume stands there
 abbrev pub seen_of : Stored → Seen
 seen_of s = record { name = s.name; standing = standing_of s }
 
+-- an entry of exactly this name
 abbrev pub is_named : List ℕ → Seen → Bool
 is_named name s = is_eq (name_order s.name name)
 
+-- how the volume stands, where the entry is there
 abbrev pub standing_in : Option Seen → Option Standing
 standing_in None = None
 standing_in (Some s) = Some s.standing

@@ -18,6 +18,7 @@ target_text name extension = base_of name ++ unwrap_or extension []
 
 -- ---- the id
 
+-- how the volume under a name stands, where there is one
 abbrev pub standing_there : Option Stored → Option Standing
 standing_there None = None
 standing_there (Some s) = Some (standing_of s)
@@ -29,6 +30,7 @@ id_over None (Some id) = Ok id
 id_over (Some (standing.Volume id kind)) new = Ok id
 id_over (Some (standing.Bad at)) new = Err (BadImage at)
 
+-- the id that a volume gets under this name in this cell
 abbrev pub id_at : List Stored → List ℕ → Result ℕ CellFault
 id_at cell name = id_over (standing_there (stored_as name cell)) (id_for_new cell)
 
@@ -42,6 +44,7 @@ target_id cell name = if name_test name then id_at cell name else Err TooLarge
 abbrev pub restored_as : List ℕ → ℕ → ℕ → VolumeFields → VolumeFields
 restored_as name id now volume = record volume { header = record volume.header { id = id; name = name; kind = 0; created = now } }
 
+-- the list with the volume in place of one that had the name; or the fault that its id is refused by
 abbrev pub put_with : List Stored → List ℕ → List ℕ → List ℕ → ℕ → VolumeFields → Result ℕ CellFault → Result (List Stored) CellFault
 put_with cell server partition name now volume (Ok id) = Ok (with_stored (stored_volume server partition (restored_as name id now volume)) cell)
 put_with cell server partition name now volume (Err fault) = Err fault

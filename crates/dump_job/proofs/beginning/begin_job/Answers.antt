@@ -28,44 +28,44 @@ returns-in_err-changes-clause-leaves g c = λ tells slots whole has are. leaves_
 pub returns-in_err-job-clause-leaves : goal.returns-in_err-job-clause-leaves
 returns-in_err-job-clause-leaves g c = λ tells slots whole has are. leaves_loads_alone g.P.Plant _ c.args.plant.now c.passed_tape.new.plant c.in_ok-tape.ensures.plant.leaves
 
-pub returns-in_err-commit_begin-clause-refused : goal.returns-in_err-commit_begin-clause-refused
-returns-in_err-commit_begin-clause-refused g c = λ tells slots whole has are. let p = err_from_is_err_and c.from_residual-in_err-commit_begin.result c.from_residual-in_err-commit_begin.ensures.1 in commit_refuses g.P.Plant _ c.from_residual-in_err-commit_begin.result c.in_err-commit_begin.field-0.0 (cc (p.1, p.2)) c.in_err-commit_begin.ensures.only
+pub returns-in_err-committed-clause-refused : goal.returns-in_err-committed-clause-refused
+returns-in_err-committed-clause-refused g c = λ tells slots whole has are. let p = err_from_is_err_and c.from_residual-in_err-committed.result c.from_residual-in_err-committed.ensures.1 in commit_refuses g.P.Plant _ c.from_residual-in_err-committed.result c.in_err-committed.field-0.0 (cc (p.1, p.2)) c.in_err-committed.ensures.only
 
-pub returns-in_err-commit_begin-clause-loads : goal.returns-in_err-commit_begin-clause-loads
-returns-in_err-commit_begin-clause-loads g c =
+pub returns-in_err-committed-clause-loads : goal.returns-in_err-committed-clause-loads
+returns-in_err-committed-clause-loads g c =
     let P = g.P.Plant in
-    let p = err_from_is_err_and c.from_residual-in_err-commit_begin.result c.from_residual-in_err-commit_begin.ensures.1 in
+    let p = err_from_is_err_and c.from_residual-in_err-committed.result c.from_residual-in_err-committed.ensures.1 in
     let old = c.args.plant.now in
-    commit_left P (Loads P old) c.from_residual-in_err-commit_begin.result c.in_err-commit_begin.field-0.0 c.passed_tape.new.plant c.commit_begin.new.plant (cc (p.1, p.2)) c.in_err-commit_begin.ensures.only
-    (λ memory. c.in_err-commit_begin.ensures.memory_same (ap (λ (f : JobFault). Err f) memory)) c.in_ok-tape.ensures.plant.loads
+    commit_left P (Loads P old) c.from_residual-in_err-committed.result c.in_err-committed.field-0.0 c.passed_tape.new.plant c.commit_begin-committed.new.plant (cc (p.1, p.2)) c.in_err-committed.ensures.only
+    (λ memory. c.in_err-committed.ensures.memory_same (ap (λ (f : JobFault). Err f) memory)) c.in_ok-tape.ensures.plant.loads
 
-pub returns-in_err-commit_begin-clause-log_size : goal.returns-in_err-commit_begin-clause-log_size
-returns-in_err-commit_begin-clause-log_size g c =
+pub returns-in_err-committed-clause-log_size : goal.returns-in_err-committed-clause-log_size
+returns-in_err-committed-clause-log_size g c =
     let P = g.P.Plant in
-    let p = err_from_is_err_and c.from_residual-in_err-commit_begin.result c.from_residual-in_err-commit_begin.ensures.1 in
+    let p = err_from_is_err_and c.from_residual-in_err-committed.result c.from_residual-in_err-committed.ensures.1 in
     let old = c.args.plant.now in
-    commit_left P (λ d. (P.view d).log_size ≡ (P.view old).log_size) c.from_residual-in_err-commit_begin.result c.in_err-commit_begin.field-0.0 c.passed_tape.new.plant c.commit_begin.new.plant (cc (p.1, p.2)) c.in_err-commit_begin.ensures.only
-    (λ memory. c.in_err-commit_begin.ensures.memory_same (ap (λ (f : JobFault). Err f) memory)) c.in_ok-tape.ensures.plant.log_size
+    commit_left P (λ d. (P.view d).log_size ≡ (P.view old).log_size) c.from_residual-in_err-committed.result c.in_err-committed.field-0.0 c.passed_tape.new.plant c.commit_begin-committed.new.plant (cc (p.1, p.2)) c.in_err-committed.ensures.only
+    (λ memory. c.in_err-committed.ensures.memory_same (ap (λ (f : JobFault). Err f) memory)) c.in_ok-tape.ensures.plant.log_size
 
-pub returns-in_err-commit_begin-clause-cause : goal.returns-in_err-commit_begin-clause-cause
-returns-in_err-commit_begin-clause-cause g c =
+pub returns-in_err-committed-clause-cause : goal.returns-in_err-committed-clause-cause
+returns-in_err-committed-clause-cause g c =
     let P = g.P.Plant in
-    let p = err_from_is_err_and c.from_residual-in_err-commit_begin.result c.from_residual-in_err-commit_begin.ensures.1 in
+    let p = err_from_is_err_and c.from_residual-in_err-committed.result c.from_residual-in_err-committed.ensures.1 in
     let s = c.in_ok-tape.ensures.plant in
-    cause_then c.from_residual-in_err-commit_begin.result c.in_err-commit_begin.field-0.0 (P.view c.args.plant.now).faults (P.view c.passed_tape.new.plant).faults (P.view c.commit_begin.new.plant).faults (cc (p.1, p.2)) (s.cause.stays (λ is. absurd (cc))) c.in_err-commit_begin.ensures.cause
+    cause_then c.from_residual-in_err-committed.result c.in_err-committed.field-0.0 (P.view c.args.plant.now).faults (P.view c.passed_tape.new.plant).faults (P.view c.commit_begin-committed.new.plant).faults (cc (p.1, p.2)) (s.cause.stays (λ is. absurd (cc))) c.in_err-committed.ensures.cause
 
-pub returns-in_err-commit_begin-clause-leaves : goal.returns-in_err-commit_begin-clause-leaves
-returns-in_err-commit_begin-clause-leaves g c = λ tells slots whole has are.
+pub returns-in_err-committed-clause-leaves : goal.returns-in_err-committed-clause-leaves
+returns-in_err-committed-clause-leaves g c = λ tells slots whole has are.
     let P = g.P.Plant in
     let o = c.args.order in
     let db = c.args.budb.now.database in
     let t = c.in_ok-tape.tape in
     let mid = c.passed_tape.new.plant in
-    let new = c.commit_begin.new.plant in
+    let new = c.commit_begin-committed.new.plant in
     let id : c.new_id-id.result ≡ id_of o db = c.new_id-id.ensures.is ∙ ap (λ (n : ℕ). new_id o.time n) c.greatest_begun.ensures in
     let list : c.as_slice.result.now ≡ begin_changes (id_of o db) t.take = c.as_slice.ensures ∙ c.in_ok-changes.ensures ∙ ap (λ (n : ℕ). begin_changes n t.take) id in
     begin_leaves P (id_of o db) _ t c.args.plant.now mid new (c.in_ok-tape.ensures.told tells slots whole has are) c.in_ok-tape.ensures.plant.loads
-    (subst (λ (l : List Change). Leaves P (commits (encoded l) ∷ []) mid new) list c.commit_begin.ensures.leaves)
+    (subst (λ (l : List Change). Leaves P (commits (encoded l) ∷ []) mid new) list c.commit_begin-committed.ensures.leaves)
 
 pub returns-clause-leaves : goal.returns-clause-leaves
 returns-clause-leaves g c = λ tells slots whole has are.
@@ -74,11 +74,11 @@ returns-clause-leaves g c = λ tells slots whole has are.
     let db = c.args.budb.now.database in
     let t = c.in_ok-tape.tape in
     let mid = c.passed_tape.new.plant in
-    let new = c.commit_begin.new.plant in
+    let new = c.commit_begin-committed.new.plant in
     let id : c.new_id-id.result ≡ id_of o db = c.new_id-id.ensures.is ∙ ap (λ (n : ℕ). new_id o.time n) c.greatest_begun.ensures in
     let list : c.as_slice.result.now ≡ begin_changes (id_of o db) t.take = c.as_slice.ensures ∙ c.in_ok-changes.ensures ∙ ap (λ (n : ℕ). begin_changes n t.take) id in
     begin_leaves P (id_of o db) _ t c.args.plant.now mid new (c.in_ok-tape.ensures.told tells slots whole has are) c.in_ok-tape.ensures.plant.loads
-    (subst (λ (l : List Change). Leaves P (commits (encoded l) ∷ []) mid new) list c.commit_begin.ensures.leaves)
+    (subst (λ (l : List Change). Leaves P (commits (encoded l) ∷ []) mid new) list c.commit_begin-committed.ensures.leaves)
 
 pub returns-clause-begun : goal.returns-clause-begun
 returns-clause-begun g c =
@@ -89,10 +89,10 @@ returns-clause-begun g c =
     let t = c.in_ok-tape.tape in
     let old = c.args.plant.now in
     let mid = c.passed_tape.new.plant in
-    let new = c.commit_begin.new.plant in
-    let after = c.commit_begin.new.budb in
+    let new = c.commit_begin-committed.new.plant in
+    let after = c.commit_begin-committed.new.budb in
     let s = c.in_ok-tape.ensures in
-    let e = c.in_ok-commit_begin.ensures in
+    let e = c.in_ok-committed.ensures in
     let id : c.new_id-id.result ≡ id_of o db = c.new_id-id.ensures.is ∙ ap (λ (n : ℕ). new_id o.time n) c.greatest_begun.ensures in
     let listed : c.as_slice-listed.result.now ≡ db.listed = c.as_slice-listed.ensures ∙ ap (λ (d : Database). d.listed) c.database.ensures in
     let list : c.as_slice.result.now ≡ begin_changes (id_of o db) t.take = c.as_slice.ensures ∙ c.in_ok-changes.ensures ∙ ap (λ (n : ℕ). begin_changes n t.take) id in
@@ -112,5 +112,5 @@ returns-clause-ready g c =
     let P = g.P.Plant in
     let o = c.args.order in
     let s = c.in_ok-tape.ensures in
-    let e = c.in_ok-commit_begin.ensures in
-    ready P o c.as_slice-listed.result.now c.new_id-id.result c.in_ok-tape.tape (encoded c.as_slice.result.now) c.passed_tape.new.plant c.commit_begin.new.plant c.in_ok-job.job s.form s.stands s.room e.done e.stays c.in_ok-job.ensures
+    let e = c.in_ok-committed.ensures in
+    ready P o c.as_slice-listed.result.now c.new_id-id.result c.in_ok-tape.tape (encoded c.as_slice.result.now) c.passed_tape.new.plant c.commit_begin-committed.new.plant c.in_ok-job.job s.form s.stands s.room e.done e.stays c.in_ok-job.ensures

@@ -24,7 +24,7 @@ returns-in-Ok-read_frame-clause-is g c = λ told items read.
     let e = c.in-Ok.ensures in
     let loads = a_load_loads P old mid c.args.slot e.done c.load_tape.ensures.leaves e.log_size in
     let later : Read ((state_of P mid).tape c.args.slot) items = subst (λ (t : List Record). Read t items) (sym (loads_keep_tape P old mid loads told c.args.slot)) read in
-    c.is_head.ensures ∙ so_is (is_head_frame c.args.id c.args.tape) (slice_get items c.args.place) c.in-Ok-read_frame.frame
+    c.is_head-is.ensures ∙ so_is (is_head_frame c.args.id c.args.tape) (slice_get items c.args.place) c.in-Ok-read_frame.frame
     (said_frame items c.args.place c.in-Ok-read_frame.frame (c.in-Ok-read_frame.ensures.said told items (record { slot = c.args.slot; loaded = e.loaded; read = later })))
 
 pub returns-in-Ok-read_frame-clause-looks : goal.returns-in-Ok-read_frame-clause-looks
@@ -34,8 +34,8 @@ returns-in-Ok-read_frame-clause-looks g c =
     let mid = c.load_tape.new.plant in
     let new = c.read_frame.new.plant in
     let e = c.in-Ok.ensures in
-    looks_after P Failed old mid new (Ok c.is_head.result) (a_load_loads P old mid c.args.slot e.done c.load_tape.ensures.leaves e.log_size) e.stays e.cause.stays
-    (looks_as P Failed Failed mid new (Ok c.in-Ok-read_frame.frame) (Ok c.is_head.result) (λ is. absurd (cc)) (λ is. absurd (cc)) (reads_look P Failed mid new (Ok c.in-Ok-read_frame.frame) c.in-Ok-read_frame.ensures.done c.read_frame.ensures.leaves c.in-Ok-read_frame.ensures.numbers c.read_frame.ensures.stays c.in-Ok-read_frame.ensures.cause))
+    looks_after P Failed old mid new (Ok c.is_head-is.result) (a_load_loads P old mid c.args.slot e.done c.load_tape.ensures.leaves e.log_size) e.stays e.cause.stays
+    (looks_as P Failed Failed mid new (Ok c.in-Ok-read_frame.frame) (Ok c.is_head-is.result) (λ is. absurd (cc)) (λ is. absurd (cc)) (reads_look P Failed mid new (Ok c.in-Ok-read_frame.frame) c.in-Ok-read_frame.ensures.done c.read_frame.ensures.leaves c.in-Ok-read_frame.ensures.numbers c.read_frame.ensures.stays c.in-Ok-read_frame.ensures.cause))
 
 pub returns-in-Err-read_frame-clause-looks : goal.returns-in-Err-read_frame-clause-looks
 returns-in-Err-read_frame-clause-looks g c =
