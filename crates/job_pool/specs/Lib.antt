@@ -1,0 +1,6 @@
+pub mod Pools
+pub mod Schedules
+pub mod PoolCourses
+pub mod Ones
+pub mod Pooled
+pub mod PoolViews

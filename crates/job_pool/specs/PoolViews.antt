@@ -1,0 +1,7 @@
+-- WHAT A CALLER SEES OF A POOL: its dumps in order of their numbers, and how many it has room for.
+use Rattle.std.specs.Prelude.{ℕ, List}
+use Rattle.job_pool.specs.declared.jobs.PoolJob.{PoolJob}
+
+pub record PoolView : Type 0 where
+  pub jobs : List PoolJob
+  pub room : ℕ

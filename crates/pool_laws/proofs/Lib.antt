@@ -1,0 +1,17 @@
+pub mod Effects
+pub mod Slots
+pub mod Heads
+pub mod Lists
+pub mod Fields
+pub mod Volumes
+pub mod Framing
+pub mod Beside
+pub mod Settled
+pub mod Stepping
+pub mod Pool
+pub mod Begins
+pub mod Images
+pub mod Grown
+pub mod Ends
+pub mod Groups
+pub mod Elsewhere

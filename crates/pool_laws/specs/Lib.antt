@@ -1,0 +1,5 @@
+pub mod Beside
+pub mod Underway
+pub mod Left
+pub mod Groups
+pub mod Grown
