@@ -1,0 +1,15 @@
+pub mod Pages
+pub mod BlockLaws
+pub mod PieceLaws
+pub mod SaveLaws
+pub mod BackLaws
+pub mod PutLaws
+pub mod StandLaws
+pub mod Picks
+pub mod SavingLaws
+pub mod PlaceLaws
+pub mod LabelLaws
+pub mod CountLaws
+pub mod RunLaws
+pub mod LoadLaws
+pub mod BreakLaws

@@ -1,0 +1,10 @@
+pub mod Blocks
+pub mod Saves
+pub mod Reading
+pub mod Writing
+pub mod Back
+pub mod Choice
+pub mod Saving
+pub mod Faults
+pub mod Loading
+pub mod Verifying
