@@ -1,4 +1,6 @@
-//! The backup service of an AFS cell, as a program.
+//! The backup service of an AFS cell, as the program `afsbackup`. `main` hands on the current folder, the system's clock, and standard
+//! input, output and errors, and ends with the exit status that it is given. It has no rule of its own. `backup_program` stands below
+//! with all that it does, and so do `dir_cell` and `host_edge`, the real folder and the clock.
 #![tactic(auto)]
 
 use backup_program::program;

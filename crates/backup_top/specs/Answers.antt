@@ -14,6 +14,7 @@ abbrev pub whole_status : Bool → Status
 whole_status true = SomeRefused
 whole_status false = Done
 
+-- the status of a script that was stopped
 abbrev pub stop_status : RunStop → Status
 stop_status stop.Read = ReadFault
 stop_status stop.Plant = MediaFault
@@ -23,10 +24,12 @@ stop_status stop.TooLong = ScriptTooLong
 stop_status (stop.BadLog at) = BadLog at
 stop_status stop.Memory = Memory
 
+-- the status of a script: of its end, or of what stopped it
 abbrev pub run_status : Result Bool RunStop → Status
 run_status (Ok refused) = whole_status refused
 run_status (Err stop) = stop_status stop
 
+-- the status of an opening that failed, by what it failed
 abbrev pub opening_status : OpenFault → Status
 opening_status opening.Failed = MediaFault
 opening_status (opening.BadLog at) = BadLog at

@@ -161,6 +161,8 @@ pub record HasRefusal (old new : List ℕ) (refused : Bool) : Type 0 where
   pub told : new ≡ old ++ text
   pub is : has_refusal text ≡ refused
 
+-- What was told, whatever stood on the media, by the status: of a script that was run to its end, whether a line of it begins with
+-- `refused`.
 abbrev pub TellsLines : List ℕ → List ℕ → Status → Type 0
 TellsLines old new Done = HasRefusal old new false
 TellsLines old new SomeRefused = HasRefusal old new true

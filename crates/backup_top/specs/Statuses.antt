@@ -4,6 +4,7 @@ use Rattle.backup_top.specs.Replies.{line_feed}
 use Rattle.backup_top.specs.declared.status.Status.{Status}
 use Rattle.backup_top.specs.declared.status.Status.TheVariants.{Done, SomeRefused, Usage, ReadFault, MediaFault, CellFault, Memory, BadConfig, BadLog, OutputFault, ScriptTooLong}
 
+-- THE EXIT STATUS of each way in which a run ends.
 abbrev pub status_number : Status → ℕ
 status_number Done = 0
 status_number SomeRefused = 1

@@ -1,5 +1,7 @@
-//! A cell keeps its form at each call: names, order and limits, and volumes as their types allow them. Definitions in `specs/`, and their
-//! laws as contracts of functions.
+//! Laws: a cell keeps its form at each call. The form is `IsCellForm` in `specs/Forms.antt`: names in order, no more volumes than a
+//! cell takes, and each volume as its types allow it. No code here runs: each law is the contract of a function without a body. There
+//! is one law for each call on a cell, as `written_data_keeps_the_form`. `script_journals` stands above; `cell_core` and
+//! `restore_target` stand below.
 #![tactic(auto)]
 
 mod laws;

@@ -57,6 +57,7 @@ RestoredForms (One wanted) = IsHost wanted.server × IsName wanted.partition
 RestoredForms (OfDisk disk) = IsHost disk.server × IsName disk.partition × IfSome disk.new_server IsHost × IfSome disk.new_partition IsName
 RestoredForms (OfSet name) = Unit {0}
 
+-- A command's fields have the forms in which the journal, tapes and the cell write them.
 abbrev pub HasForms : Command → Type 0
 HasForms (Database command) = DatabaseForms command
 HasForms (Tape command) = TapeForms command

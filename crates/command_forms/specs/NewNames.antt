@@ -19,6 +19,7 @@ CellNamesApart (VosBackup volume) = Unit {0}
 CellNamesApart (VosRemove volume) = Unit {0}
 CellNamesApart VosListvol = Unit {0}
 
+-- a command makes no volume under the name of a backup volume
 abbrev pub NamesApart : Command → Type 0
 NamesApart (Database command) = Unit {0}
 NamesApart (Tape command) = Unit {0}

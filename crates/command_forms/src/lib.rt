@@ -1,5 +1,7 @@
-//! What is so of every command: its fields have the forms in which the journal writes them. So they have by their types, and in
-//! the words of the line that spells it.
+//! Laws: the fields of every command have the forms in which the journal, tapes and the cell write them, `HasForms` in
+//! `specs/Forms.antt`. So it is by their types, and so of the words of a line that spells a command. `vos create` makes no volume under
+//! a name that ends in `.backup`. No code here runs in the program. Enter at `commands_have_forms` for any command, and at
+//! `parsed_commands_have_forms` for one that a line says. `script_journals` stands above; `backup_words` stands below.
 #![tactic(auto)]
 
 mod laws;

@@ -1,5 +1,7 @@
-//! A whole dump keeps the archive that the plant holds: on its way, effect by effect, and behind it, where the next dump finds all that a dump
-//! asks. It has no call of the product: definitions in `specs/`, and their laws as contracts of functions.
+//! Laws: a whole dump keeps the archive that the plant holds, effect by effect, and after it the next dump finds all that a dump asks.
+//! No effect takes a tape from a dump that is listed after it. No code here runs: definitions stand in `specs/`, and each law is the
+//! contract of a function without a body. Enter at `a_dump_keeps_the_archive` and `what_a_dump_asks_is_so_behind_it`.
+//! `session_archives` stands above; `dump_laws` and `dump_commands` stand below.
 #![tactic(auto)]
 
 mod laws;

@@ -12,6 +12,7 @@ use Rattle.dump_job.specs.declared.fields.JobFields.{JobFields}
 use Rattle.dump_job.specs.Ending.{all_parts}
 use Rattle.dump_laws.specs.Made.{Basis}
 
+-- the clone of the volume of this name
 abbrev pub is_clone_of : List ℕ → Taken → Bool
 is_clone_of name c = is_same_text c.volume.header.name name
 

@@ -41,11 +41,13 @@ use Rattle.dump_laws.specs.Growing.{with_dump}
 
 -- ---- the forms of a dump's fields, which their types give
 
+-- the volume in hand has bytes, and its counts and its head fit
 pub record IsFormedHand (h : Hand) : Type 0 where
   pub head : FitsVolHead h.head
   pub bytes : All (λ b. b < 256) h.stream
   pub count : IsFour h.bytes
 
+-- the dump's fields fit: its head, its label and the volume in hand
 pub record IsFormed (j : JobFields) : Type 0 where
   pub head : FitsDumpHead j.head
   pub label : IfSome j.label FitsLabel
@@ -72,6 +74,7 @@ pub record CloneIsFair (a : Archive) (known : List DumpRecordFields) (around : A
   pub parent : (p : DumpRecordFields) → j.parent ≡ Some p → Contains known p
   pub allowed : Allowed (selected clone.volume (from_time j entry clone) clone.time)
 
+-- what a step asks of what stands around the dump, by the phase
 abbrev pub Asks : Archive → List DumpRecordFields → Around → JobFields → Phase → Type 0
 Asks a known around j phase.Tape = HasRoomBefore j
 Asks a known around j phase.Clone = CloneIsFair a known around j

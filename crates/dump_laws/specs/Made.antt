@@ -35,6 +35,7 @@ pub record Basis : Type 0 where
 
 -- ---- the text
 
+-- the part that lies there
 abbrev pub part_at : Located → Part
 part_at l = l.found.part
 

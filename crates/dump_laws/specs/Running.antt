@@ -32,6 +32,7 @@ use Rattle.dump_laws.specs.Writing.{EndedFit, FrontFits, FragmentsFit, VolumesFi
 
 -- ---- what is so at every step
 
+-- the basis of a dump
 abbrev pub basis_of : JobFields → Basis
 basis_of j = record { id = j.head.id; above = j.head.parent; parent = j.parent; count = j.head.volumes }
 
@@ -91,6 +92,7 @@ pub record HandComes (contents : ℕ → List ℕ → Result VolumeFields Refusa
 abbrev pub HandIsToCome : Archive → JobFields → Hand → Made → Type 0
 HandIsToCome a j h m = HandComes a.contents (basis_of j) j.volumes j.head.tape j.first h.head h.frags h.stream m
 
+-- the volume in hand of a dump, and what of its stream was put
 abbrev pub HandIsThere : Archive → JobFields → Hand → Made → Type 0
 HandIsThere a j h m = HandGoes a.contents (basis_of j) (length j.volumes) h.head h.frags h.stream m
 
@@ -134,6 +136,7 @@ pub record IsAppended (a : Archive) (j : JobFields) (t : Slot) (front : Tape) : 
   pub marks : j.reel.marks ≡ 1 + sum_by part_marks front.parts
   pub behind : (d : DumpRecordFields) (tape : ℕ) (p : TapePart) → Contains (listed_of a) d → place_of d tape ≡ Some p → holds d tape t.items ≡ true → p.end ≤ records_on j.reel
 
+-- what is so of the tape before the tape step: it is appended to where it keeps its label, taken where it gets one
 abbrev pub IsChosen : Archive → JobFields → Tape → Slot → Option LabelFields → Type 0
 IsChosen a j front t None = IsAppended a j t front
 IsChosen a j front t (Some label) = IsTaken a j t label
@@ -143,6 +146,8 @@ abbrev pub Comes : Archive → JobFields → Made → Option Hand → Type 0
 Comes a j m None = NoHand j m
 Comes a j m (Some h) = HandIsToCome a j h m × (h.stream ≡ [] → ⊥) × (m.pieces ≡ [])
 
+-- before the tape step: the tape is chosen, the part has no fragment yet, each head of the dump is that of an ended part, and the volume
+-- in hand may come
 pub record BeforeTape (a : Archive) (j : JobFields) (m : Made) : Type 0 where
   pub slot : Slot
   pub at : slice_get a.slots j.reel.slot ≡ Some slot
@@ -153,14 +158,17 @@ pub record BeforeTape (a : Archive) (j : JobFields) (m : Made) : Type 0 where
 
 -- ---- before the other steps
 
+-- before a clone: nothing was put yet and the smallest part has room, or the volume in hand is done
 abbrev pub CloneGoes : Archive → JobFields → Made → Option Hand → Type 0
 CloneGoes a j m None = NoHand j m × HasRoom 4 2 (counts_on j.port j.reel)
 CloneGoes a j m (Some h) = HandDone a j h m
 
+-- before a clone step: the part is open and no fragment is, and the volume in hand is done, where there is one
 pub record BeforeClone (a : Archive) (j : JobFields) (m : Made) : Type 0 where
   pub open_part : IsOpen a j m []
   pub hand : CloneGoes a j m j.hand
 
+-- before a fragment's head: something is left of the stream, and the fragment that is to come may come
 pub record BeforeHead (a : Archive) (j : JobFields) (h : Hand) (m : Made) : Type 0 where
   pub open_part : IsOpen a j m []
   pub hand : HandIsToCome a j h m
@@ -176,12 +184,14 @@ pub record HasOpenFragment (a : Archive) (j : JobFields) (h : Hand) (m : Made) :
   pub bytes : h.bytes ≡ used_of m.pieces
   pub each : All (IsPiece h.head.dump h.head.index) m.pieces
 
+-- before a piece: a fragment is open whose pieces are full, and something is left of the stream
 pub record BeforePiece (a : Archive) (j : JobFields) (h : Hand) (m : Made) : Type 0 where
   pub fragment : HasOpenFragment a j h m
   pub full : All (λ d. d.used ≡ room) m.pieces
   pub left : h.stream ≡ [] → ⊥
   pub room : m.pieces ≡ [] → HasRoom 3 2 (counts_on j.port j.reel)
 
+-- before a volume's end: the stream is over, and the open fragment's pieces may be its last
 pub record BeforeVolumeEnd (a : Archive) (j : JobFields) (h : Hand) (m : Made) : Type 0 where
   pub fragment : HasOpenFragment a j h m
   pub filled : AreFilled 1 m.pieces
@@ -196,11 +206,13 @@ pub record BeforePartEnd (a : Archive) (j : JobFields) (h : Hand) (m : Made) : T
   pub last : LastWas h.head 0 m.fragments
   pub lying : all_lying j.head.tape j.first m ≡ done_lying j.head.id j.volumes ++ going_on h.head 1 (h.frags ++ record { tape = j.head.tape; at = h.at } ∷ [])
 
+-- before the dump's end: the last volume is done, and it is the last one of the dump
 pub record BeforeDumpEnd (a : Archive) (j : JobFields) (h : Hand) (m : Made) : Type 0 where
   pub open_part : IsOpen a j m []
   pub hand : HandDone a j h m
   pub all : h.head.index + 1 ≡ j.head.volumes
 
+-- this is so of the volume in hand, and there is one
 abbrev pub WithHand : (Hand → Type 0) → Option Hand → Type 0
 WithHand Is None = ⊥
 WithHand Is (Some h) = Is h
@@ -216,6 +228,7 @@ Before a j m phase.PartEnd = WithHand (λ h. BeforePartEnd a j h m) j.hand
 Before a j m phase.DumpEnd = WithHand (λ h. BeforeDumpEnd a j h m) j.hand
 Before a j m phase.Over = Unit {0}
 
+-- this is so, unless the dump is over
 abbrev pub UnlessOver : Phase → Type 0 → Type 0
 UnlessOver phase.Tape holds = holds
 UnlessOver phase.Clone holds = holds

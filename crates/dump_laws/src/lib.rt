@@ -1,5 +1,8 @@
-//! What a dump makes of the archive that a plant holds, step by step. It has no call of the product: definitions in `specs/`, and
-//! their laws as contracts of functions.
+//! Laws: what a dump makes of the archive that a plant holds, step by step. Each event of a dump that runs keeps the archive, and each
+//! image of it holds the archive of before it, that of after it, or one between them. No code here runs: definitions stand in `specs/`,
+//! and each law is the contract of a function without a body. Enter at `RunsIn` in `specs/Running.antt`, which says what is so between
+//! two steps, and at `each_event_keeps` and `each_image_of_a_step_holds`. `dump_archives` stands above; `dump_job` and `archive_model`
+//! stand below.
 #![tactic(auto)]
 
 mod begins;

@@ -1,7 +1,7 @@
-//! Folds lists of changes at random, and compares each database with what a plain model says, whose rules `plain.rt` states anew
-//! over small numbers. The bytes of a list are put together in `bytes.rt` by the table of the changes' fields; they must be read as
-//! changes that are written as the same bytes. A front of each list, and a list with a kind that is none, must be refused where the
-//! table says. A line of standard input has a seed, and how many lists it gives.
+//! Folds lists of changes at random, and compares each database with what a plain model says, whose rules `plain.rt` states anew over
+//! small numbers. The bytes of a list are put together in `bytes.rt` by the table of the changes' fields; they must be read as changes
+//! that are written as the same bytes. A front of each list, and a list with a kind that is none, must be refused where the table says.
+//! A line of standard input has a seed, and how many lists it gives. Nothing stands on this program; `budb_fold` stands below.
 //!
 //! The numbers in `stdout` were made by another model, in Python, that isn't kept here: it draws the same numbers, puts the bytes
 //! together, reads them and folds them into dictionaries by the tables of `docs/FORMATS.md`, and counts.

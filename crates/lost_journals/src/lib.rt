@@ -1,5 +1,7 @@
-//! What tapes hold when their journal is lost: the archive of the dumps that are whole on them, which a scan lists again. Definitions in
-//! `specs/`, and their laws as contracts of functions.
+//! Laws: what tapes hold when their journal is lost. It is the archive of the dumps that are whole on them, which a scan lists again,
+//! each with its own record. No code here runs: definitions stand in `specs/`, and each law is the contract of a function without a
+//! body. Enter at `a_lost_journal_is_scanned_again` and `what_is_scanned_again_is_restored_again`. `rehearsal` stands above;
+//! `session_archives` stands below.
 #![tactic(auto)]
 
 mod archives;

@@ -1,5 +1,6 @@
-//! Runs worked scripts over media, a cell, a clock and a source in memory, and prints what each one tells. The scripts stand as a
-//! table on standard input, whose steps `table.rt` lists: a row more is a few lines of text there and in `stdout`.
+//! Runs worked scripts over media, a cell, a clock and a source in memory, and prints what each one tells. The scripts stand as a table
+//! on standard input, whose steps `table.rt` lists: a row more is a few lines of text there and in `stdout`. Nothing stands on this
+//! program; `backup_top` stands below.
 #![tactic(auto)]
 
 mod cuts;

@@ -33,6 +33,7 @@ pub record IsOnLine (w : World) (moments : List ℕ) (lines before : List (List 
 abbrev pub world_behind : World → List ℕ → List (List ℕ) → World
 world_behind w moments before = (script w moments before).world
 
+-- the moment that the next command uses after these lines
 abbrev pub moment_behind : World → List ℕ → List (List ℕ) → ℕ
 moment_behind w moments before = first_of (script w moments before).moments
 

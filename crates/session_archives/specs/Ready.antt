@@ -65,6 +65,7 @@ pub record IsReady (w : World) : Type 0 where
 abbrev pub targets_of : Option (List ℕ) → List Wanted → List (List ℕ)
 targets_of extension choices = map (λ c. target_text c.name extension) choices
 
+-- the names under which the volumes of a set are restored; none where there is no such set
 abbrev pub set_targets : List DumpRecordFields → Option (List ℕ) → Option (List SetEntry) → List (List ℕ)
 set_targets listed extension None = []
 set_targets listed extension (Some entries) = targets_of extension (set_choices listed entries)
@@ -101,6 +102,7 @@ RestoresApartOn w Quit = Unit {0}
 RestoresApartOn w (Refused text) = Unit {0}
 RestoresApartOn w (Runs command) = RestoresApart w command
 
+-- so it is on each line of a script that is run
 unfoldable pub RestoresApartThroughout : World → List ℕ → List (List ℕ) → Type 0
 RestoresApartThroughout w ms [] = Unit {0}
 RestoresApartThroughout w ms (line ∷ lines) =

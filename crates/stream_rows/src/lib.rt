@@ -1,4 +1,5 @@
-//! Tests of streams of volumes and of a cell in memory, of what no line of a script says.
+//! Tests of streams of volumes and of a cell in memory, of what no line of a script says. Nothing stands on these tests; `dump_stream`
+//! and `cell_core` stand below.
 #![tactic(auto)]
 
 #[cfg(test)]

@@ -28,6 +28,7 @@ abbrev pub greatest : List ℕ → Option ℕ
 greatest [] = None
 greatest (n ∷ ns) = Some (max n (unwrap_or (greatest ns) 0))
 
+-- the first of these dumps that has this id
 abbrev pub with_id : List DumpRecordFields → Option ℕ → Option DumpRecordFields
 with_id ds None = None
 with_id ds (Some id) = find (is_dump id) ds
@@ -48,6 +49,7 @@ tapes_in initial d = if is_initial initial d then map (λ p. p.tape) d.tapes els
 abbrev pub last_tape : List DumpRecordFields → ℕ → Option ℕ
 last_tape listed initial = greatest (flat_map (tapes_in initial) listed)
 
+-- a dump of the dump set that has a part on the tape of this number
 abbrev pub lies_on : ℕ → ℕ → DumpRecordFields → Bool
 lies_on initial tape d = is_initial initial d && is_some (place_of d tape)
 
@@ -57,6 +59,7 @@ last_dump listed initial tape = latest_of (filter (lies_on initial tape) listed)
 
 -- ---- the slot
 
+-- a record is a filemark
 abbrev pub is_mark : Item → Bool
 is_mark (Says f) = false
 is_mark Filemark = true
@@ -104,6 +107,7 @@ place_behind d p k items = record {
   permanent = permanent_in (label_in items);
 }
 
+-- The place after the last dump where a slot was found; else that the tape, told by the base and the number of its name, isn't found.
 abbrev pub found_in : DumpRecordFields → TapePart → Option (ℕ × Slot) → Appending
 found_in d p None = NotFound d.base p.tape
 found_in d p (Some (k, s)) = Found (place_behind d p k s.items)
@@ -113,18 +117,22 @@ pub record LastPart : Type 0 where
   pub dump : DumpRecordFields
   pub part : TapePart
 
+-- a dump with the part that it has on a tape, where it has one there
 abbrev pub part_on : ℕ → DumpRecordFields → Option TapePart → Option LastPart
 part_on tape d None = None
 part_on tape d (Some p) = Some (record { dump = d; part = p })
 
+-- the same of a dump that may be none
 abbrev pub part_of : ℕ → Option DumpRecordFields → Option LastPart
 part_of tape None = None
 part_of tape (Some d) = part_on tape d (place_of d tape)
 
+-- the last dump of a dump set's last tape, with its part there; none where the dump set has no tape
 abbrev pub last_part_on : List DumpRecordFields → ℕ → Option ℕ → Option LastPart
 last_part_on listed initial None = None
 last_part_on listed initial (Some tape) = part_of tape (last_dump listed initial tape)
 
+-- the last dump of the last tape of the dump set of this initial id, with its part there
 abbrev pub last_part : List DumpRecordFields → ℕ → Option LastPart
 last_part listed initial = last_part_on listed initial (last_tape listed initial)
 
@@ -133,10 +141,12 @@ abbrev pub no_tape : Option DumpRecordFields → Appending
 no_tape None = NoSet
 no_tape (Some d) = NotFound d.base 0
 
+-- Behind that part, in the least slot that passes; where the dump set has none, the tape isn't found.
 abbrev pub appending_behind : List DumpRecordFields → PortFields → (ℕ → Bool) → List Slot → ℕ → Option LastPart → Appending
 appending_behind listed port whole slots initial None = no_tape (latest_of (filter (is_initial initial) listed))
 appending_behind listed port whole slots initial (Some l) = found_in l.dump l.part (append_slot l.dump l.part port whole slots)
 
+-- to the dump set of this initial id; where there is none, there is nothing to append to
 abbrev pub appending_to : List DumpRecordFields → PortFields → (ℕ → Bool) → List Slot → Option ℕ → Appending
 appending_to listed port whole slots None = NoSet
 appending_to listed port whole slots (Some initial) = appending_behind listed port whole slots initial (last_part listed initial)

@@ -34,9 +34,12 @@ fits_name w afs = not w.checked || ((length afs == 0) || is_same_text afs w.name
 abbrev pub is_own : Wanting → ℕ → Bool
 is_own w initial = (w.initial == initial) || list_any (λ p. p == initial) w.parents
 
+-- A label passes where its AFS name fits, no listed dump of its dump set is unexpired, and its dump set is neither this one nor one of
+-- the dump's parents.
 abbrev pub label_passes : List DumpRecordFields → Wanting → LabelFields → Bool
 label_passes listed w a = fits_name w a.afs && (not (has_unexpired listed w.time a.initial) && not (is_own w a.initial))
 
+-- the same of a first record: one that is no label doesn't pass
 abbrev pub passes_with : List DumpRecordFields → Wanting → Option LabelFields → Bool
 passes_with listed w None = false
 passes_with listed w (Some a) = label_passes listed w a
@@ -48,6 +51,7 @@ tape_passes listed w (i ∷ is) = passes_with listed w (label_in (i ∷ is))
 
 -- ---- which slot is chosen
 
+-- this dump has taken the slot already
 abbrev pub is_used : Wanting → ℕ → Bool
 is_used w k = list_any (λ used. used == k) w.used
 
@@ -55,6 +59,7 @@ is_used w k = list_any (λ used. used == k) w.used
 abbrev pub slot_passes : List DumpRecordFields → Wanting → ℕ → Slot → Bool
 slot_passes listed w k s = s.here && (not (is_used w k) && tape_passes listed w s.items)
 
+-- a slot of a coordinator: from its first to its last, both counted
 abbrev pub is_among : PortFields → ℕ → Bool
 is_among port k = nat_le port.first k && nat_le k port.last
 
@@ -70,6 +75,7 @@ abbrev pub forgotten : List DumpRecordFields → Option LabelFields → Option �
 forgotten listed None = None
 forgotten listed (Some a) = if list_any (is_initial a.initial) listed then Some a.initial else None
 
+-- the change that forgets this dump set; none where there is none to forget
 abbrev pub takes : Option ℕ → List Change
 takes None = []
 takes (Some initial) = Take initial ∷ []
@@ -83,6 +89,7 @@ permanent_in (Some a) = a.permanent
 abbrev pub taking : List DumpRecordFields → ℕ → List Item → Chosen
 taking listed k items = record { slot = k; label = label_in items; take = forgotten listed (label_in items) }
 
+-- what is known of the slot that was chosen; nothing where none was
 abbrev pub choice_of : List DumpRecordFields → Option (ℕ × Slot) → Option Chosen
 choice_of listed None = None
 choice_of listed (Some (k, s)) = Some (taking listed k s.items)
@@ -91,6 +98,7 @@ choice_of listed (Some (k, s)) = Some (taking listed k s.items)
 abbrev pub tape_choice : List DumpRecordFields → Wanting → ℕ → List Item → Option Chosen
 tape_choice listed w k items = if tape_passes listed w items then Some (taking listed k items) else None
 
+-- what is known of a slot, where the slot passes
 abbrev pub choice_at : List DumpRecordFields → Wanting → ℕ → Slot → Option Chosen
 choice_at listed w k s = if slot_passes listed w k s then Some (taking listed k s.items) else None
 

@@ -28,6 +28,7 @@ abbrev pub label_in : List Item → Option LabelFields
 label_in [] = None
 label_in (i ∷ is) = label_from (frame_of i)
 
+-- a label stands first, or something else that is no label
 abbrev pub first_from : Option LabelFields → First
 first_from None = firsts.Other
 first_from (Some a) = firsts.Label a

@@ -20,6 +20,7 @@ use Rattle.tape_choice.specs.Reads.{label_in}
 use Rattle.tape_choice.specs.Choice.{permanent_in}
 use Rattle.tape_choice.specs.Append.{is_mark, is_as_told, append_passes, uses_told, place_behind, LastPart}
 
+-- how many filemarks are among these records, and the uses that they tell
 abbrev pub survey_of : List Item → Survey
 survey_of items = record { marks = count_by is_mark items; uses = uses_told items }
 
@@ -62,6 +63,7 @@ stands_on l whole items =
 abbrev pub place_at : LastPart → (ℕ → Bool) → ℕ → Slot → Option Place
 place_at l whole k s = if append_passes l.dump l.part whole k s then Some (place_behind l.dump l.part k s.items) else None
 
+-- the place after the last dump, in the slot that was found
 abbrev pub place_in : LastPart → Option (ℕ × Slot) → Option Place
 place_in l None = None
 place_in l (Some (k, s)) = Some (place_behind l.dump l.part k s.items)
@@ -78,6 +80,7 @@ pub record IsAppendable (present : ℕ → Bool) (port : PortFields) (p : Place)
   pub uses : 1 ≤ p.uses
   pub permanent : IsMaybe IsTapeName p.permanent
 
+-- the place that was found, where one was, is one behind which a part may be put
 abbrev pub IsFoundAppendable : (ℕ → Bool) → PortFields → Appending → Type 0
 IsFoundAppendable present port NoSet = Unit {0}
 IsFoundAppendable present port (NotFound base tape) = Unit {0}
@@ -89,6 +92,7 @@ IsFoundAppendable present port (Found p) = IsAppendable present port p
 abbrev pub front_of : ℕ → ℕ → Bool → List Item → Option Survey
 front_of end marks whole items = if whole && (count_by is_mark (take end items) == marks) then Some (survey_of (take end items)) else None
 
+-- The place after a last part, by what was counted of the records up to it and by the permanent name on the label.
 abbrev pub place_with : LastPart → ℕ → Survey → List ℕ → Place
 place_with l slot seen permanent = record {
   slot = slot;
@@ -102,6 +106,7 @@ place_with l slot seen permanent = record {
   permanent = permanent;
 }
 
+-- the same where the records could be counted
 abbrev pub behind_with : LastPart → ℕ → List ℕ → Option Survey → Option Place
 behind_with l slot permanent None = None
 behind_with l slot permanent (Some seen) = Some (place_with l slot seen permanent)
@@ -117,6 +122,8 @@ pub record IsBehind (l : LastPart) (k : ℕ) (name : List ℕ) (p : Place) : Typ
   pub uses : 1 ≤ p.uses
   pub permanent : p.permanent ≡ name
 
+-- A place in this slot: its dump set and its tape count from 1, its records are its blocks and its marks, no more marks than blocks, and
+-- its uses count from 1.
 pub record IsPut (k : ℕ) (p : Place) : Type 0 where
   pub slot : p.slot ≡ k
   pub initial : 1 ≤ p.initial
@@ -126,6 +133,7 @@ pub record IsPut (k : ℕ) (p : Place) : Type 0 where
   pub uses : 1 ≤ p.uses
   pub permanent : IsMaybe IsTapeName p.permanent
 
+-- what was found, as it is answered: a place, or that the tape isn't found
 abbrev pub told_of : LastPart → Option Place → Appending
 told_of l None = NotFound l.dump.base l.part.tape
 told_of l (Some p) = Found p

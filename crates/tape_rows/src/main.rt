@@ -1,6 +1,6 @@
 //! Scans tapes that were made by hand, puts together the dumps that are whole over them, and prints what is found; reads blocks as
 //! frames; and fills tapes. The tapes stand as a table on standard input, whose steps `table.rt` lists: a row more is a few lines of
-//! text there and in `stdout`.
+//! text there and in `stdout`. Nothing stands on this program; `tape_scan` and `tape_writer` stand below.
 //!
 //! What scans tell of the lists of tapes that a step `mix` has, and what is found over them, was also found by plain slow functions
 //! that go by the definitions: a tape text by the shape of its records, a dump by the first of all lists of parts. These aren't kept.
