@@ -1,7 +1,8 @@
 # afsbackup: builds, runs and tests over the Rattle toolchain, whose command rt is on the PATH.
 PROGRAM := crates/backup_cli/out/backup_cli
-SAMPLE := examples/one-file.dump
-LOST := out/lost/cell/fs1/vicepa/user.a.vol
+# A volume as OpenAFS's `vos dump` writes it, and where it lies in a folder.
+SAMPLE := examples/user.a.dump
+IMAGE := cell/fs1/vicepa/user.a.vol
 # The crates that the program's two topmost ones stand on, from the lowest up, and all that it is made from.
 BELOW := $(shell awk -F: '/^backup_program:/ { exit } /^[a-z]/ { print $$1 }' crates.txt)
 SOURCES := $(foreach crate,$(BELOW) backup_program backup_cli,$(wildcard crates/$(crate)/src crates/$(crate)/specs))
@@ -13,34 +14,29 @@ JOBS := $(shell n=$$(nproc); echo $$((n < 4 ? n : 4)))
 # Proves and builds the program as ./afsbackup.
 all: afsbackup
 
-# Runs the sources UNPROVED: examine on a sample stream, a sample script over a blank tape, and a rehearsal of three volumes.
+# Runs the sources UNPROVED: examine on a volume of OpenAFS, a rehearsal of three volumes, and a script that dumps the volume to a blank
+# tape, removes it, and restores it.
 demo:
 	@echo "Built from the sources UNPROVED, within minutes, to show what the program tells. 'make' proves and builds ./afsbackup."
 	@rm -rf out/cases && mkdir -p out/cases && : > out/blank && echo "slots:0-0 0" > out/tapeconfig
 	@cp $(SAMPLE) out/cases/1-examine && echo examine > out/cases/1-examine.args
-	@cp examples/first.script out/cases/2-run && echo run > out/cases/2-run.args
-	@: > out/cases/3-rehearse && printf 'rehearse\n3\n' > out/cases/3-rehearse.args
-	@cd crates/backup_cli && rt try --cases ../../out/cases --data tapeconfig=../../out/tapeconfig --data media/slot0=../../out/blank
+	@: > out/cases/2-rehearse && printf 'rehearse\n3\n' > out/cases/2-rehearse.args
+	@cp examples/first.script out/cases/3-restore && echo run > out/cases/3-restore.args
+	@cd crates/backup_cli && rt try --cases ../../out/cases --data tapeconfig=../../out/tapeconfig --data media/slot0=../../out/blank \
+		--data $(IMAGE)=../../$(SAMPLE)
 	@echo "Nothing of this was proved: 'make' proves and builds ./afsbackup."
 
-# Runs a sample script in a folder of its own, and shows what that left in the journal and on the tape: what stands in their files
-# behind the first 8,192 bytes. Then it dumps a volume in another folder, loses volume and journal, gets both back from the tapes, and
-# shows what the volume holds, before and after.
+# Puts a volume of OpenAFS into a folder of its own, dumps it fully and, changed, by an increment, loses journal and volume, gets both
+# back from the tapes, and shows what the restored volume holds, which is what it held before.
 show: afsbackup
-	@./afsbackup examine < $(SAMPLE)
-	@rm -rf out/demo && mkdir -p out/demo/media && touch out/demo/media/slot0 && echo "slots:0-0 0" > out/demo/tapeconfig
-	@cd out/demo && ../../afsbackup run < ../../examples/first.script
-	@echo "the journal's log" && tail -c +8193 out/demo/media/journal | od -A d -t x1z
-	@echo "the tape in slot 0" && tail -c +8193 out/demo/media/slot0 | od -A d -t x1z
-	@rm -rf out/lost && mkdir -p out/lost/media && touch out/lost/media/slot0 out/lost/media/slot1 && echo "slots:0-1 0" > out/lost/tapeconfig
-	@cd out/lost && ../../afsbackup run < ../../examples/volume.script
-	@sleep 2
-	@cd out/lost && ../../afsbackup run < ../../examples/dump.script
-	@./afsbackup examine < $(LOST) | tail -n +2 > out/lost/before
-	@echo "the journal and the volume are lost" && rm out/lost/media/journal $(LOST)
-	@cd out/lost && ../../afsbackup run < ../../examples/restore.script
-	@./afsbackup examine < $(LOST) | tail -n +2 > out/lost/after
-	@cat out/lost/after && cmp out/lost/before out/lost/after && echo "the volume is as it was"
+	@rm -rf out/show && mkdir -p out/show/media out/show/$(dir $(IMAGE)) && touch out/show/media/slot0 out/show/media/slot1
+	@echo "slots:0-1 0" > out/show/tapeconfig && cp $(SAMPLE) out/show/$(IMAGE)
+	@cat examples/setup.script examples/dump.script && cd out/show && cat ../../examples/setup.script ../../examples/dump.script | ../../afsbackup run
+	@./afsbackup examine < out/show/$(IMAGE) | tail -n +2 > out/show/before
+	@echo "The journal and the volume are lost." && rm out/show/media/journal out/show/cell/fs1/vicepa/*.vol
+	@cat examples/restore.script && cd out/show && ../../afsbackup run < ../../examples/restore.script
+	@./afsbackup examine < out/show/$(IMAGE) | tee out/show/restored | tail -n +2 > out/show/after
+	@cat out/show/restored && cmp out/show/before out/show/after && echo "The volume is as it was."
 
 # Leaves the proved program as ./afsbackup: as rt ci left it, where no source is newer, and else proved here: each crate that it stands
 # on, from the lowest up, by several processes, and the two topmost, which load all proofs below, by one. With less than 16 GB of memory

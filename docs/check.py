@@ -12,7 +12,8 @@ sys.dont_write_bytecode = True
 from source import DEFINED, TOP, crates, lines_of, rooms
 
 MADE = {"docs/CRATES.md": "docs/make_crates.py", "docs/DEFINITIONS.md": "docs/make_definitions.py"}
-PROSE = ["README.md", "CHANGES.md", "docs/COMMANDS.md", "docs/CELL.md"]
+PROSE = ["README.md", "CHANGES.md", "docs/COMMANDS.md", "docs/CELL.md", "docs/DESIGN.md", "docs/FORMATS.md", "docs/PROMISES.md",
+         "docs/DECISIONS.md", "bench/README.md", "man/afsbackup.8"]
 # sections that other programs make
 LOOSE = {"docs/DESIGN.md": "The gate's minutes"}
 
@@ -62,7 +63,7 @@ def widths(path):
 def prose(path):
     for number, line in enumerate(lines_of(path), 1):
         for words in ("but for", "of which it is said", "of it is said"):
-            if words in line:
+            if words in line.lower():
                 fault(path, number, "says '%s'" % words)
 
 
