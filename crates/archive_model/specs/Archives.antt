@@ -19,6 +19,8 @@ use Rattle.archive_model.specs.Plays.{PlayFault, records_of, Plays}
 
 -- ---- refusals of a restore
 
+-- why a volume isn't restored: no listed dump has it; a dump of its chain is missing, by its id; no slot here holds
+-- a tape, by the tape's name and the first id of its dump set; or its play has a fault
 pub data Refusal : Type 0 where
   NoDump : Refusal
   MissingDump : ℕ → Refusal
@@ -33,6 +35,7 @@ pub record Archive : Type 0 where
   pub slots : List Slot
   pub contents : ℕ → List ℕ → Result VolumeFields Refusal
 
+-- the listed dumps of an archive: what its log of changes leaves listed
 abbrev pub listed_of : Archive → List DumpRecordFields
 listed_of a = (after a.log).listed
 
@@ -43,6 +46,7 @@ pub record Need : Type 0 where
   pub dump : DumpRecordFields
   pub tape : ℕ
 
+-- the tapes of one dump for a volume of this name, one for each of the volume's fragments, in their order
 abbrev pub needs_of : List ℕ → DumpRecordFields → List Need
 needs_of name d = map (λ c. record { dump = d; tape = c.tape }) (called_for d name)
 
@@ -50,6 +54,7 @@ needs_of name d = map (λ c. record { dump = d; tape = c.tape }) (called_for d n
 abbrev pub needs : List DumpRecordFields → List ℕ → List ℕ → List Need
 needs records ids name = flat_map (needs_of name) (records_of records ids)
 
+-- no slot that is here holds the tape of a need
 abbrev pub is_missing : List Slot → Need → Bool
 is_missing slots n = is_none (holder_here n.dump n.tape slots)
 
@@ -63,6 +68,7 @@ abbrev pub looked_up_by : Archive → VolumeDump → Result (List ℕ) ℕ → R
 looked_up_by a one (Err missing) = Err (MissingDump missing)
 looked_up_by a one (Ok ids) = unless_missing (find (is_missing a.slots) (needs (listed_of a) ids one.volume.name)) (a.contents one.dump.id one.volume.name)
 
+-- what a restore of this dump of a volume gives; without one it is refused as `NoDump`
 abbrev pub LooksUpOne : Archive → Option VolumeDump → Result VolumeFields Refusal → Type 0
 LooksUpOne a None outcome = outcome ≡ Err NoDump
 LooksUpOne a (Some one) outcome = (chain : Result (List ℕ) ℕ) × IsChain (listed_of a) one.dump.id one.volume.name chain × (outcome ≡ looked_up_by a one chain)
@@ -92,6 +98,7 @@ abbrev pub refused_by : Result VolumeFields PlayFault → Result VolumeFields Re
 refused_by (Ok volume) = Ok volume
 refused_by (Err fault) = Err (Fault fault)
 
+-- no slot holds the tape of a need, be the slot here or not
 abbrev pub is_unheld : List Slot → Need → Bool
 is_unheld slots n = is_none (holder n.dump n.tape slots)
 
@@ -99,6 +106,7 @@ is_unheld slots n = is_none (holder n.dump n.tape slots)
 abbrev pub told_here : Slot → Slot
 told_here s = record s { here = true }
 
+-- these slots as if each were here
 abbrev pub all_here : List Slot → List Slot
 all_here slots = map told_here slots
 
@@ -155,5 +163,6 @@ pub record Holds (stock : Stock) (a : Archive) (records : List DumpRecordFields)
 abbrev pub AreBlank : List Slot → Type 0
 AreBlank slots = All (λ s. s.items ≡ []) slots
 
+-- an archive without a change, on these slots and with these contents
 abbrev pub blank_archive : List Slot → (ℕ → List ℕ → Result VolumeFields Refusal) → Archive
 blank_archive slots contents = record { log = []; slots = slots; contents = contents }

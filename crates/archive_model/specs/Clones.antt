@@ -22,6 +22,7 @@ use Rattle.archive_model.specs.Plays.{HasStream}
 abbrev pub ArePlaced : List FoundPart → Type 0
 ArePlaced qs = All (λ q. (label : LabelFields) × IsPart label q.part) qs
 
+-- the part that was found, without the places of its records on the tape
 abbrev pub part_in : FoundPart → Part
 part_in q = q.part
 

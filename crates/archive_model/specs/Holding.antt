@@ -22,6 +22,7 @@ use Rattle.tape_scan.specs.Slots.{Slot}
 abbrev pub place_of : DumpRecordFields → ℕ → Option TapePart
 place_of d tape = find (λ p. p.tape == tape) d.tapes
 
+-- a label with this first id of a dump set and this number of a tape in it
 abbrev pub is_label_frame : ℕ → ℕ → Frame → Bool
 is_label_frame initial tape (frames.Label a) = (a.initial == initial) && (a.tape == tape)
 is_label_frame initial tape (frames.DumpHead a) = false
@@ -30,6 +31,7 @@ is_label_frame initial tape (frames.Data a) = false
 is_label_frame initial tape (frames.VolEnd a) = false
 is_label_frame initial tape (frames.DumpEnd a) = false
 
+-- the head of the part of this dump on the tape of this number
 abbrev pub is_head_frame : ℕ → ℕ → Frame → Bool
 is_head_frame id tape (frames.Label a) = false
 is_head_frame id tape (frames.DumpHead a) = (a.id == id) && (a.tape == tape)
@@ -45,6 +47,7 @@ is_so test (Some (Says f)) = test f
 is_so test (Some Filemark) = false
 is_so test (Some Nothing) = false
 
+-- the label of a record's tape stands first, and the dump's head at the place that is named; `false` where none is
 abbrev pub holds_at : Option TapePart → DumpRecordFields → ℕ → List Item → Bool
 holds_at None d tape items = false
 holds_at (Some p) d tape items = is_so (is_label_frame d.initial tape) (slice_get items 0) && is_so (is_head_frame d.id tape) (slice_get items p.first)
@@ -63,6 +66,7 @@ numbered_from n (s ∷ ss) = (n, s) ∷ numbered_from (n + 1) ss
 abbrev pub holder : DumpRecordFields → ℕ → List Slot → Option (ℕ × Slot)
 holder d tape slots = find (λ s. holds d tape s.1.items) (numbered_from 0 slots)
 
+-- the same of the slots that are here
 abbrev pub holder_here : DumpRecordFields → ℕ → List Slot → Option (ℕ × Slot)
 holder_here d tape slots = find (λ s. s.1.here && holds d tape s.1.items) (numbered_from 0 slots)
 
@@ -82,6 +86,7 @@ called_head dump index fragment v = record {
   partition = v.partition;
 }
 
+-- the fragments of a volume with their heads, the first one's number being this; the last one alone ends the volume
 abbrev pub called_frags : ℕ → ℕ → ℕ → VolRecordFields → List Frag → List Lying
 called_frags dump index fragment v [] = []
 called_frags dump index fragment v (f ∷ []) = record { tape = f.tape; at = f.at; head = called_head dump index fragment v; last = 1 } ∷ []
@@ -93,6 +98,7 @@ abbrev pub placed_from : ℕ → List VolRecordFields → List (ℕ × VolRecord
 placed_from index [] = []
 placed_from index (v ∷ vs) = (index, v) ∷ placed_from (index + 1) vs
 
+-- the fragments of one volume of a dump, by the dump's id and the volume's place in its record, from 0 on
 abbrev pub called_of : ℕ → ℕ × VolRecordFields → List Lying
 called_of dump v = called_frags dump v.0 1 v.1 v.1.frags
 
@@ -105,6 +111,7 @@ abbrev pub called_at : ℕ → Option (ℕ × VolRecordFields) → List Lying
 called_at dump None = []
 called_at dump (Some v) = called_of dump v
 
+-- the fragments that a dump's record names for the volume of this name; none where it has no such volume
 abbrev pub called_for : DumpRecordFields → List ℕ → List Lying
 called_for d name = called_at d.id (find (λ v. is_same_text v.1.name name) (placed_from 0 d.volumes))
 

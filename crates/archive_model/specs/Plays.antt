@@ -71,6 +71,7 @@ pub record Spot : Type 0 where
 abbrev pub StandsOn : List Slot → DumpRecordFields → Lying → Fragment → Type 0
 StandsOn slots d c f = IsSomeAnd (holder_here d c.tape slots) (λ s. StandsAt c s.1.items f)
 
+-- these fragments stand, one for each that is called for, in order, each on the least slot here that holds its tape
 abbrev pub AllStand : List Slot → DumpRecordFields → List Lying → List Fragment → Type 0
 AllStand slots d [] [] = Unit {0}
 AllStand slots d (c ∷ cs) (f ∷ fs) = StandsOn slots d c f × AllStand slots d cs fs
@@ -93,6 +94,7 @@ pub record Piece : Type 0 where
   pub spot : Spot
   pub data_frame : DataFields
 
+-- Data frames that stand one behind the other on a tape, the first one in the record of this number
 abbrev pub pieces_from : ℕ → ℕ → List DataFields → List Piece
 pieces_from tape place [] = []
 pieces_from tape place (d ∷ ds) = record { spot = record { tape = tape; place = place }; data_frame = d } ∷ pieces_from tape (place + 1) ds
@@ -145,17 +147,21 @@ Gives slots d cs (Err spot) = HasBadFrame slots d cs spot ⊎ HasBadStream slots
 
 -- ---- a chain
 
+-- why a chain isn't played: a record isn't what is called for, by its tape's name and its number from 0 on;
+-- the volume so far lacks a vnode, by its number and uniquifier; or its data would have too many bytes
 pub data PlayFault : Type 0 where
   BadOnTape : List ℕ → ℕ → PlayFault
   Lacks : ℕ → ℕ → PlayFault
   Large : PlayFault
 
+-- what applying an increment comes to: with a volume the play goes on, and a fault is the outcome
 abbrev pub after_applied : Result VolumeFields ApplyFault → (VolumeFields → Type 0) → Result VolumeFields PlayFault → Type 0
 after_applied (Ok volume) goes_on outcome = goes_on volume
 after_applied (Err (faults.BaseLacks number uniq)) goes_on outcome = outcome ≡ Err (Lacks number uniq)
 after_applied (Err faults.TooLarge) goes_on outcome = outcome ≡ Err Large
 after_applied (Err faults.Memory) goes_on outcome = ⊥
 
+-- what a dump's fragments come to: an increment is applied over the base; a bad record is the outcome
 abbrev pub after_given : DumpRecordFields → Option VolumeFields → Result IncrementFields Spot → (VolumeFields → Type 0) → Result VolumeFields PlayFault → Type 0
 after_given d base (Ok i) goes_on outcome = after_applied (applied base i) goes_on outcome
 after_given d base (Err spot) goes_on outcome = outcome ≡ Err (BadOnTape (numbered d.base spot.tape) spot.place)

@@ -44,6 +44,7 @@ abbrev pub over_parent : Result VolumeFields Refusal → VolumeFields → Result
 over_parent (Ok old) clone = Ok clone
 over_parent (Err refusal) clone = Err refusal
 
+-- what a dump has of a clone by its from time: the clone where that is 0, else what it has over the parent's contents
 abbrev pub clone_or_refusal : Result VolumeFields Refusal → ℕ → VolumeFields → Result VolumeFields Refusal
 clone_or_refusal parent from clone = if from == 0 then Ok clone else over_parent parent clone
 

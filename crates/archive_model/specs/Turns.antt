@@ -30,9 +30,11 @@ with_items (suc k) items (s ∷ slots) = s ∷ with_items k items slots
 abbrev pub with_log : Archive → List Change → Archive
 with_log a log = record { log = log; slots = a.slots; contents = a.contents }
 
+-- an archive with these items on the slot of a number, counted from 0
 abbrev pub with_slot : Archive → ℕ → List Item → Archive
 with_slot a k items = record { log = a.log; slots = with_items k items a.slots; contents = a.contents }
 
+-- an archive with other contents of its dumps
 abbrev pub with_contents : Archive → (ℕ → List ℕ → Result VolumeFields Refusal) → Archive
 with_contents a contents = record { log = a.log; slots = a.slots; contents = contents }
 
@@ -93,9 +95,11 @@ StillHeld listed slots slots2 =
 
 -- ---- what is left
 
+-- a slot is here
 abbrev pub is_here : Slot → Bool
 is_here s = s.here
 
+-- a record is there and is a filemark
 abbrev pub is_filemark : Option Item → Bool
 is_filemark None = false
 is_filemark (Some Filemark) = true
@@ -135,6 +139,7 @@ TouchesNoDump (Found dump) = ⊥
 abbrev pub is_one_of : List ℕ → DumpRecordFields → Bool
 is_one_of ids d = list_any (λ id. is_dump id d) ids
 
+-- none of these changes lists a dump or takes one from the list
 abbrev pub AllUntouched : List Change → Type 0
 AllUntouched [] = Unit {0}
 AllUntouched (c ∷ cs) = TouchesNoDump c × AllUntouched cs

@@ -1,6 +1,10 @@
-//! What tapes and the Backup Database say together: which slots hold a dump, what playing it gives, the archive that a plant holds,
-//! and what each effect and each crash makes of it. It has no call of the product: definitions in `specs/`, and their laws as
-//! contracts of functions.
+//! What tapes and the Backup Database say together: which slots hold a dump, what playing it gives, the archive that
+//! a plant holds, and what each effect and each crash makes of it. It has no call of the product: definitions in
+//! `specs/`, and their laws as contracts of functions. A held archive keeps what `IsKept` says: each dump has an id
+//! of its own, no tape of one is held twice, and a listed dump all of whose tapes are held is found whole on them.
+//! Enter at `Archive`, `LooksUp` and `Holds` in `specs/Archives.antt`. `tape_choice`, `dump_job` and `restore_chain`
+//! stand above, and so do the laws from `saved_archives` on; `tape_scan`, `tape_writer`, `budb_fold` and `cell_core`
+//! stand below.
 #![tactic(auto)]
 
 mod holding;

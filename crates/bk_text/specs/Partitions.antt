@@ -9,6 +9,7 @@ use Rattle.bk_text.specs.Places.{FailsAt}
 abbrev pub NamesPart : List ℕ → List ℕ → Type 0
 NamesPart text name = IsName name × ((text ≡ name) ⊎ (text ≡ 47 ∷ name))
 
+-- a text that some partition's name is read from: the name, perhaps behind one slash
 abbrev pub IsPartText : List ℕ → Type 0
 IsPartText text = (name : List ℕ) × NamesPart text name
 

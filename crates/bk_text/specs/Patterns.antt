@@ -34,6 +34,7 @@ SpellsInSet c text = ((c ≢ 93) × (c ≢ 92) × (c ≢ 45) × (text ≡ c ∷ 
 abbrev pub SpellsLast : ℕ → List ℕ → Type 0
 SpellsLast last text = (back : List ℕ) × (text ≡ 45 ∷ back) × SpellsInSet last back
 
+-- a member of a set as it is written: a character, or a range whose first end isn't above its last, with '-' between
 abbrev pub SpellsMember : Member → List ℕ → Type 0
 SpellsMember (One c) text = SpellsInSet c text
 SpellsMember (Range first last) text = (first ≤ last) × Joined (SpellsInSet first) (SpellsLast last) text
@@ -70,6 +71,7 @@ IsNoCaret text = (rest : List ℕ) → text ≡ 94 ∷ rest → ⊥
 abbrev pub SpellsOutOfSet : ℕ → List ℕ → Type 0
 SpellsOutOfSet c text = ((c ≢ 46) × (c ≢ 42) × (c ≢ 91) × (c ≢ 92) × (text ≡ c ∷ [])) ⊎ (text ≡ 92 ∷ c ∷ [])
 
+-- a choice as it is written: '.' for any, a character, a set in '[' and ']', or its complement in '[^' and ']'
 abbrev pub SpellsChoice : Choice → List ℕ → Type 0
 SpellsChoice Any text = text ≡ 46 ∷ []
 SpellsChoice (Same c) text = SpellsOutOfSet c text
@@ -81,6 +83,7 @@ abbrev pub star_of : Bool → List ℕ
 star_of true = 42 ∷ []
 star_of false = []
 
+-- an item as it is written: its choice, and behind it a '*' where it is starred
 abbrev pub SpellsItem : Item → List ℕ → Type 0
 SpellsItem item text = Joined (SpellsChoice item.choice) (λ rest. rest ≡ star_of item.starred) text
 

@@ -6,18 +6,22 @@ use Rattle.bk_text.specs.declared.words.Alphabet.TheVariants.{Plain, NoPeriod, A
 use Rattle.bk_text.specs.LevelPaths.{elements_of}
 use Rattle.bk_text.specs.Partitions.{without_slash}
 
+-- a byte of 33 to 126
 abbrev pub is_printable : ℕ → Bool
 is_printable b = nat_lt 32 b && nat_lt b 127
 
+-- a byte of a name: 33 to 126 without '/'
 abbrev pub is_name_byte : ℕ → Bool
 is_name_byte b = is_printable b && not (b == 47)
 
+-- whether a text of this alphabet may have this byte behind its first one
 abbrev pub is_allowed : Alphabet → ℕ → Bool
 is_allowed Plain b = is_name_byte b
 is_allowed NoPeriod b = is_name_byte b && not (b == 46)
 is_allowed AnyFirst b = is_name_byte b
 is_allowed Printable b = is_printable b
 
+-- whether a byte may begin a text of this alphabet, where it is allowed in it: in a name '-' may not
 abbrev pub is_allowed_first : Alphabet → ℕ → Bool
 is_allowed_first Plain b = not (b == 45)
 is_allowed_first NoPeriod b = not (b == 45)

@@ -1,5 +1,9 @@
 //! Texts and number fields of the backup service: names with their forms, words and numbers in texts, a reader and a
-//! writer of big-endian fields, and a list that contracts see as a list.
+//! writer of big-endian fields, and a list that contracts see as a list. Each type of a name keeps its form: `Name`,
+//! `Part`, `Host`, `SetName`, `TapeName` and `LevelPath` have only bytes of their alphabet, 1 to a stated most of
+//! them. Enter at the `parse` of a name for what a user writes, where a fault tells its place, and at `from_bytes`
+//! for bytes that were tested before. `Cursor` reads fields, and `Out` writes them. No crate of the service stands
+//! below it; nearly all stand above, first of all `byte_formats` and `vnode_model`.
 #![tactic(auto)]
 
 mod blanks;

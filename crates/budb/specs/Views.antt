@@ -22,6 +22,7 @@ prepared_of budb = unwrap_or budb.prepared []
 
 -- ---- inside the crate
 
+-- the changes of what is prepared; `None` where nothing is, which isn't the same as none of them
 abbrev pub changes_of : Option Prepared → Option (List Change)
 changes_of None = None
 changes_of (Some one) = Some one.changes

@@ -29,6 +29,7 @@ abbrev pub use_form : Version → Format (ℕ × List ℕ)
 use_form One = absent (0, [])
 use_form Two = pair any_four (maybe IsTapeName)
 
+-- the cell of a dump's record: version 1 has no bytes for it, and version 2 a host's name or an empty text
 abbrev pub cell_form : Version → Format (List ℕ)
 cell_form One = absent []
 cell_form Two = maybe IsHost
@@ -38,34 +39,44 @@ abbrev pub TellsPart : Version → TapePart → Type 0
 TellsPart One t = IsPlainPart t
 TellsPart Two t = Unit {0}
 
+-- what a version can tell of a dump: in version 1 there are no uses, no permanent names and no cell
 abbrev pub Tells : Version → DumpRecordFields → Type 0
 Tells One d = IsPlain d
 Tells Two d = Unit {0}
 
+-- a part of a dump on one tape, with fields that fit their bytes, and no more than the version can tell
 abbrev pub IsTape : Version → TapePart → Type 0
 IsTape version t = IsTapePart t × TellsPart version t
 
+-- a part of a dump on one tape in the bytes of a version
 abbrev pub tape_form : Version → Format TapePart
 tape_form version = record { Is = IsTape version; spelled = tape_bytes version }
 
+-- the parts of a dump on its tapes, 0 to 65,535 of them, behind their count in two bytes
 abbrev pub tapes_form : Version → Format (List TapePart)
 tapes_form version = record { Is = λ ts. (length ts ≤ 65535) × All (IsTape version) ts; spelled = tapes_bytes version }
 
+-- where a fragment of a volume lies: the tape's number in its dump set, and the record's, four bytes each
 abbrev pub frag_form : Format Frag
 frag_form = record { Is = IsFrag; spelled = frag_bytes }
 
+-- the fragments of a volume, 1 to 65,535 of them, behind their count in two bytes
 abbrev pub frags_form : Format (List Frag)
 frags_form = record { Is = λ fs. (1 ≤ length fs) × (length fs ≤ 65535) × All IsFrag fs; spelled = frags_bytes }
 
+-- a volume's record in a dump's record
 abbrev pub volume_form : Format VolRecordFields
 volume_form = record { Is = IsVolRecord; spelled = volume_bytes }
 
+-- the volumes of a dump, fewer than 2^32 of them, behind their count in four bytes
 abbrev pub volumes_form : Format (List VolRecordFields)
 volumes_form = record { Is = λ vs. (length vs ≤ 4294967295) × All IsVolRecord vs; spelled = volumes_bytes }
 
+-- a dump's record in the bytes of a version, which can tell all of it
 abbrev pub dump_form : Version → Format DumpRecordFields
 dump_form version = record { Is = λ d. IsDumpRecord d × Tells version d; spelled = dump_bytes version }
 
+-- a change: the byte of its kind, and then its fields
 abbrev pub change_form : Format Change
 change_form = record { Is = IsChange; spelled = encoded_change }
 

@@ -15,12 +15,14 @@ use Rattle.budb_changes.specs.Printable.{IsPatternBytes}
 use Rattle.budb_changes.specs.Plain.{IsPlain}
 use Rattle.budb_changes.specs.Bytes.{encoded}
 
+-- an expiration whose moment fits in four bytes, or whose years, months and days fit in two each
 abbrev pub IsExpiry : Expiry → Type 0
 IsExpiry Unset = Unit {0}
 IsExpiry Never = Unit {0}
 IsExpiry (At moment) = IsFour moment
 IsExpiry (In years months days) = IsTwo years × IsTwo months × IsTwo days
 
+-- a part of a dump on one tape: numbers of four bytes, and a permanent name that is a tape's name or empty
 pub record IsTapePart (t : TapePart) : Type 0 where
   pub tape : IsFour t.tape
   pub first : IsFour t.first
@@ -29,10 +31,12 @@ pub record IsTapePart (t : TapePart) : Type 0 where
   pub uses : IsFour t.uses
   pub permanent : IsMaybe IsTapeName t.permanent
 
+-- where a fragment lies: the number of the tape in its dump set, and of the record, each of four bytes
 pub record IsFrag (f : Frag) : Type 0 where
   pub tape : IsFour f.tape
   pub at : IsFour f.at
 
+-- a volume's record: names of their forms, numbers and times of four bytes, and 1 to 65,535 fragments
 pub record IsVolRecord (v : VolRecordFields) : Type 0 where
   pub name : IsName v.name
   pub id : IsFour v.id
@@ -44,6 +48,8 @@ pub record IsVolRecord (v : VolRecordFields) : Type 0 where
   pub most : length v.frags ≤ 65535
   pub each : All IsFrag v.frags
 
+-- a dump's record: names of their forms, numbers of four bytes, at most 65,535 parts on tapes and fewer than 2^32
+-- volumes, and a cell that is a host's name or empty
 pub record IsDumpRecord (d : DumpRecordFields) : Type 0 where
   pub id : IsFour d.id
   pub initial : IsFour d.initial
@@ -58,6 +64,7 @@ pub record IsDumpRecord (d : DumpRecordFields) : Type 0 where
   pub each_volume : All IsVolRecord d.volumes
   pub cell : IsMaybe IsHost d.cell
 
+-- a change whose names have their forms and whose numbers fit their bytes; `Done1` and `Found1` are of version 1
 abbrev pub IsChange : Change → Type 0
 IsChange (AddSet set) = IsSetName set
 IsChange (DelSet set) = IsSetName set
@@ -76,6 +83,7 @@ IsChange (Found1 dump) = IsDumpRecord dump × IsPlain dump
 IsChange (Done dump) = IsDumpRecord dump
 IsChange (Found dump) = IsDumpRecord dump
 
+-- a list of changes each of which has bytes; whether it fits a database isn't asked
 abbrev pub AreChanges : List Change → Type 0
 AreChanges = All IsChange
 

@@ -6,10 +6,12 @@ use Rattle.budb_fold.specs.declared.fault.ChainFault.{ChainFault}
 use Rattle.budb_fold.specs.declared.fault.ChainFault.TheVariants.{Missing, Memory}
 use Rattle.budb_fold.specs.Lookups.{VolumeDump, record_of, volume_of}
 
+-- a dump with this volume of its record; `None` where the record lacks the volume
 abbrev pub with_volume : DumpRecordFields → Option VolRecordFields → Option VolumeDump
 with_volume dump None = None
 with_volume dump (Some volume) = Some (record { dump = dump; volume = volume })
 
+-- a dump with its volume of a name; `None` where there is no dump, or its record lacks the name
 abbrev pub volume_in : Option DumpRecordFields → List ℕ → Option VolumeDump
 volume_in None name = None
 volume_in (Some dump) name = with_volume dump (volume_of dump name)

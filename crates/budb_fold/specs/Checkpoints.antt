@@ -9,6 +9,7 @@ use Rattle.budb_changes.specs.declared.change.Change.TheVariants.{AddSet, AddEnt
 use Rattle.budb_fold.specs.declared.database.HostPort.{HostPort}
 use Rattle.budb_fold.specs.declared.database.Database.{Database}
 
+-- the change that puts an entry behind those of the set of this name
 abbrev pub entry_change : List ℕ → SetEntry → Change
 entry_change set entry = AddEntry set entry.server entry.partition entry.pattern
 
@@ -16,9 +17,11 @@ entry_change set entry = AddEntry set entry.server entry.partition entry.pattern
 abbrev pub set_changes : VolumeSet → List Change
 set_changes set = AddSet set.name ∷ map (entry_change set.name) set.entries
 
+-- the change that adds a dump level with its expiration
 abbrev pub level_change : Level → Change
 level_change level = AddLevel level.path level.expiry
 
+-- the change that adds a tape host at its port offset
 abbrev pub host_change : HostPort → Change
 host_change host = AddHost host.host host.port
 

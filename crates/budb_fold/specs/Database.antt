@@ -24,18 +24,23 @@ blank = record { sets = []; levels = []; hosts = []; greatest = 0; listed = [] }
 
 -- ---- what is there
 
+-- a tape host stands at this port offset
 abbrev pub is_port : ℕ → HostPort → Bool
 is_port port host = host.port == port
 
+-- some tape host stands at this port offset
 abbrev pub has_port : List HostPort → ℕ → Bool
 has_port hosts port = list_any (is_port port) hosts
 
+-- a dump's record has this id
 abbrev pub is_dump : ℕ → DumpRecordFields → Bool
 is_dump id dump = dump.id == id
 
+-- some listed dump has this id
 abbrev pub has_dump : List DumpRecordFields → ℕ → Bool
 has_dump listed id = list_any (is_dump id) listed
 
+-- a dump's record has this initial id, which is the id of the first dump on its tapes
 abbrev pub is_initial : ℕ → DumpRecordFields → Bool
 is_initial initial dump = dump.initial == initial
 
@@ -51,6 +56,7 @@ fits_record dump listed =
     not (dump.id == 0) && not (has_dump listed dump.id) && nat_lt dump.parent dump.id
     && (if dump.parent == 0 then list_all is_whole dump.volumes else true)
 
+-- the entry of a volume set for a server and a partition, where `None` is any, and a pattern of names
 abbrev pub entry_of : Option (List ℕ) → Option (List ℕ) → List ℕ → SetEntry
 entry_of server partition pattern = record { server = server; partition = partition; pattern = pattern }
 
@@ -65,6 +71,7 @@ abbrev pub with_sets : Database → Result (List VolumeSet) SetsFault → Option
 with_sets db (Ok sets) = Some (record db { sets = sets })
 with_sets db (Err fault) = None
 
+-- the database with the levels that a call on them leaves; `None` where the call is refused
 abbrev pub with_levels : Database → Result (List Level) LevelFault → Option Database
 with_levels db (Ok levels) = Some (record db { levels = levels })
 with_levels db (Err fault) = None
@@ -101,6 +108,7 @@ made (Found1 dump) db = with_record db dump
 made (Done dump) db = with_record db dump
 made (Found dump) db = with_record db dump
 
+-- whether a change fits the database: one that doesn't changes nothing
 abbrev pub fits : Change → Database → Bool
 fits change db = is_some (made change db)
 

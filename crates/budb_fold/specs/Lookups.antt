@@ -12,6 +12,7 @@ use Rattle.budb_changes.specs.declared.records.DumpRecordFields.{DumpRecordField
 abbrev pub record_of : List DumpRecordFields → ℕ → Option DumpRecordFields
 record_of records id = find (λ dump. dump.id == id) records
 
+-- the first volume of this name in a dump's record; `None` where the record lacks the name
 abbrev pub volume_of : DumpRecordFields → List ℕ → Option VolRecordFields
 volume_of dump name = find (λ volume. is_same_text volume.name name) dump.volumes
 
@@ -26,6 +27,7 @@ abbrev pub greatest_id : List DumpRecordFields → Option ℕ
 greatest_id [] = None
 greatest_id (dump ∷ dumps) = Some (max dump.id (unwrap_or (greatest_id dumps) 0))
 
+-- the greatest id of the listed dumps of a set at a level; `None` where it has no dump there
 abbrev pub greatest_at : List DumpRecordFields → List ℕ → List ℕ → Option ℕ
 greatest_at listed set level = greatest_id (dumps_at listed set level)
 
@@ -45,6 +47,8 @@ abbrev pub from_volume : Option VolRecordFields → ℕ → ℕ
 from_volume None born = 0
 from_volume (Some volume) born = if nat_lt born volume.clone then volume.clone else 0
 
+-- the from time of the volume of a name that was born at this second since 1970, by the record of the dump's
+-- parent; 0, for the whole volume, where there is no parent
 abbrev pub from_of : Option DumpRecordFields → List ℕ → ℕ → ℕ
 from_of None name born = 0
 from_of (Some parent) name born = from_volume (volume_of parent name) born
@@ -60,6 +64,7 @@ pub record VolumeDump : Type 0 where
 abbrev pub names_for : List ℕ → List (List ℕ)
 names_for name = if ends_with nat_eq name backup_ending then name ∷ [] else name ∷ (name ++ backup_ending) ∷ []
 
+-- the dump with this volume of its record, as a list of one; empty where the record lacks the volume
 abbrev pub dump_by : DumpRecordFields → Option VolRecordFields → List VolumeDump
 dump_by dump None = []
 dump_by dump (Some volume) = record { dump = dump; volume = volume } ∷ []
@@ -69,6 +74,8 @@ abbrev pub is_before : Option ℕ → VolumeDump → Bool
 is_before None one = true
 is_before (Some bound) one = nat_lt one.volume.clone bound
 
+-- the listed dumps with their volumes of the names that a name finds, with clone times below the bound; `None` is
+-- no bound
 abbrev pub volume_dumps : List DumpRecordFields → List ℕ → Option ℕ → List VolumeDump
 volume_dumps listed name before = filter (is_before before) (flat_map (λ dump. flat_map (λ n. dump_by dump (volume_of dump n)) (names_for name)) listed)
 

@@ -1,5 +1,9 @@
-//! The Backup Database as the fold of its changes, and its look-ups: parents, from times, latest dumps and chains, each by a
-//! plain and slow function.
+//! The Backup Database as the fold of its changes, and its look-ups: parents, from times, latest dumps and chains,
+//! each by a plain and slow function. A change that doesn't fit changes nothing, so each list of changes makes a
+//! database, and an orderly one: sets, levels, ports and ids stand once, and each parent's id is below its dump's.
+//! Enter at `after` in `specs/Database.antt`, at `fold` and `Database::make`, and at `checkpoint` for the changes
+//! that make a database anew. `budb_index` has the look-ups without going over all records; it stands above with
+//! `budb_journal` and `budb`. `budb_changes`, `volume_sets` and `dump_levels` stand below.
 #![tactic(auto)]
 
 mod chain_laws;

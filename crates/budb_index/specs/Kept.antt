@@ -14,6 +14,7 @@ abbrev pub AreOnce : List DumpRecordFields → Type 0
 AreOnce [] = Unit {0}
 AreOnce (dump ∷ dumps) = AllByRecursion (λ other. other.id ≢ dump.id) dumps × AreOnce dumps
 
+-- no two of the indexed records have the same id, and each volume of each of them has a fragment
 pub record KeepsIndex (dumps : List DumpRecordFields) : Type 0 where
   pub once : AreOnce dumps
   pub frags : AllByRecursion HasFrags dumps

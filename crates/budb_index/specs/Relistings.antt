@@ -29,6 +29,7 @@ relisting_of (Found1 dump) = Some (Put dump)
 relisting_of (Done dump) = Some (Put dump)
 relisting_of (Found dump) = Some (Put dump)
 
+-- what changes do to the listed dumps, in order, without the changes that do nothing to them
 abbrev pub relistings_of : List Change → List Relisting
 relistings_of = filter_map relisting_of
 
@@ -50,6 +51,7 @@ lists_by (Some (Put dump)) listed = fits_record dump listed
 lists_by (Some (DropSet initial)) listed = false
 lists_by (Some (DropDump id)) listed = false
 
+-- whether a change lists a record behind these: it has one, and it fits
 abbrev pub lists : Change → List DumpRecordFields → Bool
 lists change listed = lists_by (relisting_of change) listed
 
@@ -61,15 +63,18 @@ records_of (Put dump) = 1
 records_of (DropSet initial) = 0
 records_of (DropDump id) = 0
 
+-- how many records a list of relistings may list at most: each `Put` counts as one
 abbrev pub records_in : List Relisting → ℕ
 records_in [] = 0
 records_in (one ∷ coming) = records_of one + records_in coming
 
+-- how many fragments the volumes of the record that one may list have; 0 where dumps go
 abbrev pub fragments_of : Relisting → ℕ
 fragments_of (Put dump) = length (dump_frags dump)
 fragments_of (DropSet initial) = 0
 fragments_of (DropDump id) = 0
 
+-- how many fragments the records have together that a list of relistings may list
 abbrev pub fragments_in : List Relisting → ℕ
 fragments_in [] = 0
 fragments_in (one ∷ coming) = fragments_of one + fragments_in coming

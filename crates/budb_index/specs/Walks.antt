@@ -33,9 +33,11 @@ volume_left key at frags = map (λ p. p.fragment.which) (left_from (λ p. p.plac
 
 -- ---- whole chains
 
+-- the records of the volume set of this name, in their order
 abbrev pub dumps_of_set : List ℕ → List DumpRecordFields → List DumpRecordFields
 dumps_of_set key = filter (λ dump. is_same_text dump.set key)
 
+-- which fragments of the records' volumes are those of the volumes of this name, in their order
 abbrev pub frags_named : List ℕ → List DumpRecordFields → List FragPlace
 frags_named key listed = map (λ f. f.which) (filter (λ f. is_same_text f.name key) (frags_of listed))
 

@@ -1,4 +1,8 @@
-//! Look-ups in the listed dumps by chains, so that none goes over all records.
+//! Look-ups in the listed dumps by chains, so that none goes over all records. An `Index` keeps each id once, and
+//! each volume of its records has a fragment, by which a walk along the volume's name comes to the record. Each
+//! look-up answers what the slow one of `budb_fold` answers. Enter at `index_of`, `latest_of`, `parent_of` and
+//! `chain_of`; `Index::prepare` takes the room for changes, and `follow` then lists and drops without memory. `budb`
+//! stands above; `budb_links` and `budb_fold` stand below.
 #![tactic(auto)]
 
 mod chains;

@@ -1,4 +1,7 @@
-//! The journal's log of a plant: changes of the Backup Database appended by one commit, and read again.
+//! The journal's log of a plant: changes of the Backup Database appended by one commit, and read again. A log is the
+//! bytes of a list of changes; after a crash in `append` that the plant survives it is the old log, or has all of the
+//! new changes behind it. Enter at `append` and `replay`, which only looks; what it answers is `Replays` in
+//! `specs/Replays.antt`. `budb` stands above; `budb_fold`, `budb_changes` and `plant_effects` stand below.
 #![tactic(auto)]
 
 mod fault;

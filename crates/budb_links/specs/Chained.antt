@@ -9,12 +9,15 @@ use Rattle.budb_links.specs.Stands.{Stand, first_place, last_place, Distinct}
 abbrev pub no_link : Link
 no_link = record { head = 0; id = 0; before = None; after = None }
 
+-- the ends of a chain without a member: it has no first place and no last one
 abbrev pub no_ends : Ends
 no_ends = record { first = None; last = None }
 
+-- the link of a place, counted from 0; `no_link` where the table isn't so long
 abbrev pub link_at : List Link → ℕ → Link
 link_at links place = slice_index_or links place no_link
 
+-- the ends of the chain of a number, counted from 0; `no_ends` where the table isn't so long
 abbrev pub ends_at : List Ends → ℕ → Ends
 ends_at ends head = slice_index_or ends head no_ends
 
@@ -22,6 +25,7 @@ ends_at ends head = slice_index_or ends head no_ends
 abbrev pub link_of : ℕ → Stand → Option ℕ → Option ℕ → Link
 link_of head s before after = record { head = head; id = s.id; before = before; after = after }
 
+-- the member of a chain that is a place, with the id of the dump whose record or fragment stands there
 abbrev pub stand_at : ℕ → ℕ → Stand
 stand_at place id = record { place = place; id = id }
 
@@ -47,6 +51,7 @@ follow (Some place) zero links = []
 follow (Some place) (suc most) links =
     record { place = place; id = (link_at links place).id } ∷ follow (link_at links place).after most links
 
+-- the members of a chain from its first place on, each with its id, at most as many as the table has links
 abbrev pub chain_from : List Link → Ends → List Stand
 chain_from links ends = follow ends.first (length links) links
 
@@ -56,6 +61,7 @@ KeepsChains links ends = (head : ℕ) → IsChain links head (ends_at ends head)
 
 -- ---- what a change of one link leaves
 
+-- the table with another link at a place, and every other link as before
 abbrev pub with_link : List Link → ℕ → Link → List Link
 with_link links place link = slice_set links place link
 
@@ -74,6 +80,7 @@ abbrev pub with_first : Ends → Option ℕ → Option ℕ → Ends
 with_first ends None first = record ends { first = first }
 with_first ends (Some place) first = ends
 
+-- the ends with another last place, where no place is behind it; where one is, they stay
 abbrev pub with_last : Ends → Option ℕ → Option ℕ → Ends
 with_last ends None last = record ends { last = last }
 with_last ends (Some place) last = ends
@@ -89,6 +96,7 @@ pub record Woven : Type 0 where
 abbrev pub links_of : ℕ → List (List Link) → List Link
 links_of family = map (λ row. slice_index_or row family no_link)
 
+-- for one family, the ends of its chains in the order of their numbers; `no_ends` where a row lacks the family
 abbrev pub ends_of : ℕ → List (List Ends) → List Ends
 ends_of family = map (λ row. slice_index_or row family no_ends)
 

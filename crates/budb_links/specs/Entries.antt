@@ -15,6 +15,7 @@ pub record Recorded : Type 0 where
   pub entries : List Entry
   pub spare_records : ℕ
 
+-- the entry of a dump's record that stands at a place
 abbrev pub entry_at : ℕ → DumpRecordFields → Entry
 entry_at place dump = record { place = place; dump = dump }
 
@@ -22,6 +23,7 @@ entry_at place dump = record { place = place; dump = dump }
 abbrev pub dumps_of : List Entry → List DumpRecordFields
 dumps_of = map (λ entry. entry.dump)
 
+-- the places of the records, in the order of recording
 abbrev pub places_of : List Entry → List ℕ
 places_of = map (λ entry. entry.place)
 
@@ -29,6 +31,7 @@ places_of = map (λ entry. entry.place)
 abbrev pub of_set : List ℕ → List Entry → List Entry
 of_set key = filter (λ entry. is_same_text entry.dump.set key)
 
+-- the records of dumps in the dump set of an initial id, whose key is its four bytes, the highest first
 abbrev pub of_initial : List ℕ → List Entry → List Entry
 of_initial key = filter (λ entry. is_same_text (to_be_bytes w32 entry.dump.initial) key)
 

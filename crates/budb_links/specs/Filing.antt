@@ -18,6 +18,7 @@ use Rattle.budb_links.specs.Keyed.{Filed, Differ, chain_in, numbering, StoresKey
 abbrev pub filed_frag : Placed → Filed
 filed_frag p = record { place = p.place; id = p.fragment.which.id; name = p.fragment.name; key_id = p.fragment.which.id }
 
+-- each fragment as it stands by the name of its volume and by the id of its dump, in the same order
 abbrev pub filed_frags : List Placed → List Filed
 filed_frags = map filed_frag
 

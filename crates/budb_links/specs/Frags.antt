@@ -17,12 +17,15 @@ pub record Placed : Type 0 where
   pub place : ℕ
   pub fragment : Fragment
 
+-- a dump's id, the index of a volume in its record, and the index of a fragment in the volume; indexes are from 0 on
 abbrev pub frag_place : ℕ → ℕ → ℕ → FragPlace
 frag_place id volume frag = record { id = id; volume = volume; frag = frag }
 
+-- which fragment it is of its record, with the name of its volume
 abbrev pub fragment_of : FragPlace → List ℕ → Fragment
 fragment_of which name = record { which = which; name = name }
 
+-- a fragment of a volume, standing at a place
 abbrev pub placed_at : ℕ → Fragment → Placed
 placed_at place fragment = record { place = place; fragment = fragment }
 
@@ -55,6 +58,7 @@ count_frags (Some dump) = length (dump_frags dump)
 abbrev pub fragments : List Placed → List Fragment
 fragments = map (λ p. p.fragment)
 
+-- the places of the fragments, in the same order
 abbrev pub frag_places : List Placed → List ℕ
 frag_places = map (λ p. p.place)
 
@@ -62,6 +66,7 @@ frag_places = map (λ p. p.place)
 abbrev pub of_dump : List ℕ → List Placed → List Placed
 of_dump key = filter (λ p. is_same_text (to_be_bytes w32 p.fragment.which.id) key)
 
+-- the fragments of all volumes of a name, in whichever dumps; the key is the name's bytes
 abbrev pub of_volume : List ℕ → List Placed → List Placed
 of_volume key = filter (λ p. is_same_text p.fragment.name key)
 

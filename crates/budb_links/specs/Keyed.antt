@@ -44,6 +44,7 @@ pub record Entered (key : List ℕ) (number : ℕ) (old new : Numbering) : Type 
   pub count : numbers_in new ≡ numbers_in old
   pub ascending : Ascending new.used
 
+-- A key is given a number: the one it has, with nothing changed, or else the last of the spare ones.
 abbrev pub Gives : List ℕ → ℕ → Numbering → Numbering → Type 0
 Gives key number old new = ((number_of key old.used ≡ Some number) × (new ≡ old)) ⊎ Entered key number old new
 
@@ -54,13 +55,16 @@ abbrev pub numbering : Keys → ℕ → Numbering
 numbering keys zero = keys.names
 numbering keys (suc family) = keys.ids
 
+-- the key of a family: in family 0 the name, in any other the id in its four bytes, the highest first
 abbrev pub key_in : ℕ → List ℕ → ℕ → List ℕ
 key_in zero name id = name
 key_in (suc family) name id = to_be_bytes w32 id
 
+-- the members of the chain of a key in a family; empty where the key has no number
 abbrev pub chain_in : Keys → ℕ → List ℕ → List Stand
 chain_in keys family key = chain_by keys.arena (numbering keys family) family key
 
+-- In both families each key with a number has a chain with members, and every other chain is empty.
 abbrev pub KeepsBoth : Keys → Type 0
 KeepsBoth keys = KeepsKeys 0 keys.arena keys.names × KeepsKeys 1 keys.arena keys.ids
 
@@ -77,12 +81,15 @@ pub record Filed : Type 0 where
 abbrev pub key_of : ℕ → Filed → List ℕ
 key_of family filed = key_in family filed.name filed.key_id
 
+-- whether what stands at a place has this key, the name in family 0 and the id's bytes in family 1
 abbrev pub has_key : ℕ → List ℕ → Filed → Bool
 has_key family key filed = is_same_text (key_of family filed) key
 
+-- the member of a chain that it is: its place, and the id of its dump
 abbrev pub stand_for : Filed → Stand
 stand_for filed = stand_at filed.place filed.id
 
+-- the members that have a key in a family, in the order of the list
 abbrev pub stands_by : ℕ → List ℕ → List Filed → List Stand
 stands_by family key fs = map stand_for (filter (has_key family key) fs)
 
@@ -97,5 +104,6 @@ pub record StoresKeys (keys : Keys) (places : ℕ) (fs : List Filed) : Type 0 wh
 abbrev pub filed_record : Entry → Filed
 filed_record entry = record { place = entry.place; id = entry.dump.id; name = entry.dump.set; key_id = entry.dump.initial }
 
+-- each record as it stands by the name of its volume set and by its initial id, in the same order
 abbrev pub filed_records : List Entry → List Filed
 filed_records = map filed_record

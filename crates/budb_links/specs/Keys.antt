@@ -17,6 +17,7 @@ pub record Numbering : Type 0 where
   pub used : List Numbered
   pub spare : List ℕ
 
+-- a key in its bytes, with the number that it has
 abbrev pub numbered : List ℕ → ℕ → Numbered
 numbered key number = record { key = key; number = number }
 

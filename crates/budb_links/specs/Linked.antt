@@ -15,5 +15,6 @@ pub record Linked : Type 0 where
 abbrev pub listed : Linked → List DumpRecordFields
 listed links = dumps_of links.entries
 
+-- the places of the records, in the order of recording
 abbrev pub places : Linked → List ℕ
 places links = places_of links.entries

@@ -12,6 +12,7 @@ use Rattle.budb_links.specs.Keys.{Numbering, numbers_in, number_of}
 abbrev pub slot_at : {X : Type 0} → List (Option X) → ℕ → Option X
 slot_at slots place = slice_index_or slots place None
 
+-- the member of a chain that a record is: its place, and its dump's id
 abbrev pub stand_of : Entry → Stand
 stand_of entry = stand_at entry.place entry.dump.id
 

@@ -30,6 +30,7 @@ pub record Sticks {X : Type 0} (F : Format X) (bytes : List ℕ) (left : ℕ) : 
   pub begun : F.spelled value ≡ good ++ more
   pub here : (b : ℕ) (behind : List ℕ) → bad ≡ b ∷ behind → (x : X) (rest after : List ℕ) → F.Is x → good ++ (b ∷ after) ≡ F.spelled x ++ rest → ⊥
 
+-- What a refused reading tells: how many bytes are left where the value sticks; of `Memory` nothing is said.
 abbrev pub Stops : {X : Type 0} → Format X → List ℕ → ReadFault → Type 0
 Stops F bytes (Bad left) = Sticks F bytes left
 Stops F bytes Memory = Unit {0}
@@ -38,6 +39,7 @@ Stops F bytes Memory = Unit {0}
 abbrev pub both : {X Y : Type 0} → Format X → (X → Format Y) → Format (X × Y)
 both F G = record { Is = λ p. F.Is p.0 × (G p.0).Is p.1; spelled = λ p. F.spelled p.0 ++ (G p.0).spelled p.1 }
 
+-- a value, and one behind it whose form is the same whatever the first one is
 abbrev pub pair : {X Y : Type 0} → Format X → Format Y → Format (X × Y)
 pair F G = both F (λ x. G)
 
@@ -53,12 +55,15 @@ stated n Form = record { Is = OfLength n Form; spelled = λ text. text }
 abbrev pub one_in : ℕ → ℕ → Format ℕ
 one_in low high = record { Is = λ n. (low ≤ n) × (n ≤ high); spelled = λ n. n ∷ [] }
 
+-- a number of two bytes, from the low bound to the high one, both counted in
 abbrev pub two_in : ℕ → ℕ → Format ℕ
 two_in low high = record { Is = λ n. (low ≤ n) × (n ≤ high); spelled = two }
 
+-- any number of four bytes, the most significant one first
 abbrev pub any_four : Format ℕ
 any_four = record { Is = IsFour; spelled = four }
 
+-- a number of four bytes, from the low bound to the high one, both counted in
 abbrev pub four_in : ℕ → ℕ → Format ℕ
 four_in low high = record { Is = λ n. (low ≤ n) × (n ≤ high); spelled = four }
 
@@ -66,9 +71,11 @@ four_in low high = record { Is = λ n. (low ≤ n) × (n ≤ high); spelled = fo
 abbrev pub text1_of : (List ℕ → Type 0) → Format (List ℕ)
 text1_of Form = record { Is = Form; spelled = text1 }
 
+-- a text of this form behind its length in two bytes
 abbrev pub text2_of : (List ℕ → Type 0) → Format (List ℕ)
 text2_of Form = record { Is = Form; spelled = text2 }
 
+-- a name of this form behind its length in one byte, or `None`, for any, as a length of 0
 abbrev pub any_of : (List ℕ → Type 0) → Format (Option (List ℕ))
 any_of Form = record { Is = IsAnyOr Form; spelled = any_or }
 

@@ -6,6 +6,7 @@ use Rattle.bk_text.specs.Alphabets.{IsWord, IsNameByte}
 abbrev pub IsTwo : ℕ → Type 0
 IsTwo n = n ≤ 65535
 
+-- a number that four bytes can tell: at most 4,294,967,295
 abbrev pub IsFour : ℕ → Type 0
 IsFour n = n ≤ 4294967295
 

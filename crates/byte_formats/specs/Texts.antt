@@ -7,6 +7,7 @@ use Rattle.byte_formats.specs.declared.text.Text.{Text}
 use Rattle.byte_formats.specs.declared.text.Text.TheVariants.{Name, Host, SetName, TapeName, Base}
 use Rattle.byte_formats.specs.Forms.{IsBase, base_most}
 
+-- the form of each kind of text
 abbrev pub IsText : Text → List ℕ → Type 0
 IsText Name = IsName
 IsText Host = IsHost
@@ -22,6 +23,7 @@ alphabet_of SetName = NoPeriod
 alphabet_of TapeName = AnyFirst
 alphabet_of Base = AnyFirst
 
+-- how many bytes a text of each kind has at most
 abbrev pub most_of : Text → ℕ
 most_of Name = 31
 most_of Host = 63

@@ -1,5 +1,8 @@
-//! Numbers and texts as they stand in bytes, one behind another: their formats, and reading and writing them. A refusal tells
-//! the place of the first byte after which no value goes on.
+//! Numbers and texts as they stand in bytes, one behind another: their formats, and reading and writing them. A value
+//! that was read is of its form, and the bytes before those that are left are the ones that spell it. A refusal tells
+//! how many bytes are left from the first one with which no value goes on. Enter at `Format` in `specs/Formats.antt`,
+//! then at the calls `read_..` and `put_..`; those of `front_..` read without memory. `budb_changes` and
+//! `tape_frames` stand above; `bk_text` stands below.
 #![tactic(auto)]
 
 mod empty;

@@ -13,6 +13,7 @@ use Rattle.cell_core.specs.Listings.{name_order, most_volumes, free_id, new_id}
 
 -- ---- names
 
+-- the name under which it is stored, by which the list is in order
 abbrev pub name_of : Stored → List ℕ
 name_of s = s.name
 
@@ -24,6 +25,7 @@ stored_as name cell = of_key name_order name_of name cell
 abbrev pub with_stored : Stored → List Stored → List Stored
 with_stored s cell = placed name_order name_of s cell
 
+-- a cell without what stands under a name; the same list where nothing does
 abbrev pub without_stored : List ℕ → List Stored → List Stored
 without_stored name cell = without_key name_order name_of name cell
 
@@ -42,10 +44,12 @@ pub record IsCell (cell : List Stored) : Type 0 where
 
 -- ---- what the rules of lists ask
 
+-- what the rules of lists ask of an image: a volume's id and type, or at which byte it is bad
 abbrev pub standing_of_image : Image → Standing
 standing_of_image (Good volume) = standing.Volume volume.header.id volume.header.kind
 standing_of_image (Bad at) = standing.Bad at
 
+-- what the rules of lists ask of what is stored: the standing of its image, whatever its server and partition
 abbrev pub standing_of : Stored → Standing
 standing_of s = standing_of_image s.image
 
@@ -64,6 +68,7 @@ abbrev pub birth_of_image : Image → ℕ
 birth_of_image (Good volume) = if volume.header.kind == 0 then volume.header.created else 4294967295
 birth_of_image (Bad at) = 4294967295
 
+-- when the read/write volume that stands here was created (seconds since 1970); 4,294,967,295 where none does
 abbrev pub birth_of : Option Stored → ℕ
 birth_of (Some s) = birth_of_image s.image
 birth_of None = 4294967295

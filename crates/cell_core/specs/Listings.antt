@@ -11,6 +11,7 @@ use Rattle.cell_core.specs.declared.standing.Standing.TheVariants.{Volume, Bad}
 abbrev pub name_order : List ℕ → List ℕ → Ordering
 name_order = slice_cmp nat_cmp
 
+-- the most that a cell's list may have, volumes and bad images together
 abbrev pub most_volumes : ℕ
 most_volumes = 65536
 

@@ -8,6 +8,7 @@ use Rattle.cell_core.specs.declared.mem.CellMem.{CellMem}
 abbrev pub cell_list : CellMem → List Stored
 cell_list s = s.volumes.items
 
+-- how many the list has, volumes and bad images together
 abbrev pub cell_size : CellMem → ℕ
 cell_size s = length s.volumes.items
 

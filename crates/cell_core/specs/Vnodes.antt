@@ -11,15 +11,19 @@ use Rattle.cell_core.specs.Orders.{of_key, placed, without_key}
 abbrev pub number_order : ℕ → ℕ → Ordering
 number_order m n = ordering_then (nat_cmp (n % 2) (m % 2)) (nat_cmp m n)
 
+-- the number of a vnode, by which a volume's vnodes are in order
 abbrev pub number_of_vnode : Vnode → ℕ
 number_of_vnode v = v.number
 
+-- the vnode of this number among a volume's vnodes; `None` where it is absent
 abbrev pub vnode_of : ℕ → List Vnode → Option Vnode
 vnode_of number vnodes = of_key number_order number_of_vnode number vnodes
 
+-- a volume's vnodes with one more in its place, instead of the one that has its number
 abbrev pub with_vnode : Vnode → List Vnode → List Vnode
 with_vnode v vnodes = placed number_order number_of_vnode v vnodes
 
+-- a volume's vnodes without the one of this number; the same ones where it is absent
 abbrev pub without_vnode : ℕ → List Vnode → List Vnode
 without_vnode number vnodes = without_key number_order number_of_vnode number vnodes
 

@@ -43,6 +43,7 @@ new_header id name now = record {
   updates = None;
 }
 
+-- a new read/write volume with this id and name, made now (seconds since 1970), with its first directory alone
 abbrev pub new_volume : ℕ → List ℕ → ℕ → VolumeFields
 new_volume id name now = record { header = new_header id name now; vnodes = first_directory now ∷ [] }
 
@@ -81,11 +82,13 @@ abbrev pub removed_where : Option Vnode → ℕ → ℕ → VolumeFields → Res
 removed_where None number now volume = Err NoVnode
 removed_where (Some v) number now volume = Ok (updated_volume (without_vnode number volume.vnodes) volume.header.uniq now volume)
 
+-- a volume after the vnode of this number is removed; `NoVnode` where it is absent
 abbrev pub volume_without : ℕ → ℕ → VolumeFields → Result VolumeFields CellFault
 volume_without number now volume = removed_where (vnode_of number volume.vnodes) number now volume
 
 -- ---- a backup volume
 
+-- the name of a volume's backup volume: the volume's name, and `.backup` behind it
 abbrev pub backup_name : List ℕ → List ℕ
 backup_name name = name ++ backup_ending
 

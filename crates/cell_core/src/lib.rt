@@ -1,5 +1,9 @@
-//! Cells: volumes in the order of their names, clones of them, and file servers that stamp each change. An implementation in
-//! memory stands beside the trait.
+//! Cells: volumes in the order of their names, clones of them, and file servers that stamp each change. An
+//! implementation in memory stands beside the trait. A cell's list is in ascending byte order of the names, each name
+//! once, at most 65,536 of them, and a good image has the name of its volume (`IsCell` in `specs/Cells.antt`). Enter
+//! at the trait `Cell`, and at `CellMem` for a cell in memory; `specs/Calls.antt` says what each call makes of the
+//! list. `dir_cell`, which keeps a cell in a folder, stands above, and so do `dump_job` and `restore_target`;
+//! `dump_stream`, `vnode_model` and `media_core` stand below.
 #![tactic(auto)]
 
 mod answering;

@@ -7,6 +7,7 @@ use Rattle.crash_log.specs.Fit.{Fits, as_read}
 use Rattle.crash_log.specs.declared.state.LogState.{LogState}
 use Rattle.crash_log.specs.declared.log.CrashLog.{CrashLog}
 
+-- its state: its file and limit, what its current slot says, how many bytes were put, and what has to be done first
 abbrev pub state_of : CrashLog → LogState
 state_of log = log.state
 
@@ -14,6 +15,7 @@ state_of log = log.state
 abbrev pub file_of : CrashLog → ℕ
 file_of log = log.state.file
 
+-- the most bytes that it may have; none is put beyond
 abbrev pub limit_of : CrashLog → ℕ
 limit_of log = log.state.limit
 

@@ -76,6 +76,7 @@ pub record IsStale {D : Type 0} (moments : Moments D Image) (seen : D → Image)
   pub stands : Stands (base_of log) (place_in log) (settled_bytes log ((seen media).file log.file)) ((seen media).file log.file)
   pub other_bad : is_good (other_of log) ((seen media).file log.file) ≡ false
 
+-- a state fits its file by what has to be done first: nothing, formatting (blank or damaged), or closing a stale gate
 abbrev pub FitsAs : {D : Type 0} → Needs → Moments D Image → (D → Image) → LogState → D → Type 0
 FitsAs Nothing moments seen log media = IsSound moments seen log media
 FitsAs Blank moments seen log media = IsBlank moments seen log media

@@ -27,9 +27,11 @@ pub record IsFine (p : Place) : Type 0 where
 abbrev pub gate_at : ℕ → List ℕ → ℕ
 gate_at base file = slice_index (span base 1 file) 0
 
+-- what the 23 bytes behind the gate of a slot say: its turn, and where its log starts and how many bytes it has
 abbrev pub place_at : ℕ → List ℕ → Place
 place_at base file = place_of (span (base + 1) 23 file)
 
+-- a place that a good slot may have, with its bytes within a file of this length
 abbrev pub is_fine : Place → ℕ → Bool
 is_fine p long = nat_le p.turn 2 && (nat_le 8192 p.start && (nat_le p.start (2 ^ 40) && (nat_le p.size (2 ^ 38) && nat_le (p.start + p.size) long)))
 

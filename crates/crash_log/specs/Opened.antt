@@ -14,6 +14,7 @@ use Rattle.crash_log.specs.declared.open.Slot.{Slot}
 abbrev pub slot_place : Slot → Place
 slot_place s = record { turn = s.turn; start = s.start; size = s.size }
 
+-- what was read of the slot at a base, 0 or 4096: whether its gate is 1, and what its fields say
 pub record IsSlot (base : ℕ) (file : List ℕ) (s : Slot) : Type 0 where
   pub gate : IsTrue s.open ↔ (gate_at base file ≡ 1)
   pub place : place_at base file ≡ slot_place s
@@ -39,6 +40,7 @@ state_for true false follows first second f limit = at_slot first false false (s
 state_for false true follows first second f limit = at_slot second true false (stale_where first.open) f limit
 state_for false false follows first second f limit = empty_state f limit (Damaged first.open second.open)
 
+-- the state of an opened log, by what was read of both slots, its file's number, its limit and the file's length
 abbrev pub opened_state : Slot → Slot → ℕ → ℕ → ℕ → LogState
 opened_state first second f limit long = state_for (slot_good first long) (slot_good second long) (second.turn == successor first.turn) first second f limit
 

@@ -25,6 +25,7 @@ pub record IsBounded (log : LogState) : Type 0 where
 abbrev pub base_of : LogState → ℕ
 base_of log = if log.second then 4096 else 0
 
+-- where the slot begins that isn't the current one: at 0 or 4096
 abbrev pub other_of : LogState → ℕ
 other_of log = if log.second then 0 else 4096
 
@@ -40,6 +41,7 @@ len_of log = log.size + log.more
 abbrev pub put_bytes : LogState → List ℕ → List ℕ
 put_bytes log file = span log.start (log.size + log.more) file
 
+-- the bytes of the log without what was put since the last commit: those that its current slot names
 abbrev pub settled_bytes : LogState → List ℕ → List ℕ
 settled_bytes log file = span log.start log.size file
 

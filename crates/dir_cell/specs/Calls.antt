@@ -30,6 +30,7 @@ abbrev pub is_of_kind : ℕ → Option Known → Bool
 is_of_kind kind (Some k) = has_kind kind k.standing
 is_of_kind kind None = false
 
+-- what is known, without the backup volume of this name; the same where the name has no backup volume
 abbrev pub without_backup : List ℕ → List Known → List Known
 without_backup name catalog = if is_of_kind 2 (known_as name catalog) then without_known name catalog else catalog
 

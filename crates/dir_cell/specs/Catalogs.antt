@@ -11,9 +11,11 @@ use Rattle.cell_core.specs.Orders.{AreAscending, of_key, placed, without_key}
 use Rattle.cell_core.specs.Listings.{name_order, most_volumes, has_kind}
 use Rattle.dir_cell.specs.declared.known.Known.{Known}
 
+-- the volume name of an image, by which what is known is in order
 abbrev pub name_of : Known → List ℕ
 name_of k = k.name
 
+-- what the rules of lists ask of an image: a volume's id and type, or at which byte it is bad
 abbrev pub standing_of : Known → Standing
 standing_of k = k.standing
 
@@ -25,6 +27,7 @@ known_as name catalog = of_key name_order name_of name catalog
 abbrev pub with_known : Known → List Known → List Known
 with_known k catalog = placed name_order name_of k catalog
 
+-- what is known, without what is known under this name; the same where nothing is
 abbrev pub without_known : List ℕ → List Known → List Known
 without_known name catalog = without_key name_order name_of name catalog
 
@@ -39,10 +42,12 @@ HasPlace name catalog = known_as name catalog ≡ None → length catalog + 1 �
 
 -- ---- what is told
 
+-- what is told of an image: a volume's id, type and latest time (seconds since 1970), or at which byte it is bad
 abbrev pub state_of : Standing → ℕ → EntryState
 state_of (Volume id kind) latest = state.Good id kind latest
 state_of (Bad at) latest = state.Bad at
 
+-- what is told of what is known: its name, its server and partition, and what its image is
 abbrev pub entry_of : Known → VolEntry
 entry_of k = record { name = k.name; server = k.server; partition = k.partition; state = state_of k.standing k.latest }
 

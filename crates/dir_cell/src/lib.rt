@@ -1,5 +1,8 @@
-//! Images in a folder as a cell: files `server/partition/name.vol`, each one whole dump stream. What each is, is judged at
-//! the opening. No clause says what a real folder has; the rules of lists and volumes are those of every cell.
+//! Images in a folder as a cell: files `server/partition/name.vol`, each one whole dump stream. What each is, is
+//! judged at the opening. No clause says what a real folder has; the rules of lists and volumes are those of every
+//! cell. What is known of the images is in ascending byte order of their names, each name once, at most 65,536 of
+//! them (`IsCatalog` in `specs/Catalogs.antt`). Enter at `DirCell::open`, and at `FolderDoors` for all that a program
+//! opens in the current folder. `backup_cli` stands above; `cell_core`, `dump_stream` and `host_edge` stand below.
 #![tactic(auto)]
 
 mod adapter;

@@ -6,6 +6,7 @@ use Rattle.dump_levels.specs.declared.calendar.Day.{Day}
 abbrev pub is_leap : ℕ → Bool
 is_leap year = (year % 4 == 0) && (not (year % 100 == 0) || (year % 400 == 0))
 
+-- 366 days in a leap year, and 365 in another one
 abbrev pub days_in_year : ℕ → ℕ
 days_in_year year = if is_leap year then 366 else 365
 

@@ -8,9 +8,11 @@ use Rattle.bk_text.specs.Blanks.{words_of}
 use Rattle.bk_text.specs.Digits.{digits_of}
 use Rattle.dump_levels.specs.Calendar.{is_day, second_of}
 
+-- the '/' between month, day and year
 abbrev pub is_slash : ℕ → Bool
 is_slash b = b == 47
 
+-- the ':' between hour and minute
 abbrev pub is_colon : ℕ → Bool
 is_colon b = b == 58
 

@@ -13,9 +13,11 @@ use Rattle.dump_levels.specs.Dates.{day_of, date_says}
 abbrev pub at_word : List ℕ
 at_word = codes "at"
 
+-- "in", which stands before a span of time after a dump, and is read in either case
 abbrev pub in_word : List ℕ
 in_word = codes "in"
 
+-- "never", in place of a date: the dumps never expire; it is read in either case
 abbrev pub never_word : List ℕ
 never_word = codes "never"
 
@@ -48,6 +50,7 @@ abbrev pub never_says : ℕ → List (List ℕ) → Result Expiry DateFault
 never_says at [] = Ok Never
 never_says at (word ∷ rest) = Err (BadDate at)
 
+-- the expiration at a second since 1970 in UTC, or the fault of its date
 abbrev pub at_moment : Result ℕ DateFault → Result Expiry DateFault
 at_moment (Ok second) = Ok (At second)
 at_moment (Err fault) = Err fault
@@ -69,5 +72,6 @@ expiry_says (word ∷ rest) =
     if is_same_word word in_word then span_says 1 rest else
     if begins_moment word then moment_says 0 (word ∷ rest) else span_says 0 (word ∷ rest)
 
+-- the expiration that a text tells, or why it tells none; a word that doesn't fit is told by its number from 0 on
 abbrev pub expiry_of : List ℕ → Result Expiry DateFault
 expiry_of text = expiry_says (words_of text)

@@ -14,6 +14,7 @@ use Rattle.dump_stream.specs.Forms.{IsBytes}
 abbrev pub IsShort : ℕ → Type 0
 IsShort n = n < 2 ^ 16
 
+-- a number of four bytes: below 2^32, as ids, counts and times in seconds since 1970 are
 abbrev pub IsNumber : ℕ → Type 0
 IsNumber n = n < 2 ^ 32
 
@@ -64,6 +65,7 @@ pub record AllowedVnode (v : Vnode) : Type 0 where
   pub access_len : length v.access ≡ 192
   pub body : IsBytes v.body
 
+-- a whole vnode's fields have their widths, and so do the number and the uniquifier of a kept one
 abbrev pub AllowedEntry : Entry → Type 0
 AllowedEntry (Whole v) = AllowedVnode v
 AllowedEntry (Kept number uniq) = IsNumber number × IsNumber uniq
@@ -80,6 +82,7 @@ pub record Allowed (i : Increment) : Type 0 where
 
 -- ---- parts of these, for the proof that every value of the types keeps them
 
+-- the header's ids, its stamp and its uniquifier have four bytes each, in service and blessed one
 pub record AllowedIds (h : HeaderFields) : Type 0 where
   pub id : IsNumber h.id
   pub stamp : IsNumber h.stamp
@@ -89,6 +92,7 @@ pub record AllowedIds (h : HeaderFields) : Type 0 where
   pub parent : IsNumber h.parent
   pub clone_id : IsNumber h.clone_id
 
+-- the header's quotas, its disk use, its count of files, its account and its owner have four bytes each
 pub record AllowedCounts (h : HeaderFields) : Type 0 where
   pub max_quota : IsNumber h.max_quota
   pub min_quota : IsNumber h.min_quota
@@ -97,6 +101,7 @@ pub record AllowedCounts (h : HeaderFields) : Type 0 where
   pub account : IsNumber h.account
   pub owner : IsNumber h.owner
 
+-- the header's five times, in seconds since 1970, have four bytes each
 pub record AllowedTimes (h : HeaderFields) : Type 0 where
   pub created : IsNumber h.created
   pub accessed : IsNumber h.accessed
@@ -104,6 +109,7 @@ pub record AllowedTimes (h : HeaderFields) : Type 0 where
   pub expires : IsNumber h.expires
   pub backed_up : IsNumber h.backed_up
 
+-- A week has seven numbers of four bytes, the day's date and uses one each, and so has an update counter, if any.
 pub record AllowedUses (h : HeaderFields) : Type 0 where
   pub week : All IsNumber h.week
   pub days : length h.week ≡ 7
@@ -111,6 +117,7 @@ pub record AllowedUses (h : HeaderFields) : Type 0 where
   pub day_use : IsNumber h.day_use
   pub updates : IfSome h.updates IsNumber
 
+-- a vnode's numbers up to its author have their widths: the count of links two bytes, the others four
 pub record AllowedNumbers (v : Vnode) : Type 0 where
   pub number : IsNumber v.number
   pub uniq : IsNumber v.uniq

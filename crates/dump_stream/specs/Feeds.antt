@@ -20,6 +20,7 @@ FeedAnswers bytes piece (Err Cut) = ⊥
 FeedAnswers bytes piece (Err (Bad at)) = Answers (bytes ++ piece) (Err (Bad at))
 FeedAnswers bytes piece (Err Memory) = Answers (bytes ++ piece) (Err Memory)
 
+-- how a reader's machine, count of bytes and state stand after these bytes; of a lost one nothing is said
 abbrev pub HasFedAt : List ℕ → Machine → ℕ → State → Type 0
 HasFedAt bytes m count states.Going = IsAt bytes m × (count ≡ length bytes)
 HasFedAt bytes m count (states.Finished i) = (n : ℕ) × Answers bytes (Ok (i, n))
@@ -31,6 +32,7 @@ HasFedAt bytes m count states.Lost = Unit {0}
 unfoldable pub HasFed : List ℕ → Reader → Type 0
 HasFed bytes r = HasFedAt bytes r.machine r.count r.state
 
+-- What `finish` answers is what reading these bytes answers, but for the length of the stream.
 abbrev pub FinishAnswers : List ℕ → Result Increment StreamFault → Type 0
 FinishAnswers bytes (Ok i) = (n : ℕ) × Answers bytes (Ok (i, n))
 FinishAnswers bytes (Err e) = Answers bytes (Err e)
@@ -71,6 +73,7 @@ IsUnfinishedAt states.Lost m = Unit {0}
 unfoldable pub IsUnfinished : Reader → Type 0
 IsUnfinished r = IsUnfinishedAt r.state r.machine
 
+-- After each answer but Done no stream has ended in the reader; after Done nothing is said.
 abbrev pub StaysUnfinished : Result Fed StreamFault → Reader → Type 0
 StaysUnfinished (Ok (Done used)) r = Unit {0}
 StaysUnfinished (Ok More) r = IsUnfinished r

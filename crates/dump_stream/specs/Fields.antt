@@ -14,6 +14,7 @@ abbrev pub payload_of : ℕ → List Field → Option (List ℕ)
 payload_of tag [] = None
 payload_of tag (f ∷ fs) = if f.tag == tag then Some f.payload else payload_of tag fs
 
+-- whether one of the fields has this tag
 abbrev pub has : ℕ → List Field → Bool
 has tag fs = is_some (payload_of tag fs)
 
@@ -43,6 +44,7 @@ abbrev pub number : Option (List ℕ) → ℕ → ℕ
 number None at = 0
 number (Some p) at = number_from at p
 
+-- the first byte behind a tag, or 0 where the field is absent
 abbrev pub byte : Option (List ℕ) → ℕ
 byte None = 0
 byte (Some p) = slice_index p 0
@@ -52,10 +54,12 @@ abbrev pub string : Option (List ℕ) → List ℕ
 string None = []
 string (Some p) = take (length p - 1) p
 
+-- a number of two bytes, the most significant one first, or 0 where the field is absent
 abbrev pub short : Option (List ℕ) → ℕ
 short None = 0
 short (Some p) = from_be_bytes w16 p
 
+-- the bytes behind a tag, or the given ones where the field is absent
 abbrev pub bytes_or : Option (List ℕ) → List ℕ → List ℕ
 bytes_or None d = d
 bytes_or (Some p) d = p
@@ -66,9 +70,11 @@ body None None = []
 body None (Some q) = drop 8 q
 body (Some p) o = drop 4 p
 
+-- a vnode's data, from f (a length of four bytes) or else from h (one of eight); empty where both are absent
 abbrev pub body_of : List Field → List ℕ
 body_of fs = body (payload_of 102 fs) (payload_of 104 fs)
 
+-- a number of four bytes, or None where the field is absent
 abbrev pub if_there : Option (List ℕ) → Option ℕ
 if_there None = None
 if_there (Some p) = Some (number_from 0 p)

@@ -9,6 +9,7 @@ use Rattle.dump_stream.specs.declared.form.Form.TheVariants.{Exact, Opening, Clo
 use Rattle.dump_stream.specs.declared.form.Verdict.{Verdict}
 use Rattle.dump_stream.specs.declared.form.Verdict.TheVariants.{Whole, More, Never}
 
+-- each of these numbers is a byte: below 256
 abbrev pub IsBytes : List ℕ → Type 0
 IsBytes bytes = All (λ b. b < 256) bytes
 
@@ -16,6 +17,7 @@ IsBytes bytes = All (λ b. b < 256) bytes
 abbrev pub opening : List ℕ
 opening = 0xb3 ∷ 0xa1 ∷ 0x13 ∷ 0x22 ∷ 0 ∷ 0 ∷ 0 ∷ 1 ∷ []
 
+-- the four bytes behind the byte 4 at the end of a stream
 abbrev pub closing : List ℕ
 closing = 0x3a ∷ 0x21 ∷ 0x4b ∷ 0x6e ∷ []
 
@@ -37,6 +39,7 @@ abbrev pub size_len : Bool → ℕ
 size_len true = 8
 size_len false = 4
 
+-- the length in bytes that stands before data: a number of eight bytes, or of four
 abbrev pub size_in : Bool → List ℕ → ℕ
 size_in true p = from_be_bytes w64 p
 size_in false p = from_be_bytes w32 p
@@ -69,5 +72,6 @@ Judges P p Whole = P p
 Judges P p More = (P p → ⊥) × (q : List ℕ) × P (p ++ q)
 Judges P p Never = (q : List ℕ) → P (p ++ q) → ⊥
 
+-- these bytes, and so many more, each of them below 256
 abbrev pub IsFixedBytes : List ℕ → ℕ → List ℕ → Type 0
 IsFixedBytes front count p = IsBytes p × IsFixed front count p

@@ -49,6 +49,7 @@ IsOpenAt reader judgements.Going = IsUnfinished reader × IsGoing reader
 IsOpenAt reader (judgements.Ended at) = IsDone reader
 IsOpenAt reader (judgements.Bad at) = ⊤
 
+-- a reader of a whole input that may take the next piece, or be asked what the input is
 abbrev pub IsOpen : InputReader → Type 0
 IsOpen input = IsOpenAt input.reader input.judged
 

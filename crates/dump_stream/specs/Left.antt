@@ -27,6 +27,7 @@ behind vnodes since step =
 abbrev pub here : List Vnode → ℕ → Place → List ℕ
 here vnodes since place = drop place.taken place.part ++ drop place.given (step_data vnodes since place.step)
 
+-- all bytes of the stream that weren't given: those of this step and those of all later ones
 abbrev pub left : List Vnode → ℕ → Place → List ℕ
 left vnodes since place = here vnodes since place ++ behind vnodes since place.step
 

@@ -20,6 +20,7 @@ use Rattle.vnode_model.specs.Limits.{most_vnodes, all_data}
 abbrev pub field_at : Table → List Field → ℕ → Option Form
 field_at table fs tag = if used tag fs then None else table tag
 
+-- the form of the bytes behind this tag, or None where the tag may not stand here
 abbrev pub form_at : Sofar → ℕ → Option Form
 form_at Start tag = if tag == 1 then Some forms.Opening else None
 form_at (Dump fs) tag =
@@ -32,15 +33,19 @@ form_at (Vnode made room n uniq fs) tag =
     if tag == 4 then (if is_typed fs then Some forms.Closing else None) else field_at (vnode_table n room) fs tag
 form_at (Ended made) tag = None
 
+-- the increment so far, with one more entry at its end
 abbrev pub with_entry : Increment → Entry → Increment
 with_entry made e = record made { entries = made.entries ++ e ∷ [] }
 
+-- the increment that the two headers begin: it has no entry yet
 abbrev pub begun : DumpHead → List Field → Increment
 begun dump fs = increment dump (header_of fs) []
 
+-- the fields so far, with one more at their end: this tag and the bytes behind it
 abbrev pub with_field : List Field → ℕ → List ℕ → List Field
 with_field fs tag p = fs ++ record { tag = tag; payload = p } ∷ []
 
+-- where reading stands behind a tag and all its bytes: one more field, the next section, or the end of the stream
 abbrev pub after : Sofar → ℕ → List ℕ → Sofar
 after Start tag p = Dump []
 after (Dump fs) tag p = if tag == 2 then Volume (dump_of fs) [] else Dump (with_field fs tag p)
@@ -66,12 +71,15 @@ Payload form p K bytes = (q : List ℕ) × (rest : List ℕ) × (bytes ≡ q ++ 
 abbrev pub Sections : ℕ → ℕ → ℕ → Increment → Increment → List ℕ → Type 0
 Sections count room last made i bytes = (ss : List Section) × AreSections count room last ss × (bytes ≡ flat_map section ss ++ 4 ∷ closing) × (i ≡ record made { entries = made.entries ++ map entry ss })
 
+-- This vnode's fields are complete, and the bytes are the vnode sections behind it and the end; the stream says i.
 abbrev pub AfterVnode : Increment → ℕ → ℕ → ℕ → Increment → List Field → List ℕ → Type 0
 AfterVnode made room n uniq i fs bytes = (is_typed fs ≡ true) × Sections (length made.entries + 1) (room - length (body_of fs)) n (with_entry made (entry_of n uniq fs)) i bytes
 
+-- The volume header has a name, and the bytes are all vnode sections and the end; the stream says i.
 abbrev pub AfterHeader : DumpHead → Increment → List Field → List ℕ → Type 0
 AfterHeader dump i fs bytes = IsNamed fs × Sections 0 all_data 0 (begun dump fs) i bytes
 
+-- The dump header has a name, and the bytes are the byte 2, the volume header and the rest; the stream says i.
 abbrev pub AfterDump : Increment → List Field → List ℕ → Type 0
 AfterDump i fs bytes = IsNamed fs × (rest : List ℕ) × (bytes ≡ 2 ∷ rest) × Fields header_table [] (AfterHeader (dump_of fs) i) rest
 

@@ -16,11 +16,13 @@ use Rattle.dump_stream.specs.Written.{byte_field, short_field, number_field, tex
 abbrev pub most : ℕ
 most = 2304
 
+-- a field with a number of four bytes for each pair of a tag and a number, in this order
 abbrev pub number_fields : List (ℕ × ℕ) → List Field
 number_fields fields = map (λ f. number_field f.0 f.1) fields
 
 -- ---- the headers
 
+-- the dump header's fields: its id (v), its name (n) and two times in seconds since 1970 (t)
 abbrev pub dump_fields_of : ℕ → List ℕ → ℕ → ℕ → List Field
 dump_fields_of id name from to = number_field 118 id ∷ text_field 110 name ∷ times_field 116 from to ∷ []
 
@@ -36,6 +38,7 @@ first_fields h =
     ∷ byte_field 116 h.kind
     ∷ []
 
+-- the volume header's 13 numbers of four bytes, from its parent (p) to its backup time (B)
 abbrev pub middle_fields : HeaderFields → List Field
 middle_fields h =
     number_field 112 h.parent
@@ -53,6 +56,7 @@ middle_fields h =
     ∷ number_field 66 h.backed_up
     ∷ []
 
+-- the volume header's messages (O, M), uses of a week (W) and of a day (D, Z), and update counter (V), if any
 abbrev pub last_fields : HeaderFields → List Field
 last_fields h =
     text_field 79 h.offline
@@ -62,11 +66,13 @@ last_fields h =
     ∷ number_field 90 h.day_use
     ∷ updates_fields h.updates
 
+-- the bytes of a stream up to its first vnode: the opening, the dump header and the volume header
 abbrev pub headers : ℕ → List ℕ → ℕ → ℕ → HeaderFields → List ℕ
 headers id name from to h = 1 ∷ opening ++ flat_map spelled (dump_fields_of id name from to) ++ 2 ∷ flat_map spelled (header_fields h)
 
 -- ---- a vnode's section
 
+-- a vnode's fields from its type (t) to its group (g), which is there only where it isn't 0
 abbrev pub early_fields : Vnode → List Field
 early_fields v =
     byte_field 116 (kind_byte v.kind)
@@ -77,6 +83,7 @@ early_fields v =
     ∷ number_field 111 v.owner
     ∷ group_fields v.group
 
+-- a vnode's fields from its mode (b) up to its data; only a directory has an access list (A)
 abbrev pub late_fields : Vnode → List Field
 late_fields v =
     short_field 98 v.mode
@@ -84,6 +91,7 @@ late_fields v =
     ∷ number_field 115 v.server_modified
     ∷ access_fields v.kind v.access
 
+-- the first 9 bytes of a vnode's section: the byte 3, its number and its uniquifier
 abbrev pub kept_head : ℕ → ℕ → List ℕ
 kept_head number uniq = 3 ∷ to_be_bytes w32 number ++ to_be_bytes w32 uniq
 
@@ -95,10 +103,12 @@ whole_head v =
     ++ flat_map spelled (late_fields v)
     ++ 102 ∷ to_be_bytes w32 (length v.body)
 
+-- an entry's section up to its data; of a vnode by number alone it is the whole section
 abbrev pub head_of : Entry → List ℕ
 head_of (Whole v) = whole_head v
 head_of (Kept number uniq) = kept_head number uniq
 
+-- an entry's data in bytes; a vnode by number alone has none
 abbrev pub data_of : Entry → List ℕ
 data_of (Whole v) = v.body
 data_of (Kept number uniq) = []

@@ -31,6 +31,7 @@ pub record MayFollow (entries : List Entry) (room n : ℕ) : Type 0 where
   pub behind : All (λ m. StandsBefore m n) (map number_of entries)
   pub room_left : room + sum_by data_len entries ≡ all_data
 
+-- The fields of this section keep its table, and the entries so far the order, the parity and the limits.
 abbrev pub IsSound : Sofar → Type 0
 IsSound Start = Unit {0}
 IsSound (Dump fs) = AreFields dump_table [] fs
@@ -38,13 +39,16 @@ IsSound (Volume dump fs) = AreFields header_table [] fs
 IsSound (Vnode made room n uniq fs) = AreFields (vnode_table n room) [] fs × MayFollow made.entries room n
 IsSound (Ended made) = AreFit made.entries
 
+-- what a machine has read is sound, and behind a tag it waits for the form that the tag has there
 abbrev pub IsSoundMachine : Machine → Type 0
 IsSoundMachine m = IsSound m.sofar × IfSome m.form (λ form. form_at m.sofar m.tag ≡ Some form)
 
+-- the machine is sound where the byte fits (true); where it doesn't, nothing is said
 abbrev pub SoundWhile : Bool → Machine → Type 0
 SoundWhile true m = IsSoundMachine m
 SoundWhile false m = Unit {0}
 
+-- after a piece the machine is sound, and where a stream ended, it stands at its end; of a refusal nothing is said
 abbrev pub SoundAfter : Ran → Machine → Type 0
 SoundAfter rans.More m = IsSoundMachine m
 SoundAfter (rans.Ended used) m = IsSoundMachine m × HasEnded m

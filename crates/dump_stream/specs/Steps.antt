@@ -13,6 +13,7 @@ use Rattle.dump_stream.specs.Machine.{Payload, after, Rest}
 abbrev pub Inside : Form → Sofar → ℕ → List ℕ → List ℕ → Increment → Type 0
 Inside form sofar tag p bytes i = Payload form p (λ q r. Rest (after sofar tag q) r i) bytes
 
+-- These bytes end a stream that says i: from between two fields (None), or from behind a tag and its first bytes p.
 abbrev pub RestAt : Option Form → Sofar → ℕ → List ℕ → List ℕ → Increment → Type 0
 RestAt None sofar tag p bytes i = Rest sofar bytes i
 RestAt (Some form) sofar tag p bytes i = Inside form sofar tag p bytes i
@@ -21,6 +22,7 @@ RestAt (Some form) sofar tag p bytes i = Inside form sofar tag p bytes i
 abbrev pub Ends : Machine → List ℕ → Increment → Type 0
 Ends m bytes i = RestAt m.form m.sofar m.tag m.payload bytes i
 
+-- the bytes p so far begin the form and aren't all of it; between two fields (None) nothing is said
 abbrev pub GoesOnAt : Option Form → List ℕ → Type 0
 GoesOnAt None p = Unit {0}
 GoesOnAt (Some form) p = Judges (IsWhole form) p More
@@ -37,6 +39,7 @@ Moves Before new = GoesOn new × ((bytes : List ℕ) (i : Increment) → Before 
 abbrev pub IsDead : (List ℕ → Increment → Type 0) → Type 0
 IsDead Before = (bytes : List ℕ) (i : Increment) → Before bytes i → ⊥
 
+-- Where the byte fits (true), the machine moves on to the new place; where it doesn't, nothing ends a stream.
 abbrev pub Steps : (List ℕ → Increment → Type 0) → Bool → Machine → Type 0
 Steps Before true new = Moves Before new
 Steps Before false new = IsDead Before
@@ -45,5 +48,6 @@ Steps Before false new = IsDead Before
 abbrev pub EndsWith : Machine → Increment → Type 0
 EndsWith m i = (m.form ≡ None) × (m.sofar ≡ Ended i)
 
+-- a stream has ended, whatever it says
 abbrev pub HasEnded : Machine → Type 0
 HasEnded m = (i : Increment) × EndsWith m i

@@ -22,6 +22,7 @@ dump_table tag =
     if tag == 110 then Some forms.Name else  -- n
     if tag == 116 then Some forms.Times else None  -- t
 
+-- the 26 tags of the volume header, and the form of the bytes behind each; None for any other tag
 abbrev pub header_table : Table
 header_table tag =
     if tag == 105 then Some (forms.Exact 4) else  -- i
@@ -79,9 +80,11 @@ dump_of fs = record {
   to = number (payload_of 116 fs) 6;
 }
 
+-- the uses on seven days, numbers of four bytes behind a count of two bytes; zeros where the field is absent
 abbrev pub week_of : Option (List ℕ) → List ℕ
 week_of o = number o 2 ∷ number o 6 ∷ number o 10 ∷ number o 14 ∷ number o 18 ∷ number o 22 ∷ number o 26 ∷ []
 
+-- the volume header that the fields say: an absent number is 0, an absent text empty, an absent update counter None
 abbrev pub header_of : List Field → HeaderFields
 header_of fs = record {
   id = number (payload_of 105 fs) 0;
@@ -116,6 +119,7 @@ header_of fs = record {
 abbrev pub kind_of : ℕ → VnodeKind
 kind_of byte = if byte == 1 then File else if byte == 2 then Directory else Symlink
 
+-- the vnode of this number and uniquifier that the fields say: an absent number is 0, an absent access list zeros
 abbrev pub vnode_of : ℕ → ℕ → List Field → Vnode
 vnode_of n uniq fs = record {
   number = n;
@@ -143,6 +147,7 @@ entry_of n uniq (f ∷ fs) = Whole (vnode_of n uniq (f ∷ fs))
 abbrev pub IsNamed : List Field → Type 0
 IsNamed fs = has 110 fs ≡ true
 
+-- a vnode's fields are none at all, or its type (t) is among them
 abbrev pub is_typed : List Field → Bool
 is_typed [] = true
 is_typed (f ∷ fs) = has 116 (f ∷ fs)
@@ -152,12 +157,15 @@ pub record Section : Type 0 where
   pub head : List ℕ
   pub fields : List Field
 
+-- the bytes of a vnode section: the byte 3, its number and uniquifier, and its fields one behind the other
 abbrev pub section : Section → List ℕ
 section s = 3 ∷ s.head ++ flat_map spelled s.fields
 
+-- the entry that a section says: its number is the first four bytes of its head, its uniquifier the next four
 abbrev pub entry : Section → Entry
 entry s = entry_of (number_from 0 s.head) (number_from 4 s.head) s.fields
 
+-- a section that may follow the vnode of number `last` (0 for none), where there is room for so many bytes of data
 pub record IsSection (room last : ℕ) (s : Section) : Type 0 where
   pub numbered : IsWhole (forms.Vnode last) s.head
   pub listed : AreFields (vnode_table (number_from 0 s.head) room) [] s.fields

@@ -16,33 +16,42 @@ use Rattle.dump_stream.specs.Stream.{Section, section}
 
 -- ---- fields by the kind of what they say; a number's most significant byte comes first
 
+-- a field: this tag, and these bytes behind it
 abbrev pub field : ℕ → List ℕ → Field
 field tag p = record { tag = tag; payload = p }
 
+-- a field of one byte
 abbrev pub byte_field : ℕ → ℕ → Field
 byte_field tag b = field tag (b ∷ [])
 
+-- a field with a number of two bytes
 abbrev pub short_field : ℕ → ℕ → Field
 short_field tag n = field tag (to_be_bytes w16 n)
 
+-- a field with a number of four bytes: an id, a count, or a time in seconds since 1970
 abbrev pub number_field : ℕ → ℕ → Field
 number_field tag n = field tag (to_be_bytes w32 n)
 
+-- a field with a text, which a 0 byte ends
 abbrev pub text_field : ℕ → List ℕ → Field
 text_field tag text = field tag (text ++ 0 ∷ [])
 
+-- a field with two times in seconds since 1970, behind their count, 2, in two bytes
 abbrev pub times_field : ℕ → ℕ → ℕ → Field
 times_field tag from to = field tag (to_be_bytes w16 2 ++ to_be_bytes w32 from ++ to_be_bytes w32 to)
 
+-- a field with the uses on seven days, four bytes each, behind their count, 7, in two bytes
 abbrev pub week_field : ℕ → List ℕ → Field
 week_field tag week = field tag (to_be_bytes w16 7 ++ flat_map (to_be_bytes w32) week)
 
+-- a field with data, behind their length in bytes, a number of four bytes
 abbrev pub data_field : ℕ → List ℕ → Field
 data_field tag body = field tag (to_be_bytes w32 (length body) ++ body)
 
 -- ---- the fields of each section, in the writer's order; a number is written also where it is 0, a text also where it
 -- is empty
 
+-- the dump header's fields: its id, its name, and the times from and to, in seconds since 1970
 abbrev pub dump_fields : Increment → List Field
 dump_fields i =
     number_field 118 i.dump_id  -- v
@@ -55,6 +64,7 @@ abbrev pub updates_fields : Option ℕ → List Field
 updates_fields None = []
 updates_fields (Some n) = number_field 86 n ∷ []  -- V
 
+-- the volume header's 25 fields, and its update counter where there is one
 abbrev pub header_fields : HeaderFields → List Field
 header_fields h =
     number_field 105 h.id  -- i
@@ -100,6 +110,7 @@ access_fields File access = []
 access_fields Directory access = field 65 access ∷ []  -- A
 access_fields Symlink access = []
 
+-- a whole vnode's fields, from its type (t) to its data (f)
 abbrev pub vnode_fields : Vnode → List Field
 vnode_fields v =
     byte_field 116 (kind_byte v.kind)  -- t

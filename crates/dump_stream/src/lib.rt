@@ -1,4 +1,14 @@
-//! AFS volume dump format, version 1: what its streams say, and their reader.
+//! AFS volume dump format, version 1: what its streams say, their reader and their writer. What bytes say is `Spells`
+//! in `specs/Stream.antt`; what is written of an increment is `written` in `specs/Written.antt`. No bytes say two
+//! things, and no stream is the front of another (`no_stream_begins_another`).
+//!
+//! A `Reader` answers each piece as `read` answers all bytes that were fed so far (`FeedAnswers` in
+//! `specs/Feeds.antt`), and a `Writer` is the bytes of its volume's stream that weren't given yet (`left` in
+//! `specs/Left.antt`).
+//!
+//! Enter at `read` for bytes at hand, at `Reader` for a stream in pieces, at `InputReader` for an input that is to be
+//! one stream; at `Writer` for a volume's stream in pieces, at `write` for an increment. `cell_core`, `dump_job`,
+//! `archive_model` and `restore_chain` stand above; `vnode_model` and `bk_text` stand below.
 #![tactic(auto)]
 
 mod answers;

@@ -8,6 +8,7 @@ use Rattle.host_edge.specs.declared.opening.Place.TheVariants as places
 use Rattle.host_edge.specs.declared.opening.Unopened.{Unopened}
 use Rattle.host_edge.specs.declared.opening.Opened.{Opened}
 
+-- the program's exit status where this place can't be opened, for another cause than want of memory
 abbrev pub number_of_place : Place → ℕ
 number_of_place places.Media = 4
 number_of_place places.Cell = 5
@@ -19,6 +20,7 @@ number_of_fault place (Unreadable path cause) = number_of_place place
 number_of_fault place TooMany = number_of_place place
 number_of_fault place Memory = 6
 
+-- the program's exit status where something couldn't be opened: 6 for want of memory, else 4, 5 or 11 by its place
 abbrev pub exit_number : Unopened → ℕ
 exit_number unopened = number_of_fault unopened.at unopened.fault
 

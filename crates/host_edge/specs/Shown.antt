@@ -15,6 +15,7 @@ output_of media = media.output
 abbrev pub faults_of : {R F W : Type 0} → DirMedia R F W → ℕ
 faults_of media = media.faults
 
+-- how often a call on the output was refused since the opening
 abbrev pub tell_faults_of : {R F W : Type 0} → DirMedia R F W → ℕ
 tell_faults_of media = media.tell_faults
 

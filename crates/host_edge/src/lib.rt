@@ -1,8 +1,11 @@
-//! The system as media, clock and source: files in a folder, standard input and the system's clock. This is the trusted
-//! edge: no clause says what a real file, stream or clock gives.
+//! The system as media, clock and source: files in a folder, standard input and the system's clock. This is the
+//! trusted edge: no clause says what a real file, stream or clock gives. A `DirMedia` always has the journal and 256
+//! slots, each with a file or none (`all_slots`). Enter at `open_all`, which opens what a program needs in its order,
+//! at `DirMedia::open`, and at `SysClock` and `StdSource`. `dir_cell`, `backup_top` and `backup_program` stand above;
+//! `media_core` and `crash_moments` stand below.
 //!
-//! Writing past the file size limit of a process ends it with a signal that the standard library cannot catch. What the files
-//! then have is what a crash leaves.
+//! Writing past the file size limit of a process ends it with a signal that the standard library cannot catch. What
+//! the files then have is what a crash leaves.
 #![tactic(auto)]
 
 mod apart;

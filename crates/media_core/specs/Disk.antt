@@ -8,6 +8,7 @@ pub record Range : Type 0 where
   pub at : ℕ
   pub size : ℕ
 
+-- a byte, counted from 0 in its file, lies in one of these ranges
 abbrev pub covers : List Range → ℕ → Bool
 covers [] i = false
 covers (r ∷ rs) i = if nat_le r.at i && nat_lt i (r.at + r.size) then true else covers rs i
@@ -31,6 +32,7 @@ pub record HasFront (pieces : List Piece) (c : List ℕ) : Type 0 where
   pub size : ℕ
   pub is : c ≡ piece.before ++ take size piece.bytes
 
+-- what a crash may leave of the output: what was there at the start, or all before some piece with a front of it
 abbrev pub OutputMayLeave : List ℕ → List Piece → List ℕ → Type 0
 OutputMayLeave first pieces c = (c ≡ first) ⊎ HasFront pieces c
 
@@ -40,6 +42,7 @@ pub record IsFilled (byte : ℕ) (bytes : List ℕ) (loose : List Range) (c : Li
   pub size : length c ≡ length bytes
   pub each : (i : ℕ) → i < length c → slice_index c i ≡ (if covers loose i then byte else slice_index bytes i)
 
+-- what a pick makes of a file, by its bytes of the last sync, those that a read gives, and the ranges written since
 abbrev pub IsPicked : Pick → List ℕ → List ℕ → List Range → List ℕ → Type 0
 IsPicked Old synced bytes loose c = c ≡ synced
 IsPicked New synced bytes loose c = c ≡ bytes

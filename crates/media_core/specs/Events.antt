@@ -84,6 +84,7 @@ pub record TellsMore (old new : List Event) (piece : List ℕ) : Type 0 where
   pub is : kept.items ≡ piece
   pub more : new ≡ old ++ Tell kept ∷ []
 
+-- a crash after these events may leave these bytes of the file of a number
 abbrev pub LeftAfter : List Event → ℕ → List ℕ → Type 0
 LeftAfter es = FileLeft (after es blank)
 

@@ -22,9 +22,11 @@ seen_of m = seen_after m.past.items
 abbrev pub moments_of : Moments MemMedia Image
 moments_of = history events_of IsLeft
 
+-- how many files there are, with those that are away
 abbrev pub count_of : MemMedia → ℕ
 count_of m = length m.away.items
 
+-- the file of a number is here: it isn't away, and it isn't past the last one
 abbrev pub present_of : MemMedia → ℕ → Bool
 present_of m f = is_here m.away.items f
 
@@ -36,9 +38,11 @@ plan_of m = m.failures.plan
 abbrev pub faults_of : MemMedia → ℕ
 faults_of m = m.failures.faults
 
+-- how often a call on the output failed; it ends at 2^64 - 1
 abbrev pub tell_faults_of : MemMedia → ℕ
 tell_faults_of m = m.failures.tell_faults
 
+-- how many growths of memory were refused; it ends at 2^64 - 1
 abbrev pub wants_of : MemMedia → ℕ
 wants_of m = m.failures.wants
 

@@ -10,6 +10,7 @@ pub record Image : Type 0 where
 abbrev pub written : ℕ → List ℕ → List ℕ → List ℕ
 written at bytes old = take at old ++ bytes ++ drop (at + length bytes) old
 
+-- a file is as it was but for these bytes, which are written at this offset
 abbrev pub Holds : ℕ → List ℕ → List ℕ → List ℕ → Type 0
 Holds at bytes old new = new ≡ written at bytes old
 

@@ -36,6 +36,7 @@ is_planned p = if is_stopped p then true else is_named p
 abbrev pub one_more : ℕ → ℕ
 one_more n = min (n + 1) (2 ^ 64 - 1)
 
+-- a count with one more where this is so, else the count as it was
 abbrev pub more_where : Bool → ℕ → ℕ
 more_where b n = if b then one_more n else n
 

@@ -12,6 +12,7 @@ SameLengths Old files picked = Unit {0}
 SameLengths New files picked = (k : ℕ) → length (file_bytes picked k) ≡ length (file_bytes files k)
 SameLengths (Torn byte) files picked = (k : ℕ) → length (file_bytes picked k) ≡ length (file_bytes files k)
 
+-- Files played again have what reads give after these events, and the picked ones what the pick makes of them.
 pub record Tracks (pick : Pick) (es : List Event) (files picked : List (Vec ℕ Global)) : Type 0 where
   pub bytes : (k : ℕ) → file_bytes files k ≡ (after es blank).bytes k
   pub left : (k : ℕ) → LeftAfter es k (file_bytes picked k)

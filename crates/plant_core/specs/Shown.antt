@@ -12,6 +12,7 @@ use Rattle.plant_core.specs.Views.{View}
 abbrev pub events_of : MemPlant → List Event
 events_of m = m.past.items
 
+-- what reads give of it and what is settled, after all that was asked
 abbrev pub state_of : MemPlant → State
 state_of m = after m.past.items blank
 

@@ -9,6 +9,7 @@ pub record Stock : Type 0 where
   pub tape : ℕ → List Record
   pub told : List ℕ
 
+-- an empty log that isn't damaged, no record on any tape, and nothing told
 pub record IsNothing (c : Stock) : Type 0 where
   pub log : c.log ≡ Some []
   pub tapes : (k : ℕ) → c.tape k ≡ []

@@ -5,10 +5,12 @@ use Rattle.plant_core.specs.declared.stored.Stored.{Stored}
 use Rattle.plant_core.specs.declared.stored.Stored.TheVariants.{Block, Mark}
 use Rattle.plant_core.specs.Records.{Record, block_with, mark}
 
+-- the record that one in memory stands for: a block with its 16 KiB, or a filemark; none is bad
 abbrev pub record_of : Stored → Record
 record_of (Block bytes) = block_with bytes.value
 record_of Mark = mark
 
+-- the records of a tape in memory, the first first
 abbrev pub records_in : List Stored → List Record
 records_in [] = []
 records_in (s ∷ ss) = record_of s ∷ records_in ss

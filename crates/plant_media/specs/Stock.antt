@@ -34,6 +34,7 @@ stock_of image = record {
 abbrev pub SameTape : List ℕ → List ℕ → Type 0
 SameTape old new = tape_of new ≡ tape_of old
 
+-- a file stands for the same tape as before, or for the one with these records
 abbrev pub TapeOr : List Record → List ℕ → List ℕ → Type 0
 TapeOr tape old new = (tape_of new ≡ tape_of old) ⊎ (tape_of new ≡ tape)
 
@@ -41,5 +42,6 @@ TapeOr tape old new = (tape_of new ≡ tape_of old) ⊎ (tape_of new ≡ tape)
 abbrev pub SameJournal : List ℕ → List ℕ → Type 0
 SameJournal old new = journal_of new ≡ journal_of old
 
+-- a file stands for the same journal as before, or for one with these bytes that isn't damaged
 abbrev pub JournalOr : List ℕ → List ℕ → List ℕ → Type 0
 JournalOr log old new = (journal_of new ≡ journal_of old) ⊎ (journal_of new ≡ Some log)

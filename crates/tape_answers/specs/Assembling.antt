@@ -13,6 +13,7 @@ pub record Placed : Type 0 where
   pub at : ℕ
   pub part : PartFound
 
+-- told parts with their places, counted from this number on
 abbrev pub placed_from : ℕ → List PartFound → List Placed
 placed_from at [] = []
 placed_from at (p ∷ ps) = record { at = at; part = p } ∷ placed_from (suc at) ps
@@ -35,6 +36,7 @@ completes all p = leads_within all (greatest all) p
 abbrev pub next_of : List PartFound → Placed → Option Placed
 next_of all z = find (λ y. completes all y.part && goes_on z.part y.part) (placed_from 0 all)
 
+-- a part with the rest of its way behind it; none where there is no part
 abbrev pub with_rest : (Placed → List Placed) → Option Placed → List Placed
 with_rest rest None = []
 with_rest rest (Some z) = z ∷ rest z
@@ -49,6 +51,7 @@ pub record Way : Type 0 where
   pub begin : Placed
   pub rest : List Placed
 
+-- the first way from this part to its dump's end, with at most as many parts behind it as the greatest part number
 abbrev pub way_from : List PartFound → Placed → Way
 way_from all z = record { begin = z; rest = walk_within all (greatest all) z }
 
@@ -56,6 +59,7 @@ way_from all z = record { begin = z; rest = walk_within all (greatest all) z }
 abbrev pub begins_dump : List PartFound → Placed → Bool
 begins_dump all z = completes all z.part && (z.part.head.part == 1)
 
+-- the id of the dump that goes this way, by the head of its first part
 abbrev pub way_id : Way → ℕ
 way_id w = w.begin.part.head.id
 
@@ -76,12 +80,15 @@ ways all = ways_in all (placed_from 0 all)
 abbrev pub is_place : ℕ → Placed → Bool
 is_place at z = z.at == at
 
+-- the told part at this place, counted from 0, is one of the way's parts
 abbrev pub is_on : ℕ → Way → Bool
 is_on at w = list_any (is_place at) (w.begin ∷ w.rest)
 
+-- a told part is on none of these ways
 abbrev pub is_left : List Way → Placed → Bool
 is_left chosen z = not (list_any (is_on z.at) chosen)
 
+-- the record of the dump that goes this way: fields by the head of its first part, tapes and volumes by all parts
 abbrev pub record_of : Way → DumpRecordFields
 record_of w = told_record_with w.begin.part (map (λ z. z.part) (w.begin ∷ w.rest))
 

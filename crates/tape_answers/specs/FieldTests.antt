@@ -17,6 +17,7 @@ use Rattle.tape_frames.specs.declared.frame.Frame.TheVariants.{Label, DumpHead, 
 abbrev pub is_four : ℕ → Bool
 is_four n = nat_le n 4294967295
 
+-- a number from 1 on that four bytes have room for
 abbrev pub is_counted : ℕ → Bool
 is_counted n = nat_le 1 n && is_four n
 
@@ -24,9 +25,11 @@ is_counted n = nat_le 1 n && is_four n
 abbrev pub is_empty : List ℕ → Bool
 is_empty text = length text == 0
 
+-- a text that passes this test, or is empty
 abbrev pub is_maybe : (List ℕ → Bool) → List ℕ → Bool
 is_maybe test text = test text || is_empty text
 
+-- a number below 256
 abbrev pub is_byte : ℕ → Bool
 is_byte b = nat_lt b 256
 
@@ -41,10 +44,12 @@ label_test a = is_four a.initial && (is_four a.tape && (is_maybe tape_name_test 
 abbrev pub head_is_plain : DumpHeadFields → Bool
 head_is_plain a = not (a.uses == 0) || (is_empty a.cell && is_empty a.permanent)
 
+-- the numbers of a part's head fit: initial is 1 up to the id, and tape, part and volumes are at least 1
 abbrev pub head_numbers : DumpHeadFields → Bool
 head_numbers a =
     is_four a.id && ((nat_le 1 a.initial && nat_le a.initial a.id) && (is_four a.parent && (is_four a.expires && (is_counted a.tape && (is_counted a.part && (is_counted a.volumes && is_four a.uses))))))
 
+-- the texts of a part's head fit: set, level and base have their forms, and cell and permanent name may be empty
 abbrev pub head_texts : DumpHeadFields → Bool
 head_texts a =
     set_name_test a.set && (level_path_test a.level && ((tape_name_test a.base && nat_le (length a.base) base_most) && (is_maybe host_test a.cell && is_maybe tape_name_test a.permanent)))

@@ -26,9 +26,11 @@ goes_on_by None a b = false
 goes_on_by (Some false) a b = is_next_fragment a b
 goes_on_by (Some true) a b = is_next_volume a b
 
+-- over two tapes a told fragment goes on in another, by its `last` and both heads; not where its end isn't told
 abbrev pub fragment_goes_on : FragFound → FragFound → Bool
 fragment_goes_on f g = goes_on_by f.last f.head g.head
 
+-- the last fragment of a part goes on in the first one of the next part; both are there
 abbrev pub ends_in : Option FragFound → Option FragFound → Bool
 ends_in None g = false
 ends_in (Some f) None = false

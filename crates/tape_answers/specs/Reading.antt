@@ -31,6 +31,7 @@ long_text_then go bytes = go (take (from_be_bytes w16 (take 2 bytes)) (drop 2 by
 
 -- ---- the fields of each kind, as they stand in front of bytes
 
+-- a label's fields: initial dump, tape number, AFS name and permanent name; what stands behind them is not read
 abbrev pub label_at : List ℕ → LabelFields
 label_at = number_then (λ initial. number_then (λ tape. text_then (λ afs. text_then (λ permanent rest.
     record { initial = initial; tape = tape; afs = afs; permanent = permanent }))))
@@ -63,6 +64,7 @@ abbrev pub dump_head_at : List ℕ → DumpHeadFields
 dump_head_at = head_then (λ head. text_then (λ cell. text_then (λ permanent. number_then (λ uses rest.
     record head { cell = cell; permanent = permanent; uses = uses }))))
 
+-- the fields of a volume fragment's head: six numbers, then the volume's name, its server and its partition
 abbrev pub vol_head_at : List ℕ → VolHeadFields
 vol_head_at = number_then (λ dump. number_then (λ index. number_then (λ fragment. number_then (λ volume. number_then (λ clone. number_then (λ from.
     text_then (λ name. text_then (λ server. text_then (λ partition rest. record {
@@ -77,14 +79,17 @@ vol_head_at = number_then (λ dump. number_then (λ index. number_then (λ fragm
       partition = partition;
     })))))))))
 
+-- the fields of a piece: dump, volume's place, bytes used, and behind 12 bytes more the 16,352 bytes with their zeros
 abbrev pub data_at : List ℕ → DataFields
 data_at = number_then (λ dump. number_then (λ index. number_then (λ used rest.
     record { dump = dump; index = index; used = used; bytes = take 16352 (drop 12 rest) })))
 
+-- the fields of a fragment's end: dump, volume's place, fragment, 1 where it ends the volume, and its bytes
 abbrev pub vol_end_at : List ℕ → VolEndFields
 vol_end_at = number_then (λ dump. number_then (λ index. number_then (λ fragment. number_then (λ last. number_then (λ bytes rest.
     record { dump = dump; index = index; fragment = fragment; last = last; bytes = bytes })))))
 
+-- the fields of a part's end: dump, tape number, and 1 where the dump goes on on another tape
 abbrev pub dump_end_at : List ℕ → DumpEndFields
 dump_end_at = number_then (λ dump. number_then (λ tape. number_then (λ more rest. record { dump = dump; tape = tape; more = more })))
 
@@ -104,6 +109,7 @@ fields_at version code body =
 abbrev pub likely_frame : List ℕ → Frame
 likely_frame bytes = fields_at (slice_index bytes 4) (slice_index bytes 5) (drop 8 bytes)
 
+-- this frame, where its fields fit and its block is just these bytes; else None
 abbrev pub frame_if : Frame → List ℕ → Option Frame
 frame_if f bytes = if frame_test f && is_same_text bytes (spelling f) then Some f else None
 
@@ -113,6 +119,7 @@ frame_in bytes = frame_if (likely_frame bytes) bytes
 
 -- ---- tapes
 
+-- what a block says: its frame, or nothing where it is no frame's
 abbrev pub item_for : Option Frame → Item
 item_for None = Nothing
 item_for (Some f) = Says f

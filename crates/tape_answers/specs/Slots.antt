@@ -4,6 +4,7 @@ use Rattle.plant_core.specs.Records.{Record}
 use Rattle.tape_scan.specs.Slots.{Slot}
 use Rattle.tape_answers.specs.Reading.{items_of}
 
+-- the slot of this number: whether it is here, and what the records of its tape say
 abbrev pub slot_of : (ℕ → Bool) → (ℕ → List Record) → ℕ → Slot
 slot_of present tape k = record { here = present k; items = items_of (tape k) }
 

@@ -45,10 +45,12 @@ abbrev pub next_cell : ℕ → Option (List ℕ) → List ℕ → Result (Option
 next_cell number None name = Ok (Some name)
 next_cell number (Some before) name = Err (BadLine number)
 
+-- the settings with these entries in place of their own, or the fault that was found instead
 abbrev pub with_entries : Settings → Result (List Entry) ConfigFault → Result Settings ConfigFault
 with_entries before (Ok entries) = Ok (record before { entries = entries })
 with_entries before (Err fault) = Err fault
 
+-- the settings with this name of the cell in place of their own, or the fault that was found instead
 abbrev pub with_cell : Settings → Result (Option (List ℕ)) ConfigFault → Result Settings ConfigFault
 with_cell before (Ok cell) = Ok (record before { cell = cell })
 with_cell before (Err fault) = Err fault
@@ -67,6 +69,7 @@ abbrev pub lines_say : ℕ → Settings → List (List ℕ) → Result Settings 
 lines_say number before [] = Ok before
 lines_say number before (line ∷ rest) = elim (next_line number before (cell_of line) (line_says line)) [ Ok after ↦ lines_say (next_number number) after rest | Err fault ↦ Err fault ]
 
+-- what a configuration without lines says: no entries, and no name of a cell
 abbrev pub no_settings : Settings
 no_settings = record { entries = []; cell = None }
 
@@ -90,6 +93,7 @@ abbrev pub device_if : ℕ → Entry → Option DeviceLine
 device_if offset (Device d) = if d.offset == offset then Some d else None
 device_if offset (NameCheck _ _) = None
 
+-- the first device line where there is one, else the other; None where there is neither
 abbrev pub or_else : Option DeviceLine → Option DeviceLine → Option DeviceLine
 or_else (Some d) other = Some d
 or_else None other = other
@@ -108,6 +112,7 @@ check_after offset on (Device _) = on
 abbrev pub checks_names : ℕ → List Entry → Bool
 checks_names offset entries = fold (check_after offset) true entries
 
+-- the port at this offset, with its device line's slots and sizes in bytes; None where no device line has the offset
 abbrev pub port_with : ℕ → Bool → Option DeviceLine → Option PortFields
 port_with offset on None = None
 port_with offset on (Some d) = Some (record { offset = offset; capacity = d.capacity; filemark = d.filemark; first = d.first; last = d.last; name_check = on })

@@ -32,6 +32,7 @@ abbrev pub reduced : ℕ → Option ℕ → Option ℕ
 reduced unit (Some n) = Some (min (n * unit) 4000000000)
 reduced unit None = None
 
+-- the size in bytes that a word tells with this unit's letter behind its digits, or without a letter
 abbrev pub sized : Option ℕ → List ℕ → Option ℕ
 sized None word = reduced 1 (count_of word)
 sized (Some unit) word = reduced unit (count_of (take (length word - 1) word))

@@ -8,6 +8,7 @@ use Rattle.tape_config.specs.Numbers.{plain_of}
 abbrev pub name_check_word : List ℕ
 name_check_word = codes "name_check"
 
+-- the first word of the line that names the cell, in lower case alone
 abbrev pub cell_word : List ℕ
 cell_word = codes "cell"
 
@@ -24,6 +25,7 @@ in_order _ _ = None
 abbrev pub slots_word : List ℕ
 slots_word = codes "slots:"
 
+-- the byte '-', which stands between a device's first slot and its last
 abbrev pub is_dash : ℕ → Bool
 is_dash b = b == 45
 

@@ -1,5 +1,8 @@
-//! The tape configuration: which slots a port has, how much its tapes hold, whether tape names are checked there, and the
-//! name of the cell.
+//! The tape configuration: which slots a port has, how much its tapes hold, whether tape names are checked there, and
+//! the name of the cell. A `Config` is always what the lines of some configuration say (`IsConfig` in
+//! `specs/Configs.antt`), so no two of its ports have a slot in common; a `Port` keeps its limits (`IsWithinLimits`
+//! in `specs/Ports.antt`). Enter at `Config::parse`, then at `Config::port` and `Config::cell`; `config_of` says what
+//! a configuration means. `tape_writer` stands above, and all that chooses or fills tapes; `bk_text` stands below.
 #![tactic(auto)]
 
 mod config;

@@ -7,6 +7,7 @@ use Rattle.tape_frames.specs.Layouts.{plain_head_bytes, dump_head_bytes}
 abbrev pub padded : ℕ → List ℕ → List ℕ
 padded count bytes = bytes ++ replicate (count - length bytes) 0
 
+-- the 16,384 bytes of a block: a head of eight bytes by version and kind, the fields, and zeros to the end
 abbrev pub block_of : ℕ → ℕ → List ℕ → List ℕ
 block_of version kind fields = padded 16384 (65 ∷ 70 ∷ 83 ∷ 84 ∷ version ∷ kind ∷ 0 ∷ 0 ∷ fields)
 

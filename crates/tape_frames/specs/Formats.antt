@@ -20,6 +20,7 @@ tape_of initial = four_in (if initial == 0 then 0 else 1) (if initial == 0 then 
 abbrev pub IsAfs : ℕ → List ℕ → Type 0
 IsAfs initial text = IsTapeName text ⊎ ((initial ≡ 0) × (text ≡ []))
 
+-- the AFS name in a label of this initial id, behind its length in one byte
 abbrev pub afs_of : ℕ → Format (List ℕ)
 afs_of initial = text1_of (IsAfs initial)
 
@@ -31,28 +32,36 @@ zeros_of count = record { Is = λ bytes. bytes ≡ replicate count 0; spelled = 
 abbrev pub IsUsed : ℕ → ℕ → List ℕ → Type 0
 IsUsed count used bytes = (length bytes ≡ count) × All (λ b. b < 256) bytes × (drop used bytes ≡ replicate (count - used) 0)
 
+-- so many bytes as they are, of which those behind the used ones are zeros
 abbrev pub used_of : ℕ → ℕ → Format (List ℕ)
 used_of count used = record { Is = IsUsed count used; spelled = λ bytes. bytes }
 
 -- ---- the fields of each kind
 
+-- a tape's label, kind 1: its fields as they have to be, and their bytes
 abbrev pub label_form : Format LabelFields
 label_form = record { Is = FitsLabel; spelled = label_bytes }
 
+-- the head of a dump's part in version 1, kind 2, which tells no uses of the tape, and its bytes
 abbrev pub plain_head_form : Format DumpHeadFields
 plain_head_form = record { Is = λ a. FitsDumpHead a × (a.uses ≡ 0); spelled = plain_head_bytes }
 
+-- the head of a dump's part in version 2, kind 2, which tells one use of the tape or more, and its bytes
 abbrev pub dump_head_form : Format DumpHeadFields
 dump_head_form = record { Is = λ a. FitsDumpHead a × (1 ≤ a.uses); spelled = dump_head_bytes }
 
+-- the head of a volume's fragment, kind 3: its fields as they have to be, and their bytes
 abbrev pub vol_head_form : Format VolHeadFields
 vol_head_form = record { Is = FitsVolHead; spelled = vol_head_bytes }
 
+-- a piece of a volume's stream, kind 4: its fields as they have to be, and their bytes
 abbrev pub data_form : Format DataFields
 data_form = record { Is = FitsData; spelled = data_bytes }
 
+-- the end of a volume's fragment, kind 5: its fields as they have to be, and their bytes
 abbrev pub vol_end_form : Format VolEndFields
 vol_end_form = record { Is = FitsVolEnd; spelled = vol_end_bytes }
 
+-- the end of a dump's part on a tape, kind 6: its fields as they have to be, and their bytes
 abbrev pub dump_end_form : Format DumpEndFields
 dump_end_form = record { Is = FitsDumpEnd; spelled = dump_end_bytes }

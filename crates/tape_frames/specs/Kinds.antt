@@ -9,6 +9,7 @@ use Rattle.tape_frames.specs.declared.frame.Frame.TheVariants.{Label, DumpHead, 
 use Rattle.tape_frames.specs.Layouts.{label_bytes, plain_head_bytes, dump_head_bytes, vol_head_bytes, data_bytes, vol_end_bytes, dump_end_bytes}
 use Rattle.tape_frames.specs.Frames.{Fits}
 
+-- the version in byte 4 of a block, counted from 0: 2 for a dump's head that tells uses, 1 for all others
 abbrev pub version : Kind → ℕ
 version kinds.Label = 1
 version kinds.PlainHead = 1
@@ -18,6 +19,7 @@ version kinds.Data = 1
 version kinds.VolEnd = 1
 version kinds.DumpEnd = 1
 
+-- the number of the kind in byte 5 of a block, counted from 0; a dump's head has 2 in both versions
 abbrev pub code : Kind → ℕ
 code kinds.Label = 1
 code kinds.PlainHead = 2
@@ -35,9 +37,11 @@ head kind = 65 ∷ 70 ∷ 83 ∷ 84 ∷ version kind ∷ code kind ∷ 0 ∷ 0 �
 abbrev pub head_kind : DumpHeadFields → Kind
 head_kind a = if a.uses == 0 then kinds.PlainHead else kinds.DumpHead
 
+-- the bytes of a dump's head from byte 8 on: those of version 1 where it tells no uses, else those of version 2
 abbrev pub head_fields : DumpHeadFields → List ℕ
 head_fields a = if a.uses == 0 then plain_head_bytes a else dump_head_bytes a
 
+-- the kind of a frame, with its version; that of a dump's head depends on whether it tells uses
 abbrev pub kind_of : Frame → Kind
 kind_of (Label a) = kinds.Label
 kind_of (DumpHead a) = head_kind a

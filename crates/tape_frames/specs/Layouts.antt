@@ -14,9 +14,12 @@ use Rattle.tape_frames.specs.declared.dump_end.DumpEndFields.{DumpEndFields}
 
 -- ---- the label of a tape: kind 1
 
+-- the bytes of a label: initial dump's id, number of the tape, AFS name, permanent name
 abbrev pub label_bytes : LabelFields → List ℕ
 label_bytes a = four a.initial ++ (four a.tape ++ (text1 a.afs ++ text1 a.permanent))
 
+-- The numbers fit four bytes, the names are tape names or empty, and the tape has both an initial dump and a number
+-- in it, and then an AFS name, or neither of the two.
 pub record FitsLabel (a : LabelFields) : Type 0 where
   pub initial : IsFour a.initial
   pub tape : IsFour a.tape
@@ -53,9 +56,11 @@ pub record FitsDumpHead (a : DumpHeadFields) : Type 0 where
 
 -- ---- the head of a volume's fragment: kind 3
 
+-- the bytes of a fragment's head: six numbers of four bytes, then the volume's name, its server and its partition
 abbrev pub vol_head_bytes : VolHeadFields → List ℕ
 vol_head_bytes a = four a.dump ++ (four a.index ++ (four a.fragment ++ (four a.volume ++ (four a.clone ++ (four a.from ++ (text1 a.name ++ (text1 a.server ++ text1 a.partition)))))))
 
+-- The numbers fit four bytes, fragments are counted from 1, and name, server and partition are spelled as such.
 pub record FitsVolHead (a : VolHeadFields) : Type 0 where
   pub dump : IsFour a.dump
   pub index : IsFour a.index
@@ -69,9 +74,11 @@ pub record FitsVolHead (a : VolHeadFields) : Type 0 where
 
 -- ---- a piece of a volume's stream: kind 4
 
+-- the bytes of a piece: dump's id, index of the volume, number of bytes used, 12 zeros, and 16,352 bytes of data
 abbrev pub data_bytes : DataFields → List ℕ
 data_bytes a = four a.dump ++ (four a.index ++ (four a.used ++ (replicate 12 0 ++ a.bytes)))
 
+-- Of the 16,352 bytes of a piece 1 or more are used, and those behind the used ones are zeros.
 pub record FitsData (a : DataFields) : Type 0 where
   pub dump : IsFour a.dump
   pub index : IsFour a.index
@@ -82,9 +89,11 @@ pub record FitsData (a : DataFields) : Type 0 where
 
 -- ---- the end of a volume's fragment: kind 5
 
+-- the bytes of a fragment's end: dump's id, index of the volume, fragment, 1 for the last, number of stream bytes
 abbrev pub vol_end_bytes : VolEndFields → List ℕ
 vol_end_bytes a = four a.dump ++ (four a.index ++ (four a.fragment ++ (four a.last ++ four a.bytes)))
 
+-- The numbers fit four bytes, and `last` is 1 where the volume's stream ends with this fragment, else 0.
 pub record FitsVolEnd (a : VolEndFields) : Type 0 where
   pub dump : IsFour a.dump
   pub index : IsFour a.index
@@ -94,9 +103,11 @@ pub record FitsVolEnd (a : VolEndFields) : Type 0 where
 
 -- ---- the end of a dump's part: kind 6
 
+-- the bytes of a part's end: dump's id, number of the tape, and 1 where the dump goes on on another tape
 abbrev pub dump_end_bytes : DumpEndFields → List ℕ
 dump_end_bytes a = four a.dump ++ (four a.tape ++ four a.more)
 
+-- The numbers fit four bytes, and `more` is 1 where the dump goes on on another tape, else 0.
 pub record FitsDumpEnd (a : DumpEndFields) : Type 0 where
   pub dump : IsFour a.dump
   pub tape : IsFour a.tape

@@ -8,9 +8,11 @@ use Rattle.tape_frames.specs.declared.views.HeadView.{HeadView}
 use Rattle.tape_frames.specs.declared.views.VolHeadView.{VolHeadView}
 use Rattle.tape_frames.specs.declared.views.DataView.{DataView}
 
+-- the fields of a label whose AFS name and permanent name lie in the block that was read
 abbrev pub label_seen : LabelView → LabelFields
 label_seen v = record { initial = v.initial; tape = v.tape; afs = v.afs.now; permanent = v.permanent.now }
 
+-- the fields of a dump's head whose five texts, from the volume set on, lie in the block that was read
 abbrev pub head_seen : HeadView → DumpHeadFields
 head_seen v = record {
   id = v.id;
@@ -28,6 +30,7 @@ head_seen v = record {
   uses = v.uses;
 }
 
+-- the fields of a fragment's head whose name, server and partition lie in the block that was read
 abbrev pub vol_head_seen : VolHeadView → VolHeadFields
 vol_head_seen v = record {
   dump = v.dump;
@@ -41,5 +44,6 @@ vol_head_seen v = record {
   partition = v.partition.now;
 }
 
+-- the fields of a piece of a volume's stream whose 16,352 bytes lie in the block that was read
 abbrev pub data_seen : DataView → DataFields
 data_seen v = record { dump = v.dump; index = v.index; used = v.used; bytes = v.bytes.now }

@@ -1,5 +1,9 @@
-//! The frames of a tape: blocks of 16,384 bytes that label it and carry the dumps of volumes. Each frame has one block,
-//! and a block that is no frame's is refused at its exact place. The layout is this project's own.
+//! The frames of a tape: blocks of 16,384 bytes that label it and carry the dumps of volumes. Each frame has one
+//! block, and a block that is no frame's is refused at its exact place. The layout is this project's own.
+//! What the types of frames keep: their fields fit the table in `specs/Layouts.antt`, so that each frame can be
+//! written, and its block is no other frame's (`Fits` and `spelling` in `specs/Frames.antt`, `one_frame`).
+//! Enter at `decode` for a block that was read, and at `Frame::encode` for one to be put. `tape_text`, `tape_writer`
+//! and `tape_scan` stand above; `byte_formats` and `bk_text` stand below.
 #![tactic(auto)]
 
 mod blank;

@@ -11,6 +11,7 @@ use Rattle.tape_scan.specs.declared.assembling_chains.Chain.{Chain}
 use Rattle.tape_scan.specs.declared.assembling.PartId.{PartId}
 use Rattle.tape_scan.specs.AssembledSteps.{Stands}
 
+-- what a dump's record keeps of a told part: its tape, its first record and the one behind it, filemarks and uses
 abbrev pub told_tape : PartFound → TapePart
 told_tape p = record {
   tape = p.head.tape;
@@ -27,9 +28,11 @@ told_last None = 0
 told_last (Some false) = 0
 told_last (Some true) = 1
 
+-- a told fragment on the tape of this number: the record that its head is, the head, and 1 where it ends its volume
 abbrev pub told_lying : ℕ → FragFound → Lying
 told_lying tape f = record { tape = tape; at = f.at; head = f.head; last = told_last f.last }
 
+-- the told fragments of a part, in order, each with the number of the part's tape
 abbrev pub told_lying_in : PartFound → List Lying
 told_lying_in p = map (told_lying p.head.tape) p.frags
 
@@ -37,6 +40,7 @@ told_lying_in p = map (told_lying p.head.tape) p.frags
 abbrev pub all_lying : List PartFound → List Lying
 all_lying parts = flat_map told_lying_in parts
 
+-- the record of a dump: its fields by the head of this part, its tapes and volumes by all these parts
 abbrev pub told_record_with : PartFound → List PartFound → DumpRecordFields
 told_record_with p parts = record {
   id = p.head.id;
@@ -78,6 +82,7 @@ AreRecords all (c ∷ cs) [] = ⊥
 abbrev pub IsOnWay : List Chain → ℕ → Type 0
 IsOnWay chains k = (c : Chain) × Contains chains c × Contains c.places k
 
+-- by what a part left over is told: the id of its dump and the number of its tape in the dump set
 abbrev pub told_id : PartFound → PartId
 told_id p = record { id = p.head.id; tape = p.head.tape }
 

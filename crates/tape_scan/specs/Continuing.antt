@@ -29,6 +29,7 @@ is_before a b = is_lt (slice_cmp nat_cmp a b)
 abbrev pub is_next_volume : VolHeadFields → VolHeadFields → Bool
 is_next_volume a b = (b.index == a.index + 1) && ((b.fragment == 1) && is_before a.name b.name)
 
+-- Behind a part that ends its dump comes part 1 of a dump with a greater id; behind the label comes any part.
 abbrev pub head_behind : Option PartFound → DumpHeadFields → Bool
 head_behind None h = true
 head_behind (Some p) h = not p.more && (nat_lt p.head.id h.id && (h.part == 1))
@@ -38,6 +39,7 @@ opens_part t h =
     (h.initial == t.label.initial) && ((h.tape == t.label.tape) && (is_same_text t.label.afs (numbered h.base h.tape)
     && (((h.uses == 0) || is_same_text h.permanent t.label.permanent) && (((h.uses == 0) || ((t.uses == 0) || (h.uses == t.uses))) && head_behind (last_of t.parts) h))))
 
+-- Part 1 of a dump begins with fragment 1 of volume 0; behind a fragment that ends its volume comes the next volume.
 abbrev pub fragment_behind : ℕ → Option FragFound → VolHeadFields → Bool
 fragment_behind part None v = not (part == 1) || ((v.index == 0) && (v.fragment == 1))
 fragment_behind part (Some f) v = is_last f.last && is_next_volume f.head v
@@ -52,6 +54,7 @@ unfoldable pub ends_fragment : FragmentSoFar → VolEndFields → Bool
 ends_fragment f e =
     f.some && ((f.full || (e.last == 1)) && ((e.dump == f.head.dump) && ((e.index == f.head.index) && ((e.fragment == f.head.fragment) && (e.bytes == f.bytes)))))
 
+-- A part's end tells 0 more where the last fragment ends the last of so many volumes, else 1; there is a fragment.
 abbrev pub end_behind : ℕ → Option FragFound → DumpEndFields → Bool
 end_behind volumes None e = false
 end_behind volumes (Some f) e = e.more == (if ends_last volumes f then 0 else 1)

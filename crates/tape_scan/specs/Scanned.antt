@@ -33,6 +33,7 @@ pub record Place : Type 0 where
   pub first : ℕ
   pub head : DumpHeadFields
 
+-- the place of a part: its slot, the number of the record that its head is, and the head
 abbrev pub place_of : Located → Place
 place_of l = record { slot = l.slot; first = l.found.first; head = l.found.part.head }
 

@@ -19,6 +19,7 @@ pub record Scan (items : List Item) : Type 0 where
 abbrev pub is_closed : ℕ → FoundPart → Bool
 is_closed count p = nat_le p.end count
 
+-- a part whose head is one of the first so many records of its tape
 abbrev pub is_begun : ℕ → FoundPart → Bool
 is_begun count p = nat_lt p.first count
 
@@ -27,6 +28,7 @@ is_begun count p = nat_lt p.first count
 abbrev pub begun : {items : List Item} → Scan items → List FoundPart
 begun s = filter (is_begun s.count) (parts_of s.front.text.whole)
 
+-- the parts that stand in the front of a scan up to their last filemark, in order
 abbrev pub closed : {items : List Item} → Scan items → List FoundPart
 closed s = filter (is_closed s.count) (parts_of s.front.text.whole)
 

@@ -16,11 +16,13 @@ pub record Located : Type 0 where
   pub slot : ℕ
   pub found : FoundPart
 
+-- a part stands on the tape in its slot, one of these, up to its last filemark, in a front that is a whole tape
 pub record IsClosedAt (slots : List Slot) (l : Located) : Type 0 where
   pub here : Slot
   pub at : slice_get slots l.slot ≡ Some here
   pub closed : IsClosedIn here.items l.found
 
+-- a part's head stands on the tape in its slot, one of these, in a front that is a tape text
 pub record IsBegunAt (slots : List Slot) (l : Located) : Type 0 where
   pub here : Slot
   pub at : slice_get slots l.slot ≡ Some here

@@ -55,6 +55,8 @@ abbrev pub HeadBehind : Option PartFound → DumpHeadFields → Type 0
 HeadBehind None h = Unit {0}
 HeadBehind (Some p) h = (p.more ≡ false) × (p.head.id < h.id) × (h.part ≡ 1)
 
+-- A part's head continues the tape: it follows the part before, and its set, number and name agree with the label.
+-- Where it tells uses, its permanent name agrees with the label too, and the uses with those told before.
 pub record OpensPart (t : TapeSoFar) (h : DumpHeadFields) : Type 0 where
   pub initial : h.initial ≡ t.label.initial
   pub tape : h.tape ≡ t.label.tape
@@ -73,17 +75,21 @@ abbrev pub FragmentBehind : ℕ → Option FragFound → VolHeadFields → Type 
 FragmentBehind part None v = part ≡ 1 → (v.index ≡ 0) × (v.fragment ≡ 1)
 FragmentBehind part (Some f) v = (is_last f.last ≡ true) × NextVolume f.head v
 
+-- A fragment's head continues the open part: it is of a volume of its dump, and follows the fragment before it.
 pub record OpensFragment (p : PartSoFar) (v : VolHeadFields) : Type 0 where
   pub dump : v.dump ≡ p.head.id
   pub index : v.index < p.head.volumes
   pub next : FragmentBehind p.head.part (last_of p.frags) v
 
+-- A piece continues the open fragment: it is of its dump and volume, and all pieces before it have 16,352 bytes used.
+-- With it the fragment has at most 4,294,967,295 bytes.
 pub record AddsPiece (f : FragmentSoFar) (d : DataFields) : Type 0 where
   pub dump : d.dump ≡ f.head.dump
   pub index : d.index ≡ f.head.index
   pub full : f.full ≡ true
   pub bytes : f.bytes + d.used ≤ 4294967295
 
+-- A fragment's end closes it: there is a piece, only the last one of a volume isn't full, and head and bytes agree.
 pub record EndsFragment (f : FragmentSoFar) (e : VolEndFields) : Type 0 where
   pub some : f.some ≡ true
   pub filled : (f.full ≡ true) ⊎ (e.last ≡ 1)
@@ -96,10 +102,12 @@ pub record EndsFragment (f : FragmentSoFar) (e : VolEndFields) : Type 0 where
 abbrev pub ends_last : ℕ → FragFound → Bool
 ends_last volumes f = is_last f.last && (f.head.index + 1 == volumes)
 
+-- A part's end tells 0 more where the last fragment ends the last of so many volumes, else 1; there is a fragment.
 abbrev pub EndBehind : ℕ → Option FragFound → DumpEndFields → Type 0
 EndBehind volumes None e = ⊥
 EndBehind volumes (Some f) e = e.more ≡ (if ends_last volumes f then 0 else 1)
 
+-- A part's end closes the open part: it is of its dump, and tells truly whether that goes on on another tape.
 pub record EndsPart (p : PartSoFar) (e : DumpEndFields) : Type 0 where
   pub dump : e.dump ≡ p.head.id
   pub more : EndBehind p.head.volumes (last_of p.frags) e
@@ -119,21 +127,27 @@ Continues w i = ⊥
 
 -- ---- where the scan stands behind it
 
+-- the tape so far with one filemark more
 abbrev pub one_mark : TapeSoFar → TapeSoFar
 one_mark t = record t { marks = t.marks + 1 }
 
+-- the open fragment with one more piece: its used bytes are added, and it is full where they are 16,352
 abbrev pub with_piece : FragmentSoFar → DataFields → FragmentSoFar
 with_piece f d = record f { some = true; full = d.used == room; bytes = f.bytes + d.used }
 
+-- the fragment that this end closes; whether its volume ends with it is told
 abbrev pub frag_found : FragmentSoFar → VolEndFields → FragFound
 frag_found f e = record { head = f.head; at = f.at; last = Some (e.last == 1) }
 
+-- the open part with a fragment more, behind those that it has
 abbrev pub with_frag : PartSoFar → FragFound → PartSoFar
 with_frag p f = record p { frags = p.frags ++ f ∷ [] }
 
+-- the part whose last filemark is the record of this number: its end is the next number, and that mark is counted
 abbrev pub part_found : ℕ → TapeSoFar → PartSoFar → Bool → PartFound
 part_found at t p more = record { head = p.head; first = p.first; end = Some (at + 1); marks = t.marks + 1; more = more; frags = p.frags }
 
+-- the tape with the open part closed by the filemark of this number; uses are those of the first head that tells any
 abbrev pub with_closed : ℕ → TapeSoFar → PartSoFar → Bool → TapeSoFar
 with_closed at t p more = record {
   label = t.label;
@@ -142,6 +156,7 @@ with_closed at t p more = record {
   uses = if t.uses == 0 then p.head.uses else t.uses;
 }
 
+-- where a scan stands behind a record of this number that continues the text
 abbrev pub after : ℕ → Walk → Item → Walk
 after at Nothing (items.Says (frames.Label l)) = Labeled l
 after at (Labeled l) items.Filemark = Between (record { label = l; parts = []; marks = 1; uses = 0 })
@@ -179,9 +194,11 @@ marks_in (BehindPart t p more) = t.marks
 abbrev pub open_part : PartSoFar → List FragFound → PartFound
 open_part p frags = record { head = p.head; first = p.first; end = None; marks = 0; more = false; frags = frags }
 
+-- a fragment whose end isn't in the front, so that `last` is None
 abbrev pub open_frag : FragmentSoFar → FragFound
 open_frag f = record { head = f.head; at = f.at; last = None }
 
+-- what a scan of a slot's tape tells by where it stands; `stop` is the record that it didn't take, if there is one
 abbrev pub sections_of : ℕ → Option ℕ → Walk → Sections
 sections_of slot stop Nothing = record { slot = slot; label = None; parts = []; stop = stop }
 sections_of slot stop (Labeled l) = record { slot = slot; label = Some l; parts = []; stop = stop }

@@ -13,6 +13,7 @@ abbrev pub walk_from : Walk → ℕ → List Item → ℕ × Walk
 walk_from walk at [] = (at, walk)
 walk_from walk at (i ∷ is) = if continues walk i then walk_from (after at walk i) (at + 1) is else (at, walk)
 
+-- what a scan tells that took so many of the slot's items and stands there; it stops at the next one, if there is one
 abbrev pub sections_at : ℕ → List Item → ℕ × Walk → Sections
 sections_at slot items end = sections_of slot (if nat_lt end.0 (length items) then Some end.0 else None) end.1
 

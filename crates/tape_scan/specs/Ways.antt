@@ -6,8 +6,10 @@ use Rattle.tape_scan.specs.declared.assembling_chains.Chain.{Chain}
 abbrev pub chain_of : ℕ → List ℕ → Chain
 chain_of id places = record { id = id; places = places }
 
+-- the id of the dump that goes this way
 abbrev pub chain_id : Chain → ℕ
 chain_id c = c.id
 
+-- the places of the dump's parts in the list of all told parts, from 0 on, in the order of the parts
 abbrev pub chain_places : Chain → List ℕ
 chain_places c = c.places

@@ -1,5 +1,9 @@
-//! What scans of tapes find: the parts of dumps that stand on each, and the dumps that are whole over all of them. Definitions
-//! in `specs/`, their laws as contracts of functions.
+//! What scans of tapes find: the parts of dumps that stand on each, and the dumps that are whole over all of them.
+//! Definitions in `specs/`, their laws as contracts of functions. A scan takes the longest front of a tape that is a
+//! tape text (`IsFront` in `specs/Scans.antt`), so that of one tape just one `Sections` is told
+//! (`one_tape_is_told_once`). Enter at `scan_tape` for the tape in a slot, then at `assemble` for the scans of
+//! several; `Scanned` in `specs/Scanned.antt` says what that gives. `backup_session` calls both and stands above;
+//! `tape_text`, `tape_frames`, `budb_changes` and `plant_effects` stand below.
 #![tactic(auto)]
 
 mod assembling;

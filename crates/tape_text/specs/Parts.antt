@@ -6,12 +6,15 @@ use Rattle.tape_text.specs.Texts.{Fragment, Part, Tape}
 abbrev pub fragment_len : Fragment → ℕ
 fragment_len f = length f.pieces + 3
 
+-- how many items fragments have one behind another, their filemarks counted in
 abbrev pub fragments_len : List Fragment → ℕ
 fragments_len fs = sum_by fragment_len fs
 
+-- how many items a part has: those of its fragments, its head, its end and the filemark behind it
 abbrev pub part_len : Part → ℕ
 part_len p = fragments_len p.fragments + 3
 
+-- how many filemarks a part has: one behind each fragment, and one behind its end
 abbrev pub part_marks : Part → ℕ
 part_marks p = length p.fragments + 1
 
@@ -43,6 +46,7 @@ parts_at at marks (p ∷ ps) =
 abbrev pub parts_of : Tape → List FoundPart
 parts_of t = parts_at 2 1 t.parts
 
+-- the fragments of a part, each with the number of its head's record on the tape; the first follows the part's head
 abbrev pub fragments_of : FoundPart → List FoundFragment
 fragments_of p = fragments_at (p.first + 1) p.part.fragments
 

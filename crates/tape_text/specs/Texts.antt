@@ -28,12 +28,14 @@ pub record Part : Type 0 where
   pub fragments : List Fragment
   pub end : DumpEndFields
 
+-- A tape: its label, and the parts of dumps behind it in the order in which they stand.
 pub record Tape : Type 0 where
   pub label : LabelFields
   pub parts : List Part
 
 -- ---- their items, in order
 
+-- the item of a Data frame, one piece of a volume's stream
 abbrev pub data_item : DataFields → Item
 data_item d = Says (frames.Data d)
 
@@ -41,12 +43,15 @@ data_item d = Says (frames.Data d)
 abbrev pub fragment_frames : Fragment → List Item
 fragment_frames f = Says (frames.VolHead f.head) ∷ map data_item f.pieces ++ Says (frames.VolEnd f.end) ∷ []
 
+-- a fragment's frames, and the filemark behind them
 abbrev pub fragment_items : Fragment → List Item
 fragment_items f = fragment_frames f ++ Filemark ∷ []
 
+-- a part's items: its head, its fragments with a filemark behind each, its end, and a filemark
 abbrev pub part_items : Part → List Item
 part_items p = Says (frames.DumpHead p.head) ∷ flat_map fragment_items p.fragments ++ Says (frames.DumpEnd p.end) ∷ Filemark ∷ []
 
+-- all items of a tape from record 0 on: its label, a filemark, and its parts one behind another
 abbrev pub tape_items : Tape → List Item
 tape_items t = Says (frames.Label t.label) ∷ Filemark ∷ flat_map part_items t.parts
 
@@ -66,6 +71,7 @@ AreFilled last (d ∷ e ∷ ds) = (d.used ≡ room) × AreFilled last (e ∷ ds)
 abbrev pub IsPiece : ℕ → ℕ → DataFields → Type 0
 IsPiece dump index d = (d.dump ≡ dump) × (d.index ≡ index)
 
+-- the sum of the bytes of a volume's stream that Data frames carry; zeros behind the used bytes aren't counted
 abbrev pub used_of : List DataFields → ℕ
 used_of pieces = sum_by (λ d. d.used) pieces
 

@@ -53,6 +53,7 @@ EndsWhole [] = ⊥
 EndsWhole (p ∷ []) = p.end.more ≡ 0
 EndsWhole (p ∷ q ∷ ps) = EndsWhole (q ∷ ps)
 
+-- the first of these parts is part 1 of its dump; there is one
 abbrev pub BeginsWhole : List Part → Type 0
 BeginsWhole [] = ⊥
 BeginsWhole (p ∷ ps) = p.head.part ≡ 1
@@ -65,6 +66,8 @@ pub record IsWhole (parts : List Part) : Type 0 where
 
 -- ---- the record of a whole dump
 
+-- the place of a dump's part in its record: the tape's number, the part's first record number and the one behind
+-- it, the filemarks before that, and the tape's uses and permanent name by the part's head
 abbrev pub tape_part : FoundPart → TapePart
 tape_part p = record {
   tape = p.part.head.tape;
@@ -82,12 +85,15 @@ pub record Lying : Type 0 where
   pub head : VolHeadFields
   pub last : ℕ
 
+-- a fragment that was found on the tape of this number, as it lies there
 abbrev pub lying_as : ℕ → FoundFragment → Lying
 lying_as tape f = record { tape = tape; at = f.at; head = f.fragment.head; last = f.fragment.end.last }
 
+-- the fragments of a part as they lie, on the tape whose number the part's head tells
 abbrev pub lying_in : FoundPart → List Lying
 lying_in p = map (lying_as p.part.head.tape) (fragments_of p)
 
+-- where a fragment lies: the number of its tape, and the number of the record on it that its head is
 abbrev pub frag_of : Lying → Frag
 frag_of l = record { tape = l.tape; at = l.at }
 
@@ -103,9 +109,11 @@ volume_record all l = record {
   frags = map frag_of (filter (λ m. m.head.index == l.head.index) all);
 }
 
+-- the records of a dump's volumes: one for each first fragment, in the order in which these lie
 abbrev pub volume_records : List Lying → List VolRecordFields
 volume_records all = map (volume_record all) (filter (λ l. l.head.fragment == 1) all)
 
+-- the record of a dump with the fields of this head, and the tapes, volumes and fragments of these parts
 abbrev pub record_with : DumpHeadFields → List FoundPart → DumpRecordFields
 record_with h parts = record {
   id = h.id;

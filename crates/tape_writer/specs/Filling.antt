@@ -38,9 +38,11 @@ uses_in Nothing = 0
 abbrev pub taken : LabelFields → List Item → Start
 taken label old = record { label = label; blocks = 1; marks = 1; uses = min (uses_in (slice_index_or old 2 Nothing) + 1) 4294967295 }
 
+-- the blocks of 16 KiB that a fragment takes: its head, its Data frames and its end; its filemark isn't counted
 abbrev pub fragment_blocks : Fragment → ℕ
 fragment_blocks f = length f.pieces + 2
 
+-- the blocks of 16 KiB that a part takes: its head, its fragments and its end; filemarks aren't counted
 abbrev pub part_blocks : Part → ℕ
 part_blocks p = sum_by fragment_blocks p.fragments + 2
 
@@ -80,6 +82,7 @@ abbrev pub HasNoRoomBehind : PortFields → Start → Part → Fragment → Type
 HasNoRoomBehind port s p f =
     ((f.end.last ≡ 0) × (port.capacity < taken_with port s p 1 0)) ⊎ ((f.end.last ≡ 1) × (port.capacity < taken_with port s p 3 1))
 
+-- the tape has no room for more of the dump behind the part's last fragment; there is one
 abbrev pub IsFull : PortFields → Start → Part → Type 0
 IsFull port s p = Ends (HasNoRoomBehind port s p) p.fragments
 
@@ -113,6 +116,7 @@ head_of dump index fragment v = record {
 abbrev pub bytes_of : DataFields → List ℕ
 bytes_of d = take d.used d.bytes
 
+-- the bytes of a volume's stream that a fragment has: the used ones of its Data frames, in order
 abbrev pub fragment_bytes : Fragment → List ℕ
 fragment_bytes f = flat_map bytes_of f.pieces
 
@@ -152,6 +156,7 @@ AreFull port (s ∷ ss) [] = Unit {0}
 AreFull port (s ∷ ss) (p ∷ []) = Unit {0}
 AreFull port (s ∷ ss) (p ∷ q ∷ ps) = IsFull port s p × AreFull port ss (q ∷ ps)
 
+-- the first of a dump's parts has this head; there is one
 abbrev pub BeginsWith : DumpHeadFields → List Part → Type 0
 BeginsWith head [] = ⊥
 BeginsWith head (p ∷ ps) = p.head ≡ head

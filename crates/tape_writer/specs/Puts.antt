@@ -18,6 +18,7 @@ pub record IsCounted {D : Type 0} (P : Plant D) (count : ℕ) (plant : D) : Type
   pub records : (P.view plant).records ≡ count
   pub whole : OnLoaded P NoBad plant
 
+-- how many records stand on the counted tape: each block is one, and each filemark
 abbrev pub records_of : Counts → ℕ
 records_of c = c.blocks + c.marks
 

@@ -21,6 +21,7 @@ more blocks marks c = record { port = c.port; blocks = c.blocks + blocks; marks 
 abbrev pub HasRoom : ℕ → ℕ → Counts → Type 0
 HasRoom blocks marks c = taken_by c.port (c.blocks + blocks) (c.marks + marks) ≤ c.port.capacity
 
+-- with so many blocks and filemarks more the tape has more bytes than the port's capacity
 abbrev pub LacksRoom : ℕ → ℕ → Counts → Type 0
 LacksRoom blocks marks c = c.port.capacity < taken_by c.port (c.blocks + blocks) (c.marks + marks)
 

@@ -1,5 +1,9 @@
-//! Filling tapes: the frames of a dump are put on the loaded tape of a plant, each only where what must follow it stays
-//! within the capacity too. `specs/` says which records a dump puts on each of its tapes.
+//! Filling tapes: the frames of a dump are put on the loaded tape of a plant, each only where what must follow it
+//! stays within the capacity too. `specs/` says which records a dump puts on each of its tapes (`TapeText` in
+//! `specs/Filling.antt`). A `Writer` counts the blocks and filemarks of one tape of a port: the port is within its
+//! limits, and there are no more filemarks than blocks. Enter at `Writer::new`, then at `Writer::begin_tape`,
+//! `Writer::begin_volume`, `Writer::data`, `Writer::end_volume` and `Writer::end_dump`. `dump_job` stands above;
+//! `tape_text`, `tape_frames`, `tape_config` and `plant_effects` stand below.
 #![tactic(auto)]
 
 mod fault;

@@ -22,6 +22,7 @@ pub record Link : Type 0 where
   pub since : ℕ
   pub until : ℕ
 
+-- what a dump of a link's volume says: the increment from its `since` on, with `until` as the time of its state
 abbrev pub increment_of : Link → IncrementFields
 increment_of link = selected link.volume link.since link.until
 
@@ -40,10 +41,12 @@ abbrev pub as_base : Result VolumeFields ApplyFault → Result (Option VolumeFie
 as_base (Ok volume) = Ok (Some volume)
 as_base (Err fault) = Err fault
 
+-- one more increment, applied to what the ones before it gave; a fault that they gave stays
 abbrev pub applied_on : Result (Option VolumeFields) ApplyFault → IncrementFields → Result (Option VolumeFields) ApplyFault
 applied_on (Ok base) increment = as_base (applied base increment)
 applied_on (Err fault) increment = Err fault
 
+-- what a base, or none, becomes by these increments in order; the first fault where there is one
 abbrev pub all_applied : Option VolumeFields → List IncrementFields → Result (Option VolumeFields) ApplyFault
 all_applied base increments = fold applied_on (Ok base) increments
 

@@ -2,6 +2,7 @@
 use Rattle.std.specs.Prelude.{◌≢◌, ℕ, ◌≤◌, List, length, All}
 use Rattle.vnode_model.specs.declared.headers.HeaderFields.{HeaderFields}
 
+-- the most bytes of an offline message or of a message of the day
 abbrev pub most_message : ℕ
 most_message = 1024
 

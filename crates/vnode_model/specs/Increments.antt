@@ -15,6 +15,7 @@ use Rattle.vnode_model.specs.Limits.{all_data, number_of}
 
 -- ---- the increment of a volume from a time on
 
+-- whether a vnode of this kind is a directory; a file or a symbolic link is none
 abbrev pub is_directory : VnodeKind → Bool
 is_directory File = false
 is_directory Directory = true
@@ -29,6 +30,7 @@ is_whole_from since v = (since == 0) || (is_directory v.kind || nat_le since v.s
 abbrev pub entry_from : ℕ → Vnode → Entry
 entry_from since v = if is_whole_from since v then Whole v else Kept v.number v.uniq
 
+-- what an increment from this time on (seconds since 1970) says of a volume: one entry for each vnode, in order
 abbrev pub entries_from : VolumeFields → ℕ → List Entry
 entries_from volume since = map (entry_from since) volume.vnodes
 
@@ -60,6 +62,7 @@ vnode_for base (Kept number uniq) = find (is_named number uniq) base
 abbrev pub first_lacking : List Vnode → List Entry → Option Entry
 first_lacking base entries = find (λ e. is_none (vnode_for base e)) entries
 
+-- the uniquifier of an entry's vnode, which tells it from an earlier vnode of its number
 abbrev pub uniq_of : Entry → ℕ
 uniq_of (Whole v) = v.uniq
 uniq_of (Kept number uniq) = uniq

@@ -1,4 +1,9 @@
-//! Volumes and what a dump stream says of them: vnodes, the volume's header and increments.
+//! Volumes and what a dump stream says of them: vnodes, the volume's header and increments. A `Volume` always has its
+//! vnodes, and an `Increment` its entries, in order, of the parity of their kinds and within the limits (`AreFit` in
+//! `specs/Limits.antt`). Enter at `Volume::new`, then at `select` for the increment since a time, and at `apply` for
+//! the volume that a base and an increment make. The increments of a chain, applied one behind another, give its last
+//! volume: `chains_restore`. `dump_stream` writes and reads increments and stands above, as do `cell_core` and
+//! `volume_sets`; `bk_text` stands below.
 #![tactic(auto)]
 
 mod applying;

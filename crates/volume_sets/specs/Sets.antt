@@ -14,9 +14,11 @@ use Rattle.volume_sets.specs.declared.sets.SetsFault.TheVariants.{SetExists, NoS
 abbrev pub Row : Type 0
 Row = List ℕ × List SetEntry
 
+-- the volume set of a row of the map
 abbrev pub set_of : Row → VolumeSet
 set_of row = record { name = row.0; entries = row.1 }
 
+-- the row of the map that a volume set is: its entries under its name
 abbrev pub row_of : VolumeSet → Row
 row_of set = (set.name, set.entries)
 
