@@ -13,3 +13,8 @@ pub mod CountLaws
 pub mod RunLaws
 pub mod LoadLaws
 pub mod BreakLaws
+pub mod OnceLaws
+pub mod StopLaws
+pub mod ReadLaws
+pub mod UnusedLaws
+pub mod AnswerLaws

@@ -158,8 +158,8 @@ module _ {D : Type 0} (P : Plant D) (port : PortFields) (old mid new : D) where
 
   pub back_ok : (was now : BudbView) (changes : List Change) (r : Result ℕ LoadFault) → IsUnused was.database → FindsChanges P port old mid changes → OnOk r (now.database ≡ after_from changes was.database) → IfOk r (λ n. n ≡ length now.database.listed)
       → (P.tells → (log : List Change) → Keeps log (state_of P mid).log was → OnOk r (Keeps (log ++ changes) (state_of P new).log now)) → OnOk r (Done P (commits (encoded changes) ∷ []) mid new)
-      → OnOk r ((P.view new).log_size ≡ (P.view mid).log_size + length (encoded changes)) → IfOk r (LoadsBack P port old new was now)
-  back_ok was now changes (Ok n) unused found made counted keeps done size = record {
+      → OnOk r ((P.view new).log_size ≡ (P.view mid).log_size + length (encoded changes)) → OnOk r ((P.view new).log_size ≤ 268435456) → IfOk r (LoadsBack P port old new was now)
+  back_ok was now changes (Ok n) unused found made counted keeps done size within = record {
     slot = found.slot;
     changes = changes;
     unused = unused;
@@ -170,8 +170,9 @@ module _ {D : Type 0} (P : Plant D) (port : PortFields) (old mid new : D) where
     keeps = λ told log kept. keeps told log (subst (λ (l : List ℕ). Keeps log l was) (sym (log_same changes found told)) kept);
     done = done_both P (putting_away (loaded_of P old) found.slot) (commits (encoded changes) ∷ []) old mid new found.done done;
     size = size ∙ ap (λ (n : ℕ). n + length (encoded changes)) found.log_size;
+    within = within;
   }
-  back_ok was now changes (Err fault) unused found made counted keeps done size = tt
+  back_ok was now changes (Err fault) unused found made counted keeps done size within = tt
 
   pub loads_few : (r : Result ℕ LoadFault) → (P.view mid).loads ≤ (P.view old).loads + 1 → OnOk r ((P.view new).loads ≡ (P.view mid).loads) → OnErr r (r ≢ Err Failed → new ≡ mid) → r ≢ Err Failed → (P.view new).loads ≤ (P.view old).loads + 1
   loads_few (Ok n) few ok err well = omega (arith, few, ok)

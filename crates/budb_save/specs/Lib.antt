@@ -6,5 +6,6 @@ pub mod Back
 pub mod Choice
 pub mod Saving
 pub mod Faults
+pub mod ReadBack
 pub mod Loading
 pub mod Verifying

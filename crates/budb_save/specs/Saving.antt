@@ -27,6 +27,7 @@ saved_bytes db = encoded (checkpoint db)
 abbrev pub save_pick : PortFields → List Slot → Option Picked
 save_pick port slots = pick_of (picked Saving port slots)
 
+-- the least slot of a coordinator that is here and whose tape has the label of a save; `None` where none is so
 abbrev pub load_pick : PortFields → List Slot → Option Picked
 load_pick port slots = pick_of (picked Reading port slots)
 
@@ -36,6 +37,7 @@ is_too_big port count = nat_lt port.capacity (taken_by port (piece_count count +
 
 -- ---- what is answered
 
+-- what saving so many bytes in this slot answers: how many and where, or that they pass the capacity of its tape
 abbrev pub saved_in : PortFields → ℕ → ℕ → Result Saved SaveFault
 saved_in port slot count = if is_too_big port count then Err TooBig else Ok (record { bytes = count; slot = slot })
 
@@ -50,9 +52,11 @@ save_answer port (Some p) count = saved_in port p.slot count
 abbrev pub putting_on : Picked → Option ℕ → List ℕ → List Effect
 putting_on p loaded bytes = putting_away loaded p.slot ++ putting_save p.slot (save_label (permanent_in p.label)) bytes
 
+-- the effects of saving these bytes in the slot that is picked; none where they pass the capacity of its tape
 abbrev pub effects_in : PortFields → Picked → Option ℕ → List ℕ → List Effect
 effects_in port p loaded bytes = if is_too_big port (length bytes) then [] else putting_on p loaded bytes
 
+-- the effects of a save; none where no slot is picked
 abbrev pub save_effects : PortFields → Option Picked → Option ℕ → List ℕ → List Effect
 save_effects port None loaded bytes = []
 save_effects port (Some p) loaded bytes = effects_in port p loaded bytes

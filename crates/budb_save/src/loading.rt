@@ -17,7 +17,7 @@ ghost use Rattle.budb_save.specs.Saves.{HasSave};
 ghost use Rattle.budb_save.specs.Back.{IsUnused, IsBack};
 ghost use Rattle.budb_save.specs.Reading.{IsLabelled};
 ghost use Rattle.budb_save.specs.Saving.{saved_bytes, load_pick};
-ghost use Rattle.budb_save.specs.Loading.{ReadsChanges, ReadsPicked, RefusesBack, LoadsBack, LeavesBack, FindsChanges, CommitsBack};
+ghost use Rattle.budb_save.specs.Loading.{ReadsChanges, ReadsPicked, RefusesBack, LoadsBack, LeavesBack, FindsChanges, CommitsBack, load_answer, load_effects, DoneAway, LeavesAway, UnlessLoadStopped};
 
 use crate::choosing::{Wish, choose_save};
 use crate::fault::{LoadFault, Stopped};
@@ -170,10 +170,12 @@ fn commit_back<P: Plant>(
     ensures same { OnErr result (budb.new ≡ budb.old) }
     ensures refused { IfErr result (CommitsBack (P.view plant.old).log_size changes.now) }
     ensures plant_same { OnErr result (result ≢ Err LoadFault.Failed → plant.new ≡ plant.old) }
+    ensures over_same { 268435456 < (P.view plant.old).log_size + length (encoded changes.now) → plant.new ≡ plant.old }
     ensures keeps { P.tells → (log : AnyList AnyChange) → Keeps log (state_of P.Plant plant.old).log budb.old → OnOk result (Keeps (log ++ changes.now) (state_of P.Plant plant.new).log budb.new) }
     ensures done { OnOk result (Done P.Plant (commits (encoded changes.now) ∷ []) plant.old plant.new) }
     ensures leaves { Leaves P.Plant (commits (encoded changes.now) ∷ []) plant.old plant.new }
     ensures size { OnOk result ((P.view plant.new).log_size ≡ (P.view plant.old).log_size + length (encoded changes.now)) }
+    ensures within { OnOk result ((P.view plant.new).log_size ≤ 268435456) }
     ensures stays { StaysQuiet P.Plant plant.old plant.new }
     ensures loads { OnOk result ((P.view plant.new).loads ≡ (P.view plant.old).loads) }
     ensures cause { HasCauseAt LoadFault.Failed (P.view plant.old).faults (P.view plant.new).faults result }
@@ -208,6 +210,9 @@ pub fn load_back<P: Plant>(
     ensures same { OnErr result (budb.new ≡ budb.old) }
     ensures looked { OnErr result (result ≢ Err LoadFault.Failed → Loads P.Plant plant.old plant.new) }
     ensures leaves { LeavesBack P.Plant port.now plant.old plant.new }
+    ensures answer { P.tells → (slots : AnyList Slot) → HasSlots P.Plant slots plant.old → UnlessLoadStopped result (result ≡ load_answer budb.old.database (P.view plant.old).log_size (state_of P.Plant plant.old).tape (load_pick port.now slots)) }
+    ensures done { P.tells → (slots : AnyList Slot) → HasSlots P.Plant slots plant.old → UnlessLoadStopped result (DoneAway P.Plant (load_effects budb.old.database (P.view plant.old).log_size (state_of P.Plant plant.old).tape (load_pick port.now slots)) plant.old plant.new) }
+    ensures away { P.tells → (slots : AnyList Slot) → HasSlots P.Plant slots plant.old → LeavesAway P.Plant (load_effects budb.old.database (P.view plant.old).log_size (state_of P.Plant plant.old).tape (load_pick port.now slots)) plant.old plant.new }
     ensures stays { StaysQuiet P.Plant plant.old plant.new }
     ensures loads { result ≢ Err LoadFault.Failed → (P.view plant.new).loads ≤ (P.view plant.old).loads + 1 }
     ensures cause { HasCauseAt LoadFault.Failed (P.view plant.old).faults (P.view plant.new).faults result }

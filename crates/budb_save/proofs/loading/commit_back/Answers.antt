@@ -21,6 +21,15 @@ count_listed-requires g c =
 pub returns-in-Ok-clause-count : goal.returns-in-Ok-clause-count
 returns-in-Ok-clause-count g c = c.count_listed.ensures ∙ ap (λ (db : Database). length db.listed) c.database.ensures
 
+pub returns-in-Ok-clause-within : goal.returns-in-Ok-clause-within
+returns-in-Ok-clause-within g c =
+    let P = g.P.Plant in
+    let e = c.in-Ok.ensures in
+    elim (cases_lt 268435456 ((P.view c.args.plant.now).log_size + length (encoded c.args.changes.now))) [
+      | inl over ↦ elim (e.only_full over) [ inl full ↦ absurd (cc) | inr none ↦ absurd (cc) ]
+      | inr fits ↦ omega (arith, fits, e.size)
+    ]
+
 pub returns-in-Err-LogFull-clause-refused : goal.returns-in-Err-LogFull-clause-refused
 returns-in-Err-LogFull-clause-refused g c = c.in-Err-LogFull.ensures.full c.in-Err-LogFull.length (ap Err c.in-Err-LogFull.field-0-is)
 

@@ -12,7 +12,8 @@ use Rattle.budb_save.specs.declared.choosing.Picked.{Picked}
 use Rattle.budb_save.specs.declared.fault.LoadFault.TheVariants.{InUse, Failed}
 use Rattle.budb_save.specs.Back.{IsUnused, IsBack}
 use Rattle.budb_save.specs.Saving.{load_pick}
-use Rattle.budb_save.specs.Loading.{SavesChanges, CommitsBack, RefusesBack, FindsChanges}
+use Rattle.budb_save.specs.Loading.{SavesChanges, CommitsBack, RefusesBack, FindsChanges, load_effects}
+use Rattle.budb_save.proofs.AnswerLaws.{answer_is, done_is, leaves_none, done_found, leaves_found}
 use Rattle.budb_save.proofs.LoadLaws.{refuses, refuses_commit, back_is, on_ok_back, on_err_back, if_err_back, back_ok, loads_few}
 use Rattle.budb_save.proofs.loading.load_back.Goals as goal
 
@@ -30,6 +31,24 @@ pub returns-then-not-is_unused-clause-leaves : goal.returns-then-not-is_unused-c
 returns-then-not-is_unused-clause-leaves g c =
     let old = c.args.plant.now in
     inl (leaves_loads g.P.Plant old old (loads_none g.P.Plant old c.requires.sound (λ told survives image left. g.met.P.Plant.left old image told c.requires.sound survives left)))
+
+pub returns-then-not-is_unused-clause-answer : goal.returns-then-not-is_unused-clause-answer
+returns-then-not-is_unused-clause-answer g c = λ told slots has.
+    let old = c.args.plant.now in
+    answer_is g.P.Plant c.args.port.now old old c.args.budb.now c.args.budb.now told slots has (Err InUse) (returns-then-not-is_unused-clause-refused g c told slots has) tt
+
+pub returns-then-not-is_unused-clause-done : goal.returns-then-not-is_unused-clause-done
+returns-then-not-is_unused-clause-done g c = λ told slots has.
+    let old = c.args.plant.now in
+    done_is g.P.Plant c.args.port.now old old c.args.budb.now c.args.budb.now told slots has (Err InUse) (returns-then-not-is_unused-clause-refused g c told slots has)
+    (returns-then-not-is_unused-clause-looked g c) tt
+
+pub returns-then-not-is_unused-clause-away : goal.returns-then-not-is_unused-clause-away
+returns-then-not-is_unused-clause-away g c = λ told slots has.
+    let P = g.P.Plant in
+    let old = c.args.plant.now in
+    let loads = loads_none P old c.requires.sound (λ tells survives image left. g.met.P.Plant.left old image tells c.requires.sound survives left) in
+    leaves_none P old old (load_effects c.args.budb.now.database (P.view old).log_size (state_of P old).tape (load_pick c.args.port.now slots)) (leaves_loads P old old loads)
 
 -- ---- nothing found
 
@@ -51,6 +70,21 @@ returns-in-Err-clause-looked g c = λ well. c.in-Err.ensures.looks.done (λ is. 
 
 pub returns-in-Err-clause-leaves : goal.returns-in-Err-clause-leaves
 returns-in-Err-clause-leaves g c = inl c.in-Err.ensures.looks.leaves
+
+pub returns-in-Err-clause-answer : goal.returns-in-Err-clause-answer
+returns-in-Err-clause-answer g c = λ told slots has.
+    answer_is g.P.Plant c.args.port.now c.args.plant.now c.find_changes.new.plant c.args.budb.now c.args.budb.now told slots has (Err c.in-Err.fault) (returns-in-Err-clause-refused g c told slots has) tt
+
+pub returns-in-Err-clause-done : goal.returns-in-Err-clause-done
+returns-in-Err-clause-done g c = λ told slots has.
+    done_is g.P.Plant c.args.port.now c.args.plant.now c.find_changes.new.plant c.args.budb.now c.args.budb.now told slots has (Err c.in-Err.fault) (returns-in-Err-clause-refused g c told slots has)
+    (returns-in-Err-clause-looked g c) tt
+
+pub returns-in-Err-clause-away : goal.returns-in-Err-clause-away
+returns-in-Err-clause-away g c = λ told slots has.
+    let P = g.P.Plant in
+    let old = c.args.plant.now in
+    leaves_none P old c.find_changes.new.plant (load_effects c.args.budb.now.database (P.view old).log_size (state_of P old).tape (load_pick c.args.port.now slots)) c.in-Err.ensures.looks.leaves
 
 -- ---- found
 
@@ -87,7 +121,7 @@ returns-in-Ok-clause-back g c =
     let unused = subst IsUnused c.database.ensures (c.is_unused.ensures.yes c.if-not-is_unused.false) in
     let found = subst (FindsChanges P c.args.port.now old mid) (sym c.as_slice.ensures) c.in-Ok.ensures.found in
     let e = c.commit_back.ensures in
-    back_ok P c.args.port.now old mid new c.args.budb.now c.commit_back.new.budb c.as_slice.result.now c.commit_back.result unused found e.made e.count e.keeps e.done e.size
+    back_ok P c.args.port.now old mid new c.args.budb.now c.commit_back.new.budb c.as_slice.result.now c.commit_back.result unused found e.made e.count e.keeps e.done e.size e.within
 
 pub returns-in-Ok-clause-saved : goal.returns-in-Ok-clause-saved
 returns-in-Ok-clause-saved g c = λ told slots has p is log form stands.
@@ -129,6 +163,37 @@ returns-in-Ok-clause-leaves g c =
       saved = found.saved;
       leaves = leaves_both P (putting_away (loaded_of P old) found.slot) (commits (encoded changes) ∷ []) old mid new found.done found.leaves c.commit_back.ensures.leaves;
     }
+
+pub returns-in-Ok-clause-answer : goal.returns-in-Ok-clause-answer
+returns-in-Ok-clause-answer g c = λ told slots has.
+    answer_is g.P.Plant c.args.port.now c.args.plant.now c.commit_back.new.plant c.args.budb.now c.commit_back.new.budb told slots has c.commit_back.result
+    (returns-in-Ok-clause-refused g c told slots has) (returns-in-Ok-clause-back g c)
+
+pub returns-in-Ok-clause-done : goal.returns-in-Ok-clause-done
+returns-in-Ok-clause-done g c = λ told slots has.
+    let P = g.P.Plant in
+    let port = c.args.port.now in
+    let old = c.args.plant.now in
+    let mid = c.find_changes.new.plant in
+    let new = c.commit_back.new.plant in
+    let was = c.args.budb.now in
+    let now = c.commit_back.new.budb in
+    let e = c.commit_back.ensures in
+    let unused = subst IsUnused c.database.ensures (c.is_unused.ensures.yes c.if-not-is_unused.false) in
+    let found = subst (FindsChanges P port old mid) (sym c.as_slice.ensures) c.in-Ok.ensures.found in
+    done_is P port old new was now told slots has c.commit_back.result (returns-in-Ok-clause-refused g c told slots has) (returns-in-Ok-clause-looked g c)
+    (done_found P port old new was now told slots has mid c.as_slice.result.now unused found c.commit_back.result e.done e.size e.within)
+
+pub returns-in-Ok-clause-away : goal.returns-in-Ok-clause-away
+returns-in-Ok-clause-away g c = λ told slots has.
+    let P = g.P.Plant in
+    let port = c.args.port.now in
+    let old = c.args.plant.now in
+    let mid = c.find_changes.new.plant in
+    let e = c.commit_back.ensures in
+    let unused = subst IsUnused c.database.ensures (c.is_unused.ensures.yes c.if-not-is_unused.false) in
+    let found = subst (FindsChanges P port old mid) (sym c.as_slice.ensures) c.in-Ok.ensures.found in
+    leaves_found P port old c.commit_back.new.plant c.args.budb.now c.commit_back.new.budb told slots has mid c.as_slice.result.now unused found e.over_same e.leaves
 
 pub returns-in-Ok-clause-stays : goal.returns-in-Ok-clause-stays
 returns-in-Ok-clause-stays g c = quiet_both g.P.Plant c.args.plant.now c.find_changes.new.plant c.commit_back.new.plant c.in-Ok.ensures.looks.stays c.commit_back.ensures.stays

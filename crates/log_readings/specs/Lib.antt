@@ -1,0 +1,4 @@
+pub mod Readers
+pub mod Texts
+pub mod Records
+pub mod Readings
