@@ -15,3 +15,6 @@ pub mod AnswerLaws
 pub mod PlacedLaws
 pub mod PlayLaws
 pub mod RestoreLaws
+pub mod StrayLaws
+pub mod ReadLaws
+pub mod KeepLaws

@@ -109,7 +109,7 @@ module _ (slots : List Slot) (name : List ℕ) (d : DumpRecordFields) (ds : List
   given_on base (Err spot) v outcome after rest = absurd (cc)
 
   -- it made a volume, over which the others are played
-  plays_on : (base : Option VolumeFields) (v : VolumeFields) (outcome : Result VolumeFields PlayFault) → PlaysOver slots name base (d ∷ []) (Ok v) → PlaysOver slots name (Some v) ds outcome → PlaysOver slots name base (d ∷ ds) outcome
+  pub plays_on : (base : Option VolumeFields) (v : VolumeFields) (outcome : Result VolumeFields PlayFault) → PlaysOver slots name base (d ∷ []) (Ok v) → PlaysOver slots name (Some v) ds outcome → PlaysOver slots name base (d ∷ ds) outcome
   plays_on base v outcome one rest = (one.0, one.1, given_on base one.0 v outcome one.2 rest)
 
   applied_off : (x : Result VolumeFields ApplyFault) (f : PlayFault) → after_applied x (λ w. IsMade (Some w) (Err f)) (Err f) → after_applied x (λ w. PlaysOver slots name (Some w) ds (Err f)) (Err f)
@@ -123,7 +123,7 @@ module _ (slots : List Slot) (name : List ℕ) (d : DumpRecordFields) (ds : List
   given_off base (Err spot) f after = after
 
   -- it has a fault, whatever the others have
-  plays_off : (base : Option VolumeFields) (f : PlayFault) → PlaysOver slots name base (d ∷ []) (Err f) → PlaysOver slots name base (d ∷ ds) (Err f)
+  pub plays_off : (base : Option VolumeFields) (f : PlayFault) → PlaysOver slots name base (d ∷ []) (Err f) → PlaysOver slots name base (d ∷ ds) (Err f)
   plays_off base f one = (one.0, one.1, given_off base one.0 f one.2)
 
 -- ---- the tapes of a dump, and those of the dumps behind it
@@ -216,7 +216,7 @@ first_of slots listed name id ids tapes ready =
 
 -- ---- the dumps of a chain, one after the other
 
-drop_here : (ids : List ℕ) (i : ℕ) → i < length ids → drop i ids ≡ get_or ids i 0 ∷ drop (i + 1) ids
+pub drop_here : (ids : List ℕ) (i : ℕ) → i < length ids → drop i ids ≡ get_or ids i 0 ∷ drop (i + 1) ids
 drop_here ids i within = rw (add-one, drop-cons ids i 0) refl
 
 -- what playing a listed dump over a base answers

@@ -34,7 +34,7 @@ pub enum RestoreFault {
 
 /// Why tapes weren't looked at.
 #[derive(Clone, Copy, Debug, PartialEq, Eq, Drop, Error)]
-pub(crate) enum LookFault {
+pub enum LookFault {
     /// The call was refused by the outside.
     #[error("a call of the plant failed")]
     Failed,

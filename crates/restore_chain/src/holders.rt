@@ -1,13 +1,14 @@
 //! The slots that hold the tapes of recorded dumps.
 
-ghost use Rattle.std.specs.Prelude.{◌≡◌, ◌&&◌, List as AnyList, slice_get, IfOk, IsTrue};
+ghost use Rattle.std.specs.Prelude.{◌≡◌, ◌≤◌, ◌+◌, ◌&&◌, List as AnyList, Some, slice_get, IfOk, OnOk, IfSome, IsTrue};
 ghost use Rattle.std.specs.Option.{option_copied};
-ghost use Rattle.plant_effects.specs.Runs.{state_of};
+ghost use Rattle.plant_effects.specs.Runs.{state_of, loaded_of};
 ghost use Rattle.tape_text.specs.Items.{Item, Read};
 ghost use Rattle.tape_scan.specs.Slots.{Slot};
 ghost use Rattle.archive_model.specs.Holding.{place_of, is_label_frame, is_head_frame, is_so, holds, holder_here};
 ghost use Rattle.tape_scan.specs.Looking.{IsSlot, HasSlots, LooksAt};
 ghost use Rattle.restore_chain.specs.Planning.{is_frame, number_of};
+ghost use Rattle.restore_chain.specs.Strays.{load_if, is_labelled, loads_for};
 
 use crate::fault::LookFault;
 use crate::play_read::read_frame;
@@ -64,6 +65,8 @@ fn has_head<P: Plant>(
     requires here { IsTrue ((P.view plant.old).present slot) }
     ensures is { P.tells → (items : AnyList Item) → Read ((state_of P.Plant plant.old).tape slot) items → IfOk result (λ is. is ≡ is_so (is_head_frame id tape) (slice_get items place)) }
     ensures looks { LooksAt P.Plant LookFault.Failed plant.old plant.new result }
+    ensures loads { (P.view plant.new).loads ≤ (P.view plant.old).loads + 1 }
+    ensures loaded { OnOk result (loaded_of P.Plant plant.new ≡ Some slot) }
 {
     match load_tape(plant, slot) {
         Ok(()) => {}
@@ -91,6 +94,7 @@ fn has_label<P: Plant>(
     requires here { IsTrue ((P.view plant.old).present slot) }
     ensures is { P.tells → (items : AnyList Item) → Read ((state_of P.Plant plant.old).tape slot) items → IfOk result (λ is. is ≡ is_so (is_label_frame initial tape) (slice_get items 0)) }
     ensures looks { LooksAt P.Plant LookFault.Failed plant.old plant.new result }
+    ensures loads { (P.view plant.new).loads ≡ (P.view plant.old).loads }
 {
     match first_frame(alloc, plant, slot) {
         Ok(frame) => {
@@ -115,6 +119,8 @@ fn holds_here<P: Plant>(
     requires here { IsTrue ((P.view plant.old).present slot) }
     ensures is { P.tells → (items : AnyList Item) → Read ((state_of P.Plant plant.old).tape slot) items → IfOk result (λ is. is ≡ holds dump.now tape items) }
     ensures looks { LooksAt P.Plant LookFault.Failed plant.old plant.new result }
+    ensures loads { P.tells → (items : AnyList Item) → Read ((state_of P.Plant plant.old).tape slot) items → (P.view plant.new).loads ≤ (P.view plant.old).loads + load_if (is_so (is_label_frame dump.now.initial tape) (slice_get items 0)) }
+    ensures loaded { IfOk result (λ is. IsTrue is → loaded_of P.Plant plant.new ≡ Some slot) }
 {
     let Some(part) = place_of(dump, tape) else {
         return Ok(false);
@@ -137,6 +143,8 @@ fn is_holder<P: Plant>(
     requires sound { P.sound plant.old }
     ensures is { P.tells → (s : Slot) → IsSlot P.Plant plant.old slot s → IfOk result (λ is. is ≡ (s.here && holds dump.now tape s.items)) }
     ensures looks { LooksAt P.Plant LookFault.Failed plant.old plant.new result }
+    ensures loads { P.tells → (s : Slot) → IsSlot P.Plant plant.old slot s → (P.view plant.new).loads ≤ (P.view plant.old).loads + load_if (is_labelled dump.now tape s) }
+    ensures loaded { IfOk result (λ is. IsTrue is → loaded_of P.Plant plant.new ≡ Some slot) }
 {
     if !plant.here(slot) {
         return Ok(false);
@@ -144,8 +152,13 @@ fn is_holder<P: Plant>(
     holds_here(alloc, plant, dump, tape, slot)
 }
 
-/// The least slot here that holds a tape of a record. The slots are asked in ascending order.
-pub(crate) fn holder_of<P: Plant>(
+/// The least slot here that holds a tape of a record; its tape is left loaded. The slots are asked in ascending order, and of those up to
+/// it the ones that have the tape's label are loaded, and none else.
+///
+/// # Errors
+///
+/// `Failed` where a call of the plant was refused, and `Memory`.
+pub fn holder_of<P: Plant>(
     alloc: Global,
     plant: &mut P,
     dump: &DumpRecord,
@@ -154,6 +167,8 @@ pub(crate) fn holder_of<P: Plant>(
     requires { P.sound plant.old }
     ensures holder { P.tells → (slots : AnyList Slot) → HasSlots P.Plant slots plant.old → IfOk result (λ slot. slot ≡ number_of (holder_here dump.now tape slots)) }
     ensures looks { LooksAt P.Plant LookFault.Failed plant.old plant.new result }
+    ensures loads { P.tells → (slots : AnyList Slot) → HasSlots P.Plant slots plant.old → (P.view plant.new).loads ≤ (P.view plant.old).loads + loads_for slots (record { dump = dump.now; tape = tape }) }
+    ensures loaded { IfOk result (λ found. IfSome found (λ slot. loaded_of P.Plant plant.new ≡ Some slot)) }
 {
     for slot in 0..plant.slots() {
         match is_holder(alloc, plant, dump, tape, slot) {

@@ -14,6 +14,9 @@
 mod chain_plan;
 mod fault;
 mod holders;
+mod keep_fragment;
+mod keeping;
+mod kept_playing;
 mod laws;
 mod needs;
 mod planning;
@@ -27,9 +30,13 @@ mod play_judge;
 mod play_read;
 mod play_volume;
 mod reading;
+mod tape_keeping;
 
 pub use chain_plan::{ChainPlan, TapeNeed};
-pub use fault::RestoreFault;
+pub use fault::{LookFault, RestoreFault};
+pub use holders::holder_of;
+pub use keeping::{Kept, KeptPiece, Reading};
+pub use kept_playing::play_kept;
 pub use laws::{
     a_dump_with_its_clone_is_played, a_look_up_is_computed, a_plan_has_one_answer,
     a_plan_leads_to_the_contents, a_plan_may_be_played, a_played_plan_has_one_answer,
@@ -38,3 +45,5 @@ pub use laws::{
 };
 pub use planning::plan;
 pub use play_chain::play;
+pub use play_joined::Site;
+pub use tape_keeping::keep_tape;

@@ -43,7 +43,7 @@ fn bad_on_tape(alloc: Global, dump: &DumpRecord, site: Site) -> RestoreFault
 }
 
 /// What a dump makes of the volume so far, where this is what its tapes give.
-fn answer_given(
+pub(crate) fn answer_given(
     alloc: Global,
     dump: &DumpRecord,
     given: Given,
@@ -60,7 +60,7 @@ fn answer_given(
 }
 
 /// The place of the first volume of a name in a dump's record.
-fn volume_place(dump: &DumpRecord, name: &[u8]) -> Option<usize>
+pub(crate) fn volume_place(dump: &DumpRecord, name: &[u8]) -> Option<usize>
     ensures { result ≡ position (λ v. is_same_text v.name name.now) dump.now.volumes }
 {
     dump.fields()
@@ -71,7 +71,7 @@ fn volume_place(dump: &DumpRecord, name: &[u8]) -> Option<usize>
 }
 
 /// The volume at a place of a dump's record.
-fn volume_at(dump: &DumpRecord, place: usize) -> &VolRecord
+pub(crate) fn volume_at(dump: &DumpRecord, place: usize) -> &VolRecord
     requires { place < length dump.now.volumes }
     ensures { slice_get dump.now.volumes place ≡ Some result.now }
 {
@@ -79,7 +79,7 @@ fn volume_at(dump: &DumpRecord, place: usize) -> &VolRecord
 }
 
 /// The place of a volume as the tapes tell it.
-fn index_of(dump: &DumpRecord, place: usize) -> u32
+pub(crate) fn index_of(dump: &DumpRecord, place: usize) -> u32
     requires { place < length dump.now.volumes }
     ensures { result ≡ place }
 {

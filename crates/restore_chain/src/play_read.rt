@@ -41,6 +41,7 @@ pub(crate) fn read_frame<P: Plant>(
     ensures numbers { result ≢ Err LookFault.Failed → SameNumbers P.Plant plant.old plant.new }
     ensures stays { StaysQuiet P.Plant plant.old plant.new }
     ensures cause { HasCauseAt LookFault.Failed (P.view plant.old).faults (P.view plant.new).faults result }
+    ensures loads { (P.view plant.new).loads ≡ (P.view plant.old).loads }
 {
     one_item();
     if place >= plant.tape_len() {

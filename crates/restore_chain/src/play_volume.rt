@@ -42,7 +42,7 @@ pub enum Given {
 }
 
 /// How many fragments a volume has.
-fn frag_count(volume: &VolRecord) -> usize
+pub(crate) fn frag_count(volume: &VolRecord) -> usize
     ensures count { result ≡ length volume.now.frags }
     ensures some { 1 ≤ result }
     ensures few { result ≤ 65535 }
@@ -51,7 +51,7 @@ fn frag_count(volume: &VolRecord) -> usize
 }
 
 /// Where the fragment of a volume lies that has a place in its record.
-fn frag_at(volume: &VolRecord, place: usize) -> Frag
+pub(crate) fn frag_at(volume: &VolRecord, place: usize) -> Frag
     requires { place < length volume.now.frags }
     ensures { slice_get volume.now.frags place ≡ Some result }
 {
@@ -84,7 +84,7 @@ fn head_at(
 }
 
 /// The fragment of a volume that has a place in its record, from 0 on.
-fn called_frag(
+pub(crate) fn called_frag(
     alloc: Global,
     id: u32,
     index: u32,

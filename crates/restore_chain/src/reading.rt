@@ -48,6 +48,7 @@ pub(crate) fn first_frame<P: Plant>(
     requires here { IsTrue ((P.view plant.old).present slot) }
     ensures frame { P.tells → (items : AnyList Item) → Read ((state_of P.Plant plant.old).tape slot) items → IfOk result (λ frame. frame ≡ frame_of (slice_get items 0)) }
     ensures looks { LooksAt P.Plant LookFault.Failed plant.old plant.new result }
+    ensures loads { (P.view plant.new).loads ≡ (P.view plant.old).loads }
 {
     let mut block = [0; 16384];
     match peek_record(plant, slot, &mut block) {

@@ -39,55 +39,78 @@ front_behind lines cells v r =
     let lists : cells ++ (v.cells ++ r.cells) ≡ (cells ++ v.cells) ++ r.cells = sym (append_assoc cells v.cells r.cells) in
     (λ i. record { reply = replies i; cells = lists i })
 
+front_front : (lines told : List ℕ) (cells more : List (List Stored)) (r : RestoreAnswer) → in_front lines cells (in_front told more r) ≡ in_front (lines ++ told) (cells ++ more) r
+front_front lines told cells more r =
+    let replies : lines ++ (told ++ r.reply) ≡ (lines ++ told) ++ r.reply = sym (append_assoc lines told r.reply) in
+    let lists : cells ++ (more ++ r.cells) ≡ (cells ++ more) ++ r.cells = sym (append_assoc cells more r.cells) in
+    (λ i. record { reply = replies i; cells = lists i })
+
+-- the rest of them, from the next one on
+pub rest_from : (choices : List Wanted) (count : ℕ) (choice : Wanted) → count < length choices → choice ≡ get_or choices count choice → drop count choices ≡ choice ∷ drop (count + 1) choices
+rest_from choices count choice within here = drop_more choices count choice within ∙ ap (λ (x : Wanted). x ∷ drop (count + 1) choices) (sym here)
+
 module _ (a : Archive) (manner : Manner) (choices : List Wanted) (old : List Stored) where
-  pub none_so_far : SoFar a manner choices old 0 [] old
-  none_so_far = record { cells = []; list = refl; rest = refl }
+  pub none_so_far : SoFar a manner choices old choices [] old
+  none_so_far = record { cells = []; list = refl; due = refl }
 
-  -- the rest, from the next one on
-  rest_is : (count : ℕ) (choice : Wanted) (now : List Stored) → count < length choices → choice ≡ get_or choices count choice
-      → all_answer a now manner (drop count choices) ≡ (let v = volume_answer a now manner choice in behind v (all_answer a (last_cell now v.cells) manner (drop (count + 1) choices)))
-  rest_is count choice now within here =
-      ap (all_answer a now manner) (drop_more choices count choice within ∙ ap (λ (x : Wanted). x ∷ drop (count + 1) choices) (sym here))
-
-  pub one_more_so_far : (count : ℕ) (choice : Wanted) (lines more : List ℕ) (now new : List Stored) → count < length choices → choice ≡ get_or choices count choice → SoFar a manner choices old count lines now
-      → more ≡ lines ++ told_lines (volume_answer a now manner choice).told → new ≡ last_cell now (volume_answer a now manner choice).cells → SoFar a manner choices old (count + 1) more new
-  one_more_so_far count choice lines more now new within here so_far told list =
+  -- one more was restored
+  pub next_so_far : (choice : Wanted) (rest : List Wanted) (lines more : List ℕ) (now new : List Stored) → SoFar a manner choices old (choice ∷ rest) lines now
+      → more ≡ lines ++ told_lines (volume_answer a now manner choice).told → new ≡ last_cell now (volume_answer a now manner choice).cells → SoFar a manner choices old rest more new
+  next_so_far choice rest lines more now new so_far told list =
       let v = volume_answer a now manner choice in
       record {
         cells = so_far.cells ++ v.cells;
         list = list ∙ ap (λ (s : List Stored). last_cell s v.cells) so_far.list ∙ sym (last_both old so_far.cells v.cells);
-        rest =
-            so_far.rest
-            ∙ ap (in_front lines so_far.cells) (rest_is count choice now within here)
-            ∙ front_behind lines so_far.cells v (all_answer a (last_cell now v.cells) manner (drop (count + 1) choices))
-            ∙ ap (λ (s : List Stored). in_front (lines ++ told_lines v.told) (so_far.cells ++ v.cells) (all_answer a s manner (drop (count + 1) choices))) (sym list)
-            ∙ ap (λ (l : List ℕ). in_front l (so_far.cells ++ v.cells) (all_answer a new manner (drop (count + 1) choices))) (sym told);
+        due =
+            so_far.due
+            ∙ front_behind lines so_far.cells v (all_answer a (last_cell now v.cells) manner rest)
+            ∙ ap (λ (s : List Stored). in_front (lines ++ told_lines v.told) (so_far.cells ++ v.cells) (all_answer a s manner rest)) (sym list)
+            ∙ ap (λ (l : List ℕ). in_front l (so_far.cells ++ v.cells) (all_answer a new manner rest)) (sym told);
       }
 
-  over : (count : ℕ) (lines : List ℕ) (now : List Stored) → length choices ≤ count → (so_far : SoFar a manner choices old count lines now) → all_answer a old manner choices ≡ in_front lines so_far.cells (record { reply = ok_line; cells = [] })
-  over count lines now past so_far = so_far.rest ∙ ap (λ (cs : List Wanted). in_front lines so_far.cells (all_answer a now manner cs)) (drop_all count choices past)
+  -- several more were
+  pub joined_so_far : (batch rest : List Wanted) (lines told : List ℕ) (now new : List Stored) → SoFar a manner choices old (batch ++ rest) lines now → SoFar a manner (batch ++ rest) now rest told new → SoFar a manner choices old rest (lines ++ told) new
+  joined_so_far batch rest lines told now new so_far more = record {
+    cells = so_far.cells ++ more.cells;
+    list = more.list ∙ ap (λ (s : List Stored). last_cell s more.cells) so_far.list ∙ sym (last_both old so_far.cells more.cells);
+    due = so_far.due ∙ ap (in_front lines so_far.cells) more.due ∙ front_front lines told so_far.cells more.cells (all_answer a new manner rest);
+  }
 
-  pub all_told : (count : ℕ) (lines reply : List ℕ) (now : List Stored) → length choices ≤ count → SoFar a manner choices old count lines now → reply ≡ lines ++ ok_line → IsAnswer (all_answer a old manner choices) reply old now
-  all_told count lines reply now past so_far is =
-      subst (λ (r : RestoreAnswer). IsAnswer r reply old now) (sym (over count lines now past so_far))
+  pub one_more_so_far : (count : ℕ) (choice : Wanted) (lines more : List ℕ) (now new : List Stored) → count < length choices → choice ≡ get_or choices count choice → SoFar a manner choices old (drop count choices) lines now
+      → more ≡ lines ++ told_lines (volume_answer a now manner choice).told → new ≡ last_cell now (volume_answer a now manner choice).cells → SoFar a manner choices old (drop (count + 1) choices) more new
+  one_more_so_far count choice lines more now new within here so_far told list =
+      next_so_far choice (drop (count + 1) choices) lines more now new (subst (λ (cs : List Wanted). SoFar a manner choices old cs lines now) (rest_from choices count choice within here) so_far) told list
+
+  -- none is left
+  pub all_told : (lines reply : List ℕ) (now : List Stored) → SoFar a manner choices old [] lines now → reply ≡ lines ++ ok_line → IsAnswer (all_answer a old manner choices) reply old now
+  all_told lines reply now so_far is =
+      subst (λ (r : RestoreAnswer). IsAnswer r reply old now) (sym so_far.due)
       (record { reply_is = is; list = so_far.list ∙ sym (last_both old so_far.cells []) })
 
+  pub past_so_far : (count : ℕ) (lines : List ℕ) (now : List Stored) → length choices ≤ count → SoFar a manner choices old (drop count choices) lines now → SoFar a manner choices old [] lines now
+  past_so_far count lines now past so_far = subst (λ (cs : List Wanted). SoFar a manner choices old cs lines now) (drop_all count choices past) so_far
+
+  -- while those that are left are restored
+  pub rest_left : (rest : List Wanted) (lines : List ℕ) (now new : List Stored) → SoFar a manner choices old rest lines now → OnTheWay now (all_answer a now manner rest).cells new → OnTheWay old (all_answer a old manner choices).cells new
+  rest_left rest lines now new so_far on =
+      let cells = (all_answer a now manner rest).cells in
+      subst (λ (r : RestoreAnswer). OnTheWay old r.cells new) (sym so_far.due)
+      (way_behind old so_far.cells cells new (subst (λ (s : List Stored). OnTheWay s cells new) so_far.list on))
+
   -- the cell between two of them
-  pub all_left : (count : ℕ) (lines : List ℕ) (now : List Stored) → SoFar a manner choices old count lines now → OnTheWay old (all_answer a old manner choices).cells now
-  all_left count lines now so_far =
-      let rest = (all_answer a now manner (drop count choices)).cells in
-      subst (λ (r : RestoreAnswer). OnTheWay old r.cells now) (sym so_far.rest)
-      (way_behind old so_far.cells rest now (subst (λ (s : List Stored). OnTheWay s rest now) so_far.list (way_here now rest)))
+  pub all_left : (rest : List Wanted) (lines : List ℕ) (now : List Stored) → SoFar a manner choices old rest lines now → OnTheWay old (all_answer a old manner choices).cells now
+  all_left rest lines now so_far = rest_left rest lines now now so_far (way_here now (all_answer a now manner rest).cells)
 
   -- and while one of them is restored
-  pub one_left : (count : ℕ) (choice : Wanted) (lines : List ℕ) (now new : List Stored) → count < length choices → choice ≡ get_or choices count choice → SoFar a manner choices old count lines now
+  pub next_left : (choice : Wanted) (rest : List Wanted) (lines : List ℕ) (now new : List Stored) → SoFar a manner choices old (choice ∷ rest) lines now → OnTheWay now (volume_answer a now manner choice).cells new → OnTheWay old (all_answer a old manner choices).cells new
+  next_left choice rest lines now new so_far on =
+      let v = volume_answer a now manner choice in
+      rest_left (choice ∷ rest) lines now new so_far (way_front now v.cells (all_answer a (last_cell now v.cells) manner rest).cells new on)
+
+  pub one_left : (count : ℕ) (choice : Wanted) (lines : List ℕ) (now new : List Stored) → count < length choices → choice ≡ get_or choices count choice → SoFar a manner choices old (drop count choices) lines now
       → OnTheWay now (volume_answer a now manner choice).cells new → OnTheWay old (all_answer a old manner choices).cells new
   one_left count choice lines now new within here so_far on =
-      let v = volume_answer a now manner choice in
-      let rest = all_answer a (last_cell now v.cells) manner (drop (count + 1) choices) in
-      let all : all_answer a old manner choices ≡ in_front lines so_far.cells (behind v rest) = so_far.rest ∙ ap (in_front lines so_far.cells) (rest_is count choice now within here) in
-      subst (λ (r : RestoreAnswer). OnTheWay old r.cells new) (sym all)
-      (way_behind old so_far.cells (v.cells ++ rest.cells) new (subst (λ (s : List Stored). OnTheWay s (v.cells ++ rest.cells) new) so_far.list (way_front now v.cells rest.cells new on)))
+      next_left choice (drop (count + 1) choices) lines now new (subst (λ (cs : List Wanted). SoFar a manner choices old cs lines now) (rest_from choices count choice within here) so_far) on
 
 -- ---- whatever stands on the tapes
 
@@ -109,3 +132,8 @@ module _ (manner : Manner) where
   put_so_far choices zero old now same = subst (MayPutEach manner choices old) (sym same) (none_put choices old)
   put_so_far [] (suc i) old now same = same
   put_so_far (c ∷ choices) (suc i) old now (mid, first, rest) = (mid, first, put_so_far choices i mid now rest)
+
+  -- those of one list and those of another behind it
+  pub put_both : (xs ys : List Wanted) (old now new : List Stored) → MayPutEach manner xs old now → MayPutEach manner ys now new → MayPutEach manner (xs ++ ys) old new
+  put_both [] ys old now new same put = subst (λ (s : List Stored). MayPutEach manner ys s new) same put
+  put_both (c ∷ xs) ys old now new (mid, first, rest) put = (mid, first, put_both xs ys mid now new rest put)

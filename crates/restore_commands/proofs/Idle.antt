@@ -9,6 +9,8 @@ use Rattle.tape_scan.specs.Looking.{Loads, LeavesLoads, LooksAt}
 use Rattle.tape_scan.proofs.Looking.{looks_none, looks_well, looks_after, looks_as}
 use Rattle.restore_chain.specs.declared.fault.RestoreFault.{RestoreFault}
 use Rattle.restore_chain.specs.declared.fault.RestoreFault.TheVariants as faults
+use Rattle.mount_plan.specs.declared.fault.MountFault.{MountFault}
+use Rattle.mount_plan.specs.declared.fault.MountFault.TheVariants as mounts
 use Rattle.restore_commands.specs.declared.stops.RestoreStop.{RestoreStop}
 use Rattle.restore_commands.specs.declared.stops.RestoreStop.TheVariants as stops
 
@@ -23,6 +25,11 @@ module _ {D : Type 0} (P : Plant D) where
   -- a look at the plant, by the clauses of what looked
   pub looked : {T : Type 0} (old new : D) (r : Result T RestoreFault) → (r ≢ Err faults.Failed → Loads P old new) → LeavesLoads P old new → StaysQuiet P old new → HasCauseAt faults.Failed (P.view old).faults (P.view new).faults r → LooksAt P faults.Failed old new r
   looked old new r done leaves stays cause = record { done = done; leaves = leaves; stays = stays; cause = cause }
+
+  -- the same by the clauses of what played several volumes
+  pub played_looks : {T U : Type 0} (old new : D) (r : Result T MountFault) (q : Result U RestoreStop) → (q ≡ Err stops.Plant → r ≡ Err mounts.Failed) → (r ≡ Err mounts.Failed → q ≡ Err stops.Plant)
+      → (r ≢ Err mounts.Failed → Loads P old new) → LeavesLoads P old new → StaysQuiet P old new → HasCauseAt mounts.Failed (P.view old).faults (P.view new).faults r → LooksAt P stops.Plant old new q
+  played_looks old new r q back on done leaves stays cause = looks_as P mounts.Failed stops.Plant old new r q back on (record { done = done; leaves = leaves; stays = stays; cause = cause })
 
   -- it was refused, and so is what it was for
   pub refused_look : {T U : Type 0} (old new : D) (fault : RestoreFault) (q : Result U RestoreStop) → (fault ≡ faults.Failed → q ≡ Err stops.Plant) → (q ≡ Err stops.Plant → fault ≡ faults.Failed)

@@ -7,3 +7,4 @@ pub mod LineLaws
 pub mod FoundLaws
 pub mod Idle
 pub mod EachLaws
+pub mod BatchLaws

@@ -3,3 +3,4 @@ pub mod Choices
 pub mod Answers
 pub mod Leaving
 pub mod Steps
+pub mod Batches

@@ -1,21 +1,24 @@
 -- The steps of a restore. These words stand inside this crate.
-use Rattle.std.specs.Prelude.{◌≡◌, ℕ, ◌-◌, List, [], ◌++◌, length, drop, slice_get, Bool, true, false, if◌then◌else◌, Result, Ok, Err}
+use Rattle.std.specs.Prelude.{◌≡◌, ℕ, ◌-◌, List, [], ◌∷◌, ◌++◌, length, slice_get, Bool, true, false, if◌then◌else◌, Option, None, Result, Ok, Err}
 use Rattle.std.specs.List.{flat_map}
 use Rattle.std.specs.Option.{unwrap_or}
 use Rattle.cell_core.specs.declared.fault.CellFault.{CellFault}
 use Rattle.cell_core.specs.declared.stored.Stored.{Stored}
-use Rattle.archive_model.specs.Archives.{Archive}
+use Rattle.archive_model.specs.Archives.{Archive, Refusal}
 use Rattle.restore_chain.specs.declared.chain_plan.TapeNeed.{TapeNeed}
 use Rattle.restore_chain.specs.declared.chain_plan.ChainPlan.{ChainPlan}
 use Rattle.restore_chain.specs.declared.fault.RestoreFault.{RestoreFault}
 use Rattle.restore_chain.specs.declared.fault.RestoreFault.TheVariants as faults
+use Rattle.restore_chain.specs.Answers.{looked_up}
+use Rattle.mount_plan.specs.declared.fault.Played.{Played}
+use Rattle.mount_plan.specs.declared.fault.Played.TheVariants as played
 use Rattle.backup_replies.specs.declared.refusals.Refusal.TheVariants as refusals
 use Rattle.backup_replies.specs.Texts.{refused_word, refused_number, refused_at}
 use Rattle.backup_replies.specs.Restores.{restored_line, would_restore_line, need_line}
 use Rattle.restore_commands.specs.declared.told.Told.{Told}
 use Rattle.restore_commands.specs.declared.told.Told.TheVariants.{Restored, Refused}
 use Rattle.backup_words.specs.declared.command.Wanted.{Wanted}
-use Rattle.restore_commands.specs.Answers.{Manner, VolumeAnswer, RestoreAnswer, target_refusal, last_cell, all_answer}
+use Rattle.restore_commands.specs.Answers.{Manner, VolumeAnswer, RestoreAnswer, look_up_refusal, target_refusal, last_cell, all_answer}
 
 -- ---- what is told by a plan
 
@@ -68,9 +71,35 @@ pub record IsToldSo (answer : VolumeAnswer) (told : Told) (old new : List Stored
 abbrev pub in_front : List ℕ → List (List Stored) → RestoreAnswer → RestoreAnswer
 in_front lines cells rest = record { reply = lines ++ rest.reply; cells = cells ++ rest.cells }
 
--- So many of them were restored, or refused: these lines were told, and the cell is left so; what is due of all is that in front of what
--- is due of the rest.
-pub record SoFar (a : Archive) (manner : Manner) (choices : List Wanted) (old : List Stored) (count : ℕ) (lines : List ℕ) (now : List Stored) : Type 0 where
+-- Some of them were restored, or refused, and these are left: these lines were told, and the cell is left so; what is due of all is that in
+-- front of what is due of those that are left.
+pub record SoFar (a : Archive) (manner : Manner) (choices : List Wanted) (old : List Stored) (rest : List Wanted) (lines : List ℕ) (now : List Stored) : Type 0 where
   pub cells : List (List Stored)
   pub list : now ≡ last_cell old cells
-  pub rest : all_answer a old manner choices ≡ in_front lines cells (all_answer a now manner (drop count choices))
+  pub due : all_answer a old manner choices ≡ in_front lines cells (all_answer a now manner rest)
+
+-- ---- of volumes that were played together
+
+-- a volume is wanted as its latest dump has it
+abbrev pub IsLatest : Wanted → Type 0
+IsLatest wanted = wanted.before ≡ None
+
+-- the archive has this volume, or refuses it so
+abbrev pub IsFound : Archive → Wanted → Played → Type 0
+IsFound a wanted (played.Volume volume) = looked_up a wanted.name wanted.before ≡ Ok volume
+IsFound a wanted (played.Refused fault) =
+    (refusal : Refusal) × (looked_up a wanted.name wanted.before ≡ Err refusal) × ((target : List ℕ) → fault_line wanted.name target fault ≡ look_up_refusal wanted.name target refusal)
+
+-- one for each that is wanted, in order
+abbrev pub AreFound : Archive → List Wanted → List Played → Type 0
+AreFound a [] [] = Unit {0}
+AreFound a (wanted ∷ batch) (p ∷ ps) = IsFound a wanted p × AreFound a batch ps
+AreFound a [] (p ∷ ps) = ⊥
+AreFound a (wanted ∷ batch) [] = ⊥
+
+-- Volumes were restored, or refused, except these that are left: lines were told behind others, and the cell is left so; what is due of all of
+-- them and of any behind them is that in front of what is due of those that are left and of those behind.
+pub record ArePut (a : Archive) (manner : Manner) (batch : List Wanted) (old : List Stored) (rest : List Wanted) (lines more : List ℕ) (new : List Stored) : Type 0 where
+  pub told : List ℕ
+  pub more_is : more ≡ lines ++ told
+  pub so_far : (others : List Wanted) → SoFar a manner (batch ++ others) old (rest ++ others) told new

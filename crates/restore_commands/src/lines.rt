@@ -2,6 +2,7 @@
 
 ghost use Rattle.std.specs.Prelude.{◌≡◌, ◌≢◌, ◌++◌, ◌<◌, ◌^◌, length, Err, IfOk, OnOk};
 ghost use Rattle.std.specs.List.{flat_map};
+ghost use Rattle.backup_replies.specs.Restores.{restored_line};
 ghost use Rattle.restore_commands.specs.Steps.{last_id, tape_line, planned_lines, fault_line, told_by};
 ghost use Rattle.restore_commands.specs.Answers.{target_refusal};
 
@@ -50,6 +51,21 @@ fn put_tapes(lines: &mut Out, needs: &[TapeNeed]) -> Result<(), AllocError>
         put_tape(lines, need)?;
     }
     Ok(())
+}
+
+/// What is told of a volume that is restored from a dump along its chain.
+pub(crate) fn restored_line(
+    alloc: Global,
+    target: &[u8],
+    id: u32,
+    chain: &[u32],
+) -> Result<Bytes, AllocError>
+    ensures { IfOk result (λ line. line ≡ restored_line target.now id (length chain.now)) }
+{
+    let count = count_of(chain)?;
+    let mut line = Out::new(alloc);
+    put_restored(&mut line, target, id, count)?;
+    Ok(line.into_bytes())
 }
 
 /// What is told of a volume that is restored by a plan under a name, or would be.

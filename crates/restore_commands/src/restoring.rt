@@ -1,15 +1,19 @@
 //! Volumes are looked up in what the tapes hold, and put.
 
-ghost use Rattle.std.specs.Prelude.{◌≡◌, ◌≢◌, ◌++◌, Ok, Err, IfOk, OnOk};
+ghost use Rattle.std.specs.Prelude.{◌≡◌, ◌≢◌, ◌≤◌, ◌+◌, ◌++◌, false, Ok, Err, List as AnyList, IfOk, OnOk, All};
 ghost use Rattle.crash_moments.specs.Moments.{HasCauseAt};
-ghost use Rattle.tape_scan.specs.Looking.{LooksAt};
+ghost use Rattle.budb_fold.specs.Chains.{HaveParentsBelow};
+ghost use Rattle.tape_scan.specs.Slots.{Slot};
+ghost use Rattle.tape_scan.specs.Looking.{HasSlots, LooksAt};
 ghost use Rattle.archive_model.specs.Archives.{Archive};
 ghost use Rattle.restore_chain.specs.Planning.{Plans};
 ghost use Rattle.restore_target.specs.Targets.{target_text, after_restore};
 ghost use Rattle.restore_commands.specs.Answers.{put_answer, volume_answer, told_lines, last_cell, all_answer};
 ghost use Rattle.restore_commands.specs.Leaving.{IsArchiveOf, IsAnswer, OnTheWay, MayPut, MayPutEach};
-ghost use Rattle.restore_commands.specs.Steps.{planned_lines, IsToldSo};
+ghost use Rattle.restore_commands.specs.Steps.{planned_lines, IsToldSo, IsLatest};
+ghost use Rattle.restore_commands.specs.Batches.{batch_loads};
 
+use crate::batches::restore_batches;
 use crate::lines::{planned_lines, refuse};
 use crate::manner::Manner;
 use crate::places::place_volume;
@@ -147,7 +151,7 @@ fn restore_choice<P: Plant, C: Cell>(
 }
 
 /// Restores volumes that were chosen one after the other. Each refused one has its line, and those behind it are restored.
-pub(crate) fn restore_all<P: Plant, C: Cell>(
+fn restore_each<P: Plant, C: Cell>(
     alloc: Global,
     budb: &Budb,
     plant: &mut P,
@@ -172,5 +176,30 @@ pub(crate) fn restore_all<P: Plant, C: Cell>(
     match lines.piece(b"ok\n") {
         Ok(()) => Ok(lines.into_bytes()),
         Err(_) => Err(RestoreStop::Memory),
+    }
+}
+
+/// Restores volumes that were chosen: in batches, or, where it is only told what would be restored, one after the other.
+pub(crate) fn restore_all<P: Plant, C: Cell>(
+    alloc: Global,
+    budb: &Budb,
+    plant: &mut P,
+    cell: &mut C,
+    choices: &[Wanted],
+    manner: &Manner<'_>,
+) -> Result<Bytes, RestoreStop>
+    requires sound { P.sound plant.old }
+    requires latest { All IsLatest choices.now }
+    ensures answer { P.tells → C.tells → (a : Archive) → IsArchiveOf P.Plant budb.now.database.listed a plant.old → IfOk result (λ reply. IsAnswer (all_answer a (C.list cell.old) manner.now choices.now) reply (C.list cell.old) (C.list cell.new)) }
+    ensures left { P.tells → C.tells → (a : Archive) → IsArchiveOf P.Plant budb.now.database.listed a plant.old → OnTheWay (C.list cell.old) (all_answer a (C.list cell.old) manner.now choices.now).cells (C.list cell.new) }
+    ensures may { C.tells → MayPutEach manner.now choices.now (C.list cell.old) (C.list cell.new) }
+    ensures looks { LooksAt P.Plant RestoreStop.Plant plant.old plant.new result }
+    ensures loads { P.tells → manner.now.is_trial ≡ false → HaveParentsBelow budb.now.database.listed → (slots : AnyList Slot) → HasSlots P.Plant slots plant.old → (P.view plant.new).loads ≤ (P.view plant.old).loads + batch_loads slots budb.now.database.listed choices.now }
+    ensures cause { HasCauseAt RestoreStop.Cell (C.faults cell.old) (C.faults cell.new) result }
+{
+    if manner.is_trial {
+        restore_each(alloc, budb, plant, cell, choices, manner)
+    } else {
+        restore_batches(alloc, budb, plant, cell, choices, manner)
     }
 }

@@ -46,3 +46,6 @@ returns-in-Err-read_frame-clause-looks g c =
     let e = c.in-Ok.ensures in
     looks_after P Failed old mid new (Err c.in-Err-read_frame.fault) (a_load_loads P old mid c.args.slot e.done c.load_tape.ensures.leaves e.log_size) e.stays e.cause.stays
     (looks_as P Failed Failed mid new (Err c.in-Err-read_frame.fault) (Err c.in-Err-read_frame.fault) (λ is. (cc)) (λ is. (cc)) (reads_look P Failed mid new (Err c.in-Err-read_frame.fault) c.in-Err-read_frame.ensures.done c.read_frame.ensures.leaves c.in-Err-read_frame.ensures.numbers c.read_frame.ensures.stays c.in-Err-read_frame.ensures.cause))
+
+pub returns-in-Ok-read_frame-clause-loaded : goal.returns-in-Ok-read_frame-clause-loaded
+returns-in-Ok-read_frame-clause-loaded g c = (c.in-Ok-read_frame.ensures.numbers (λ is. absurd (cc))).tape.loaded ∙ c.in-Ok.ensures.loaded

@@ -8,6 +8,7 @@ use Rattle.tape_text.specs.Items.{Read}
 use Rattle.archive_model.specs.Holding.{is_so, is_head_frame, holds}
 use Rattle.restore_chain.specs.declared.fault.LookFault.TheVariants.{Failed}
 use Rattle.restore_chain.proofs.Items.{holds_by}
+use Rattle.restore_chain.proofs.ReadLaws.{where_true}
 use Rattle.tape_scan.proofs.Looking.{looks_none, looks_after, loads_keep_tape}
 use Rattle.restore_chain.proofs.holders.holds_here.Goals as goal
 
@@ -34,3 +35,6 @@ pub returns-in-Ok-true-clause-looks : goal.returns-in-Ok-true-clause-looks
 returns-in-Ok-true-clause-looks g c =
     let e = c.in-Ok-true.ensures.looks in
     looks_after g.P.Plant Failed c.args.plant.now c.has_label.new.plant c.has_head.new.plant c.has_head.result (e.done (λ is. absurd (cc))) e.stays (e.cause.stays (λ is. absurd (cc))) c.has_head.ensures.looks
+
+pub returns-in-Ok-true-clause-loaded : goal.returns-in-Ok-true-clause-loaded
+returns-in-Ok-true-clause-loaded g c = where_true c.has_head.result _ c.has_head.ensures.loaded

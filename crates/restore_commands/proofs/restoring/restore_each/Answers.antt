@@ -1,12 +1,12 @@
-use Rattle.std.proofs.Common.{ℕ, ◌+◌, ◌<◌, ◌≤◌, List, length, refl, sym, ◌∙◌, subst, arith, Ok, Err}
+use Rattle.std.proofs.Common.{ℕ, ◌+◌, ◌<◌, ◌≤◌, List, length, drop, refl, sym, ◌∙◌, subst, arith, Ok, Err}
 use Rattle.plant_effects.proofs.Joining.{nothing_quiet, quiet_both}
 use Rattle.tape_scan.proofs.Looking.{loads_none, loads_both, looks_well, looks_after}
 use Rattle.restore_commands.specs.declared.stops.RestoreStop.TheVariants.{Plant, Memory}
 use Rattle.restore_commands.specs.Steps.{SoFar}
 use Rattle.restore_commands.proofs.FoundLaws.{archive_later}
 use Rattle.restore_commands.proofs.Idle.{cause_stop, cause_well, stop_looks}
-use Rattle.restore_commands.proofs.EachLaws.{none_so_far, one_more_so_far, all_told, all_left, one_left, one_more_put, put_so_far}
-use Rattle.restore_commands.proofs.restoring.restore_all.Goals as goal
+use Rattle.restore_commands.proofs.EachLaws.{none_so_far, one_more_so_far, past_so_far, all_told, all_left, one_left, one_more_put, put_so_far}
+use Rattle.restore_commands.proofs.restoring.restore_each.Goals as goal
 
 pub loop-choice-init : goal.loop-choice-init
 loop-choice-init g c =
@@ -18,7 +18,7 @@ loop-choice-init g c =
       faults = refl;
       cell_faults = refl;
       so_far = λ told seen a is.
-          subst (λ (l : List ℕ). SoFar a c.args.manner.now c.args.choices.now (C.list c.args.cell.now) 0 l (C.list c.args.cell.now)) (sym c.new-lines.ensures) (none_so_far a c.args.manner.now c.args.choices.now (C.list c.args.cell.now));
+          subst (λ (l : List ℕ). SoFar a c.args.manner.now c.args.choices.now (C.list c.args.cell.now) c.args.choices.now l (C.list c.args.cell.now)) (sym c.new-lines.ensures) (none_so_far a c.args.manner.now c.args.choices.now (C.list c.args.cell.now));
       puts = λ seen. refl;
     }
 
@@ -80,13 +80,14 @@ pub returns-in-Ok-piece-clause-answer : goal.returns-in-Ok-piece-clause-answer
 returns-in-Ok-piece-clause-answer g c = λ told seen a is.
     let C = g.C.Cell in
     let past : length c.args.choices.now ≤ c.loop-choice.choice-index = omega (arith, c.loop-choice-test.false) in
-    all_told a c.args.manner.now c.args.choices.now (C.list c.args.cell.now) c.loop-choice.choice-index c.loop-choice.lines c.into_bytes.result (C.list c.loop-choice.cell) past (c.loop-choice.invariant.so_far told seen a is)
+    all_told a c.args.manner.now c.args.choices.now (C.list c.args.cell.now) c.loop-choice.lines c.into_bytes.result (C.list c.loop-choice.cell)
+    (past_so_far a c.args.manner.now c.args.choices.now (C.list c.args.cell.now) c.loop-choice.choice-index c.loop-choice.lines (C.list c.loop-choice.cell) past (c.loop-choice.invariant.so_far told seen a is))
     (c.into_bytes.ensures ∙ c.in-Ok-piece.ensures.ok)
 
 pub returns-in-Ok-piece-clause-left : goal.returns-in-Ok-piece-clause-left
 returns-in-Ok-piece-clause-left g c = λ told seen a is.
     let C = g.C.Cell in
-    all_left a c.args.manner.now c.args.choices.now (C.list c.args.cell.now) c.loop-choice.choice-index c.loop-choice.lines (C.list c.loop-choice.cell) (c.loop-choice.invariant.so_far told seen a is)
+    all_left a c.args.manner.now c.args.choices.now (C.list c.args.cell.now) (drop c.loop-choice.choice-index c.args.choices.now) c.loop-choice.lines (C.list c.loop-choice.cell) (c.loop-choice.invariant.so_far told seen a is)
 
 pub returns-in-Ok-piece-clause-may : goal.returns-in-Ok-piece-clause-may
 returns-in-Ok-piece-clause-may g c = λ seen.
@@ -106,7 +107,7 @@ returns-in-Ok-piece-clause-cause g c =
 pub returns-in-Err-piece-clause-left : goal.returns-in-Err-piece-clause-left
 returns-in-Err-piece-clause-left g c = λ told seen a is.
     let C = g.C.Cell in
-    all_left a c.args.manner.now c.args.choices.now (C.list c.args.cell.now) c.loop-choice.choice-index c.loop-choice.lines (C.list c.loop-choice.cell) (c.loop-choice.invariant.so_far told seen a is)
+    all_left a c.args.manner.now c.args.choices.now (C.list c.args.cell.now) (drop c.loop-choice.choice-index c.args.choices.now) c.loop-choice.lines (C.list c.loop-choice.cell) (c.loop-choice.invariant.so_far told seen a is)
 
 pub returns-in-Err-piece-clause-may : goal.returns-in-Err-piece-clause-may
 returns-in-Err-piece-clause-may g c = λ seen.

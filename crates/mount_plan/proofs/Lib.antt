@@ -1,0 +1,4 @@
+pub mod MountLaws
+pub mod NeedLaws
+pub mod PassLaws
+pub mod CourseLaws

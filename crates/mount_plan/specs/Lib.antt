@@ -1,0 +1,5 @@
+pub mod Mounts
+pub mod Passes
+pub mod Tellings
+pub mod Outcomes
+pub mod Courses
