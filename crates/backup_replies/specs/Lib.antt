@@ -9,3 +9,5 @@ pub mod Hosts
 pub mod WordRefusals
 pub mod Restores
 pub mod Scans
+pub mod Groups
+pub mod Saves

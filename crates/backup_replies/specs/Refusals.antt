@@ -1,7 +1,7 @@
 -- The table of refusals: the number of each, in two digits, and its name.
 use Rattle.std.specs.Prelude.{ℕ, List, codes}
 use Rattle.backup_replies.specs.declared.refusals.Refusal.{Refusal}
-use Rattle.backup_replies.specs.declared.refusals.Refusal.TheVariants.{NoSuchCommand, BadOption, MissingOption, BadValue, LineTooLong, NotAscii, SetExists, NoSuchSet, NoSuchEntry, BadPattern, LevelExists, NoSuchLevel, NoParentLevel, BadDate, DateOutOfRange, PortTaken, NoSuchPort, NoTape, NothingToAppend, SlotEmpty, NoLabel, CapacityTooSmall, NoVolumes, IdsSpent, NoDump, MissingDump, MissingTape, NoSuchDump, AppendedDump, BaseLacks, BadOnTape, BadTape, PartOfDump, DumpKnown, WrongParent, NoVolume, VolumeExists, NoVnode, TooLarge, LogFull, BadImage, CutStream}
+use Rattle.backup_replies.specs.declared.refusals.Refusal.TheVariants.{NoSuchCommand, BadOption, MissingOption, BadValue, LineTooLong, NotAscii, SetExists, NoSuchSet, NoSuchEntry, BadPattern, LevelExists, NoSuchLevel, NoParentLevel, BadDate, DateOutOfRange, PortTaken, NoSuchPort, PortBusy, InGroup, NoGroup, GroupFull, NoTape, NothingToAppend, SlotEmpty, NoLabel, CapacityTooSmall, SaveTooBig, DatabaseInUse, NoSave, BadSave, NoVolumes, IdsSpent, NoDump, MissingDump, MissingTape, NoSuchDump, AppendedDump, BaseLacks, BadOnTape, BadTape, PartOfDump, DumpKnown, WrongParent, NoVolume, VolumeExists, NoVnode, TooLarge, LogFull, BadImage, CutStream}
 
 -- the number, in two digits, and the name of each refusal
 abbrev pub refusal_text : Refusal → List ℕ
@@ -22,11 +22,19 @@ refusal_text BadDate = codes "23 BadDate"
 refusal_text DateOutOfRange = codes "24 DateOutOfRange"
 refusal_text PortTaken = codes "30 PortTaken"
 refusal_text NoSuchPort = codes "31 NoSuchPort"
+refusal_text PortBusy = codes "32 PortBusy"
+refusal_text InGroup = codes "33 InGroup"
+refusal_text NoGroup = codes "34 NoGroup"
+refusal_text GroupFull = codes "35 GroupFull"
 refusal_text NoTape = codes "40 NoTape"
 refusal_text NothingToAppend = codes "41 NothingToAppend"
 refusal_text SlotEmpty = codes "42 SlotEmpty"
 refusal_text NoLabel = codes "43 NoLabel"
 refusal_text CapacityTooSmall = codes "44 CapacityTooSmall"
+refusal_text SaveTooBig = codes "45 SaveTooBig"
+refusal_text DatabaseInUse = codes "46 DatabaseInUse"
+refusal_text NoSave = codes "47 NoSave"
+refusal_text BadSave = codes "48 BadSave"
 refusal_text NoVolumes = codes "50 NoVolumes"
 refusal_text IdsSpent = codes "52 IdsSpent"
 refusal_text NoDump = codes "60 NoDump"

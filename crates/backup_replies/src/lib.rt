@@ -7,6 +7,7 @@
 mod dump_lists;
 mod dumps;
 mod faults;
+mod groups;
 mod hosts;
 mod labels;
 mod levels;
@@ -14,6 +15,7 @@ mod putting;
 mod refusals;
 mod refused;
 mod restores;
+mod saves;
 mod scans;
 mod sets;
 mod told;
@@ -22,6 +24,7 @@ mod volumes;
 pub use dump_lists::{deleted_lines, dumps_lines, put_history};
 pub use dumps::whole_dump_lines;
 pub use faults::fault_line;
+pub use groups::{held_line, put_job, put_killed};
 pub use hosts::hosts_lines;
 pub use labels::{label_lines, labeled_lines};
 pub use levels::levels_lines;
@@ -34,6 +37,7 @@ pub use refused::{
 pub use restores::{
     put_made, put_need, put_restored, put_would_dump, put_would_restore, put_would_volume,
 };
+pub use saves::{back_lines, put_broken, put_dumpset, put_lost, put_verified, saved_lines};
 pub use scans::{put_added, put_found};
 pub use sets::{set_reply, sets_lines};
 pub use told::has_refusal;

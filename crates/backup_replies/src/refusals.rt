@@ -40,6 +40,14 @@ pub enum Refusal {
     PortTaken,
     /// The port has no tape host, or the configuration has no line of it.
     NoSuchPort,
+    /// The group holds a dump to this port already.
+    PortBusy,
+    /// The command can't stand in a group.
+    InGroup,
+    /// No group is open.
+    NoGroup,
+    /// The group holds as many dumps as it may.
+    GroupFull,
     /// No tape may be taken under the wanted name.
     NoTape,
     /// The volume set has no dump behind which another one might be put.
@@ -50,6 +58,14 @@ pub enum Refusal {
     NoLabel,
     /// The tapes of the port are too small for any dump.
     CapacityTooSmall,
+    /// The saved database has no room on a tape of the port.
+    SaveTooBig,
+    /// The database has a volume set, a dump level or a listed dump.
+    DatabaseInUse,
+    /// No tape of the port has the label of a saved database.
+    NoSave,
+    /// A record of the tape doesn't go on as a saved database.
+    BadSave,
     /// The volume set has no volumes.
     NoVolumes,
     /// No id is left for a dump.
@@ -115,11 +131,19 @@ impl Refusal {
             Refusal::DateOutOfRange => b"24 DateOutOfRange",
             Refusal::PortTaken => b"30 PortTaken",
             Refusal::NoSuchPort => b"31 NoSuchPort",
+            Refusal::PortBusy => b"32 PortBusy",
+            Refusal::InGroup => b"33 InGroup",
+            Refusal::NoGroup => b"34 NoGroup",
+            Refusal::GroupFull => b"35 GroupFull",
             Refusal::NoTape => b"40 NoTape",
             Refusal::NothingToAppend => b"41 NothingToAppend",
             Refusal::SlotEmpty => b"42 SlotEmpty",
             Refusal::NoLabel => b"43 NoLabel",
             Refusal::CapacityTooSmall => b"44 CapacityTooSmall",
+            Refusal::SaveTooBig => b"45 SaveTooBig",
+            Refusal::DatabaseInUse => b"46 DatabaseInUse",
+            Refusal::NoSave => b"47 NoSave",
+            Refusal::BadSave => b"48 BadSave",
             Refusal::NoVolumes => b"50 NoVolumes",
             Refusal::IdsSpent => b"52 IdsSpent",
             Refusal::NoDump => b"60 NoDump",

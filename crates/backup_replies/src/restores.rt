@@ -10,13 +10,13 @@ use bk_text::{LevelPath, Out, SetName};
 use std::alloc::AllocError;
 
 /// How many volumes and tapes a dump has.
-fn put_counts(line: &mut Out, volumes: u32, tapes: u32) -> Result<(), AllocError>
+fn put_counts(line: &mut Out, volumes: u64, tapes: u64) -> Result<(), AllocError>
     ensures { OnOk result (line.new ≡ line.old ++ codes " volumes" ++ then_number volumes ++ codes " tapes" ++ then_number tapes) }
 {
     line.piece(b" volumes")?;
-    put_number(line, volumes as u64)?;
+    put_number(line, volumes)?;
     line.piece(b" tapes")?;
-    put_number(line, tapes as u64)?;
+    put_number(line, tapes)?;
     Ok(())
 }
 
@@ -27,8 +27,8 @@ pub fn put_made(
     set: &SetName,
     level: &LevelPath,
     parent: u32,
-    volumes: u32,
-    tapes: u32,
+    volumes: u64,
+    tapes: u64,
 ) -> Result<(), AllocError>
     ensures { OnOk result (line.new ≡ line.old ++ made_line id set.now level.now parent volumes tapes) }
 {

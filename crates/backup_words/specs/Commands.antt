@@ -3,7 +3,7 @@ use Rattle.std.specs.Prelude.{◌≡◌, ℕ, List, [], length, drop, Bool, not,
 use Rattle.std.specs.List.{position_or_len}
 use Rattle.bk_text.specs.Blanks.{words_of}
 use Rattle.backup_words.specs.declared.kinds.Kind.{Kind}
-use Rattle.backup_words.specs.declared.kinds.Kind.TheVariants.{Addvolset, Delvolset, Addvolentry, Delvolentry, Listvolsets, Adddump, Setexp, Deldump, Listdumps, Listhosts, Checkpoint, Addhost, Delhost, Labeltape, Readlabel, Scantape, Dump, Deletedump, Dumpinfo, Volinfo, Volrestore, Diskrestore, Volsetrestore, VosCreate, VosWrite, VosRmvnode, VosBackup, VosRemove, VosListvol}
+use Rattle.backup_words.specs.declared.kinds.Kind.TheVariants.{Addvolset, Delvolset, Addvolentry, Delvolentry, Listvolsets, Adddump, Setexp, Deldump, Listdumps, Listhosts, Checkpoint, Addhost, Delhost, Labeltape, Readlabel, Scantape, Savedb, Restoredb, Dump, Together, Kill, End, Jobs, Deletedump, Dumpinfo, Volinfo, Dbverify, Volrestore, Diskrestore, Volsetrestore, VosCreate, VosWrite, VosRmvnode, VosBackup, VosRemove, VosListvol}
 use Rattle.backup_words.specs.declared.options.OptionName.TheVariants as option
 use Rattle.backup_words.specs.declared.options.Rule.{Rule}
 use Rattle.backup_words.specs.declared.command.Command.{Command}
@@ -11,6 +11,7 @@ use Rattle.backup_words.specs.declared.command.Command.TheVariants as command
 use Rattle.backup_words.specs.declared.command.DatabaseCommand.TheVariants as database
 use Rattle.backup_words.specs.declared.command.TapeCommand.TheVariants as tape
 use Rattle.backup_words.specs.declared.command.CellCommand.TheVariants as cell
+use Rattle.backup_words.specs.declared.command.GroupCommand.TheVariants as group
 use Rattle.backup_words.specs.declared.command.RestoredVolumes.{RestoredVolumes}
 use Rattle.backup_words.specs.declared.command.RestoredVolumes.TheVariants.{One, OfDisk, OfSet}
 use Rattle.backup_words.specs.declared.command.Wanted.{Wanted}
@@ -65,10 +66,17 @@ built Delhost w = command.Database (database.Delhost (word_at option.Tapehost w)
 built Labeltape w = command.Tape (tape.Labeltape (maybe_word option.Name w) (maybe_word option.Pname w) (port_at w) (maybe_number option.Slot w))
 built Readlabel w = command.Tape (tape.Readlabel (port_at w) (maybe_number option.Slot w))
 built Scantape w = command.Tape (tape.Scantape (has option.Dbadd w) (port_at w))
+built Savedb w = command.Tape (tape.Savedb (port_at w))
+built Restoredb w = command.Tape (tape.Restoredb (port_at w))
 built Dump w = command.Dump (record { set = word_at option.Volumeset w; level = word_at option.Dump w; offset = port_at w; append = has option.Append w; trial = has option.N w })
+built Together w = command.Group (group.Together (number_at option.Schedule w))
+built Kill w = command.Group (group.Kill (number_at option.Job w) (number_at option.After w))
+built End w = command.Group group.End
+built Jobs w = command.Group group.Jobs
 built Deletedump w = command.Database (database.Deletedump (number_at option.Dumpid w))
 built Dumpinfo w = command.Database (database.Dumpinfo (maybe_number option.Ndumps w) (maybe_number option.Id w))
 built Volinfo w = command.Database (database.Volinfo (word_at option.Volume w))
+built Dbverify w = command.Database database.Dbverify
 built Volrestore w = restoring (One (wanted_in w)) w
 built Diskrestore w = restoring (OfDisk (disk_in w)) w
 built Volsetrestore w = restoring (OfSet (word_at option.Name w)) w

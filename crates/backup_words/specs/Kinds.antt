@@ -2,7 +2,7 @@
 use Rattle.std.specs.Prelude.{ℕ, List, [], ◌∷◌, Bool, ◌==◌, find, codes, if◌then◌else◌, Option, None}
 use Rattle.bk_text.specs.Blanks.{is_same_text}
 use Rattle.backup_words.specs.declared.kinds.Kind.{Kind}
-use Rattle.backup_words.specs.declared.kinds.Kind.TheVariants.{Addvolset, Delvolset, Addvolentry, Delvolentry, Listvolsets, Adddump, Setexp, Deldump, Listdumps, Listhosts, Checkpoint, Addhost, Delhost, Labeltape, Readlabel, Scantape, Dump, Deletedump, Dumpinfo, Volinfo, Volrestore, Diskrestore, Volsetrestore, VosCreate, VosWrite, VosRmvnode, VosBackup, VosRemove, VosListvol}
+use Rattle.backup_words.specs.declared.kinds.Kind.TheVariants.{Addvolset, Delvolset, Addvolentry, Delvolentry, Listvolsets, Adddump, Setexp, Deldump, Listdumps, Listhosts, Checkpoint, Addhost, Delhost, Labeltape, Readlabel, Scantape, Savedb, Restoredb, Dump, Together, Kill, End, Jobs, Deletedump, Dumpinfo, Volinfo, Dbverify, Volrestore, Diskrestore, Volsetrestore, VosCreate, VosWrite, VosRmvnode, VosBackup, VosRemove, VosListvol}
 
 -- two equal texts
 unfoldable pub is_same : List ℕ → List ℕ → Bool
@@ -26,10 +26,17 @@ kind_word Delhost = codes "delhost"
 kind_word Labeltape = codes "labeltape"
 kind_word Readlabel = codes "readlabel"
 kind_word Scantape = codes "scantape"
+kind_word Savedb = codes "savedb"
+kind_word Restoredb = codes "restoredb"
 kind_word Dump = codes "dump"
+kind_word Together = codes "together"
+kind_word Kill = codes "kill"
+kind_word End = codes "end"
+kind_word Jobs = codes "jobs"
 kind_word Deletedump = codes "deletedump"
 kind_word Dumpinfo = codes "dumpinfo"
 kind_word Volinfo = codes "volinfo"
+kind_word Dbverify = codes "dbverify"
 kind_word Volrestore = codes "volrestore"
 kind_word Diskrestore = codes "diskrestore"
 kind_word Volsetrestore = codes "volsetrestore"
@@ -43,7 +50,7 @@ kind_word VosListvol = codes "listvol"
 -- the commands of one word
 abbrev pub plain_kinds : List Kind
 plain_kinds =
-    Addvolset ∷ Delvolset ∷ Addvolentry ∷ Delvolentry ∷ Listvolsets ∷ Adddump ∷ Setexp ∷ Deldump ∷ Listdumps ∷ Listhosts ∷ Checkpoint ∷ Addhost ∷ Delhost ∷ Labeltape ∷ Readlabel ∷ Scantape ∷ Dump ∷ Deletedump ∷ Dumpinfo ∷ Volinfo ∷ Volrestore ∷ Diskrestore ∷ Volsetrestore ∷ []
+    Addvolset ∷ Delvolset ∷ Addvolentry ∷ Delvolentry ∷ Listvolsets ∷ Adddump ∷ Setexp ∷ Deldump ∷ Listdumps ∷ Listhosts ∷ Checkpoint ∷ Addhost ∷ Delhost ∷ Labeltape ∷ Readlabel ∷ Scantape ∷ Savedb ∷ Restoredb ∷ Dump ∷ Together ∷ Kill ∷ End ∷ Jobs ∷ Deletedump ∷ Dumpinfo ∷ Volinfo ∷ Dbverify ∷ Volrestore ∷ Diskrestore ∷ Volsetrestore ∷ []
 
 -- the commands of two words, of which the first is "vos"
 abbrev pub vos_kinds : List Kind

@@ -4,11 +4,11 @@ ghost use Rattle.backup_words.specs.Fitting.{IsPlainWord, AllFit};
 ghost use Rattle.std.specs.Prelude.{◌≡◌, IfOk, All};
 ghost use Rattle.backup_words.specs.Table.{rules_of};
 ghost use Rattle.backup_words.specs.Commands.{wanted_in, disk_in, built};
-ghost use Rattle.backup_words.specs.declared.kinds.Kind.TheVariants.{Addvolset as AddvolsetKind, Delvolset as DelvolsetKind, Addvolentry as AddvolentryKind, Delvolentry as DelvolentryKind, Listvolsets as ListvolsetsKind, Adddump as AdddumpKind, Setexp as SetexpKind, Deldump as DeldumpKind, Addhost as AddhostKind, Delhost as DelhostKind, Labeltape as LabeltapeKind, Readlabel as ReadlabelKind, Scantape as ScantapeKind, Dump as DumpKind, Deletedump as DeletedumpKind, Dumpinfo as DumpinfoKind, Volinfo as VolinfoKind, Volrestore as VolrestoreKind, Diskrestore as DiskrestoreKind, Volsetrestore as VolsetrestoreKind, VosCreate as VosCreateKind, VosWrite as VosWriteKind, VosRmvnode as VosRmvnodeKind, VosBackup as VosBackupKind, VosRemove as VosRemoveKind};
+ghost use Rattle.backup_words.specs.declared.kinds.Kind.TheVariants.{Addvolset as AddvolsetKind, Delvolset as DelvolsetKind, Addvolentry as AddvolentryKind, Delvolentry as DelvolentryKind, Listvolsets as ListvolsetsKind, Adddump as AdddumpKind, Setexp as SetexpKind, Deldump as DeldumpKind, Addhost as AddhostKind, Delhost as DelhostKind, Labeltape as LabeltapeKind, Readlabel as ReadlabelKind, Scantape as ScantapeKind, Savedb as SavedbKind, Restoredb as RestoredbKind, Dump as DumpKind, Together as TogetherKind, Kill as KillKind, Deletedump as DeletedumpKind, Dumpinfo as DumpinfoKind, Volinfo as VolinfoKind, Volrestore as VolrestoreKind, Diskrestore as DiskrestoreKind, Volsetrestore as VolsetrestoreKind, VosCreate as VosCreateKind, VosWrite as VosWriteKind, VosRmvnode as VosRmvnodeKind, VosBackup as VosBackupKind, VosRemove as VosRemoveKind};
 
 use crate::command::{
-    CellCommand, Command, DatabaseCommand, Disk, DumpCommand, RestoreCommand, RestoredVolumes,
-    TapeCommand, Wanted,
+    CellCommand, Command, DatabaseCommand, Disk, DumpCommand, GroupCommand, RestoreCommand,
+    RestoredVolumes, TapeCommand, Wanted,
 };
 use crate::kinds::Kind;
 use crate::options::{Need, OptionName, TextForm};
@@ -167,6 +167,26 @@ fn scantape(words: &[Bytes]) -> Command
     })
 }
 
+/// `savedb`.
+fn savedb(words: &[Bytes]) -> Command
+    requires { AllFit words.now (rules_of SavedbKind) }
+    ensures { result ≡ built SavedbKind words.now }
+{
+    Command::Tape(TapeCommand::Savedb {
+        portoffset: port(words),
+    })
+}
+
+/// `restoredb`.
+fn restoredb(words: &[Bytes]) -> Command
+    requires { AllFit words.now (rules_of RestoredbKind) }
+    ensures { result ≡ built RestoredbKind words.now }
+{
+    Command::Tape(TapeCommand::Restoredb {
+        portoffset: port(words),
+    })
+}
+
 /// `dump`.
 fn dump(alloc: Global, words: &[Bytes]) -> Result<Command, AllocError>
     requires { AllFit words.now (rules_of DumpKind) }
@@ -179,6 +199,27 @@ fn dump(alloc: Global, words: &[Bytes]) -> Result<Command, AllocError>
         append: has(words, OptionName::Append),
         trial: has(words, OptionName::N),
     }))
+}
+
+/// `together`.
+fn together(words: &[Bytes]) -> Command
+    requires { AllFit words.now (rules_of TogetherKind) }
+    ensures { result ≡ built TogetherKind words.now }
+{
+    Command::Group(GroupCommand::Together {
+        schedule: number(words, OptionName::Schedule, 0, 2147483647),
+    })
+}
+
+/// `kill`.
+fn kill(words: &[Bytes]) -> Command
+    requires { AllFit words.now (rules_of KillKind) }
+    ensures { result ≡ built KillKind words.now }
+{
+    Command::Group(GroupCommand::Kill {
+        job: number(words, OptionName::Job, 0, u32::MAX),
+        after: number(words, OptionName::After, 0, u32::MAX),
+    })
 }
 
 /// `deletedump`.
@@ -358,10 +399,17 @@ pub fn build(alloc: Global, kind: Kind, words: &[Bytes]) -> Result<Command, Allo
         Kind::Labeltape => labeltape(alloc, words),
         Kind::Readlabel => Ok(readlabel(words)),
         Kind::Scantape => Ok(scantape(words)),
+        Kind::Savedb => Ok(savedb(words)),
+        Kind::Restoredb => Ok(restoredb(words)),
         Kind::Dump => dump(alloc, words),
+        Kind::Together => Ok(together(words)),
+        Kind::Kill => Ok(kill(words)),
+        Kind::End => Ok(Command::Group(GroupCommand::End)),
+        Kind::Jobs => Ok(Command::Group(GroupCommand::Jobs)),
         Kind::Deletedump => Ok(deletedump(words)),
         Kind::Dumpinfo => Ok(dumpinfo(words)),
         Kind::Volinfo => volinfo(alloc, words),
+        Kind::Dbverify => Ok(Command::Database(DatabaseCommand::Dbverify)),
         Kind::Volrestore => volrestore(alloc, words),
         Kind::Diskrestore => diskrestore(alloc, words),
         Kind::Volsetrestore => volsetrestore(alloc, words),

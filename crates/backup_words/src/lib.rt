@@ -17,6 +17,7 @@ mod building;
 mod checks;
 mod command;
 mod faults;
+mod first_words;
 mod forms;
 mod kinds;
 mod modes;
@@ -28,8 +29,8 @@ mod values;
 mod words;
 
 pub use command::{
-    CellCommand, Command, DatabaseCommand, Disk, DumpCommand, RestoreCommand, RestoredVolumes,
-    TapeCommand, Wanted,
+    CellCommand, Command, DatabaseCommand, Disk, DumpCommand, GroupCommand, RestoreCommand,
+    RestoredVolumes, TapeCommand, Wanted,
 };
 pub use faults::WordFault;
 pub use modes::{Mode, OuterFault, outer};

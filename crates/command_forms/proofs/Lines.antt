@@ -1,12 +1,12 @@
 -- A command that a line says has its forms.
-use Rattle.std.proofs.Common.{◌≡◌, ℕ, Bool, true, false, List, length, drop, refl, subst}
+use Rattle.std.proofs.Common.{◌≡◌, ℕ, Bool, true, false, List, length, drop, refl, subst, arith}
 use Rattle.std.specs.Prelude.{All, nat_lt, if◌then◌else◌, Option, Some, None, Result, Ok, Err}
 use Rattle.std.specs.List.{position_or_len}
 use Rattle.std.proofs.lemmas.List.Elements.{All-drop}
 use Rattle.bk_text.specs.Blanks.{words_of}
 use Rattle.dump_stream.specs.Forms.{IsBytes}
 use Rattle.backup_words.specs.declared.kinds.Kind.{Kind}
-use Rattle.backup_words.specs.declared.kinds.Kind.TheVariants.{Addvolset, Delvolset, Addvolentry, Delvolentry, Listvolsets, Adddump, Setexp, Deldump, Listdumps, Listhosts, Checkpoint, Addhost, Delhost, Labeltape, Readlabel, Scantape, Dump, Deletedump, Dumpinfo, Volinfo, Volrestore, Diskrestore, Volsetrestore, VosCreate, VosWrite, VosRmvnode, VosBackup, VosRemove, VosListvol}
+use Rattle.backup_words.specs.declared.kinds.Kind.TheVariants.{Addvolset, Delvolset, Addvolentry, Delvolentry, Listvolsets, Adddump, Setexp, Deldump, Listdumps, Listhosts, Checkpoint, Addhost, Delhost, Labeltape, Readlabel, Scantape, Savedb, Restoredb, Dump, Together, Kill, End, Jobs, Deletedump, Dumpinfo, Volinfo, Dbverify, Volrestore, Diskrestore, Volsetrestore, VosCreate, VosWrite, VosRmvnode, VosBackup, VosRemove, VosListvol}
 use Rattle.backup_words.specs.declared.options.OptionName.TheVariants as option
 use Rattle.backup_words.specs.declared.options.Need.TheVariants.{Free, NotWith}
 use Rattle.backup_words.specs.declared.options.TextForm.TheVariants as text
@@ -45,10 +45,17 @@ built_form Delhost w bytes fit = port_is_two w fit.1.0
 built_form Labeltape w bytes fit = (maybe_text w option.Name Free text.TapeName fit.0, maybe_text w option.Pname (NotWith option.Name) text.TapeName fit.1.0)
 built_form Readlabel w bytes fit = tt
 built_form Scantape w bytes fit = tt
+built_form Savedb w bytes fit = tt
+built_form Restoredb w bytes fit = tt
 built_form Dump w bytes fit = (text_at w option.Volumeset text.SetName fit.0, text_at w option.Dump text.LevelPath fit.1.0)
+built_form Together w bytes fit = omega (arith, number_at_most w option.Schedule 0 2147483647 fit.0)
+built_form Kill w bytes fit = (number_at_most w option.Job 0 4294967295 fit.0, number_at_most w option.After 0 4294967295 fit.1.0)
+built_form End w bytes fit = tt
+built_form Jobs w bytes fit = tt
 built_form Deletedump w bytes fit = number_at_most w option.Dumpid 0 4294967295 fit.0
 built_form Dumpinfo w bytes fit = tt
 built_form Volinfo w bytes fit = tt
+built_form Dbverify w bytes fit = tt
 built_form Volrestore w bytes fit = (text_at w option.Server text.Host fit.0, text_at w option.Partition text.Part fit.1.0)
 built_form Diskrestore w bytes fit = (
   text_at w option.Server text.Host fit.0,

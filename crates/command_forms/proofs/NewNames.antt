@@ -7,7 +7,7 @@ use Rattle.std.proofs.lemmas.List.{length-append}
 use Rattle.bk_text.specs.Bases.{backup_ending}
 use Rattle.bk_text.specs.Blanks.{words_of}
 use Rattle.backup_words.specs.declared.kinds.Kind.{Kind}
-use Rattle.backup_words.specs.declared.kinds.Kind.TheVariants.{Addvolset, Delvolset, Addvolentry, Delvolentry, Listvolsets, Adddump, Setexp, Deldump, Listdumps, Listhosts, Checkpoint, Addhost, Delhost, Labeltape, Readlabel, Scantape, Dump, Deletedump, Dumpinfo, Volinfo, Volrestore, Diskrestore, Volsetrestore, VosCreate, VosWrite, VosRmvnode, VosBackup, VosRemove, VosListvol}
+use Rattle.backup_words.specs.declared.kinds.Kind.TheVariants.{Addvolset, Delvolset, Addvolentry, Delvolentry, Listvolsets, Adddump, Setexp, Deldump, Listdumps, Listhosts, Checkpoint, Addhost, Delhost, Labeltape, Readlabel, Scantape, Savedb, Restoredb, Dump, Together, Kill, End, Jobs, Deletedump, Dumpinfo, Volinfo, Dbverify, Volrestore, Diskrestore, Volsetrestore, VosCreate, VosWrite, VosRmvnode, VosBackup, VosRemove, VosListvol}
 use Rattle.backup_words.specs.declared.options.OptionName.TheVariants as option
 use Rattle.backup_words.specs.declared.command.Command.{Command}
 use Rattle.backup_words.specs.declared.faults.WordFault.{WordFault}
@@ -52,10 +52,17 @@ built_apart Delhost w fit = tt
 built_apart Labeltape w fit = tt
 built_apart Readlabel w fit = tt
 built_apart Scantape w fit = tt
+built_apart Savedb w fit = tt
+built_apart Restoredb w fit = tt
 built_apart Dump w fit = tt
+built_apart Together w fit = tt
+built_apart Kill w fit = tt
+built_apart End w fit = tt
+built_apart Jobs w fit = tt
 built_apart Deletedump w fit = tt
 built_apart Dumpinfo w fit = tt
 built_apart Volinfo w fit = tt
+built_apart Dbverify w fit = tt
 built_apart Volrestore w fit = tt
 built_apart Diskrestore w fit = tt
 built_apart Volsetrestore w fit = tt

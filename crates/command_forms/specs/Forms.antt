@@ -7,13 +7,15 @@ use Rattle.budb_changes.specs.Printable.{IsPatternBytes}
 use Rattle.budb_changes.specs.Forms.{IsExpiry}
 use Rattle.dump_stream.specs.Forms.{IsBytes}
 use Rattle.backup_words.specs.declared.command.Command.{Command}
-use Rattle.backup_words.specs.declared.command.Command.TheVariants.{Database, Tape, Cell, Dump, Restore}
+use Rattle.backup_words.specs.declared.command.Command.TheVariants.{Database, Tape, Cell, Dump, Group, Restore}
 use Rattle.backup_words.specs.declared.command.DatabaseCommand.{DatabaseCommand}
-use Rattle.backup_words.specs.declared.command.DatabaseCommand.TheVariants.{Addvolset, Delvolset, Addvolentry, Delvolentry, Listvolsets, Adddump, Setexp, Deldump, Listdumps, Listhosts, Checkpoint, Addhost, Delhost, Deletedump, Dumpinfo, Volinfo}
+use Rattle.backup_words.specs.declared.command.DatabaseCommand.TheVariants.{Addvolset, Delvolset, Addvolentry, Delvolentry, Listvolsets, Adddump, Setexp, Deldump, Listdumps, Listhosts, Checkpoint, Addhost, Delhost, Deletedump, Dumpinfo, Volinfo, Dbverify}
 use Rattle.backup_words.specs.declared.command.TapeCommand.{TapeCommand}
-use Rattle.backup_words.specs.declared.command.TapeCommand.TheVariants.{Labeltape, Readlabel, Scantape}
+use Rattle.backup_words.specs.declared.command.TapeCommand.TheVariants.{Labeltape, Readlabel, Scantape, Savedb, Restoredb}
 use Rattle.backup_words.specs.declared.command.CellCommand.{CellCommand}
 use Rattle.backup_words.specs.declared.command.CellCommand.TheVariants.{VosCreate, VosWrite, VosRmvnode, VosBackup, VosRemove, VosListvol}
+use Rattle.backup_words.specs.declared.command.GroupCommand.{GroupCommand}
+use Rattle.backup_words.specs.declared.command.GroupCommand.TheVariants.{Together, Kill, End, Jobs}
 use Rattle.backup_words.specs.declared.command.RestoredVolumes.{RestoredVolumes}
 use Rattle.backup_words.specs.declared.command.RestoredVolumes.TheVariants.{One, OfDisk, OfSet}
 
@@ -35,12 +37,15 @@ DatabaseForms (Delhost host port) = IsTwo port
 DatabaseForms (Deletedump id) = IsFour id
 DatabaseForms (Dumpinfo count id) = Unit {0}
 DatabaseForms (Volinfo name) = Unit {0}
+DatabaseForms Dbverify = Unit {0}
 
 -- Fields of a label have the forms of names of tapes.
 abbrev pub TapeForms : TapeCommand → Type 0
 TapeForms (Labeltape name pname portoffset slot) = IfSome name IsTapeName × IfSome pname IsTapeName
 TapeForms (Readlabel portoffset slot) = Unit {0}
 TapeForms (Scantape dbadd portoffset) = Unit {0}
+TapeForms (Savedb portoffset) = Unit {0}
+TapeForms (Restoredb portoffset) = Unit {0}
 
 -- Fields that go into the cell have the forms of names of servers, partitions and volumes, of numbers of vnodes, and of data.
 abbrev pub CellForms : CellCommand → Type 0
@@ -51,7 +56,14 @@ CellForms (VosBackup volume) = Unit {0}
 CellForms (VosRemove volume) = Unit {0}
 CellForms VosListvol = Unit {0}
 
--- So have servers and partitions that volumes are restored to.
+-- The schedule of a group, the number of a held dump and the number of its steps are numbers of four bytes.
+abbrev pub GroupForms : GroupCommand → Type 0
+GroupForms (Together schedule) = IsFour schedule
+GroupForms (Kill job after) = IsFour job × IsFour after
+GroupForms End = Unit {0}
+GroupForms Jobs = Unit {0}
+
+-- Servers and partitions that volumes are restored to have the forms of their names.
 abbrev pub RestoredForms : RestoredVolumes → Type 0
 RestoredForms (One wanted) = IsHost wanted.server × IsName wanted.partition
 RestoredForms (OfDisk disk) = IsHost disk.server × IsName disk.partition × IfSome disk.new_server IsHost × IfSome disk.new_partition IsName
@@ -63,4 +75,5 @@ HasForms (Database command) = DatabaseForms command
 HasForms (Tape command) = TapeForms command
 HasForms (Cell command) = CellForms command
 HasForms (Dump command) = IsSetName command.set × IsLevelPath command.level
+HasForms (Group command) = GroupForms command
 HasForms (Restore command) = RestoredForms command.volumes

@@ -2,7 +2,7 @@
 use Rattle.std.specs.Prelude.{◌≡◌, ℕ, ◌++◌, List}
 use Rattle.bk_text.specs.Bases.{backup_ending}
 use Rattle.backup_words.specs.declared.command.Command.{Command}
-use Rattle.backup_words.specs.declared.command.Command.TheVariants.{Database, Tape, Cell, Dump, Restore}
+use Rattle.backup_words.specs.declared.command.Command.TheVariants.{Database, Tape, Cell, Dump, Group, Restore}
 use Rattle.backup_words.specs.declared.command.CellCommand.{CellCommand}
 use Rattle.backup_words.specs.declared.command.CellCommand.TheVariants.{VosCreate, VosWrite, VosRmvnode, VosBackup, VosRemove, VosListvol}
 
@@ -25,4 +25,5 @@ NamesApart (Database command) = Unit {0}
 NamesApart (Tape command) = Unit {0}
 NamesApart (Cell command) = CellNamesApart command
 NamesApart (Dump command) = Unit {0}
+NamesApart (Group command) = Unit {0}
 NamesApart (Restore command) = Unit {0}

@@ -7,9 +7,11 @@ ghost use Rattle.byte_formats.specs.Forms.{IsTwo, IsFour, IsAnyOr};
 ghost use Rattle.budb_changes.specs.Printable.{IsPatternBytes};
 ghost use Rattle.budb_changes.specs.Forms.{IsExpiry};
 ghost use Rattle.dump_stream.specs.Forms.{IsBytes};
-ghost use Rattle.command_forms.specs.Forms.{DatabaseForms, TapeForms, CellForms, RestoredForms, HasForms};
+ghost use Rattle.command_forms.specs.Forms.{DatabaseForms, TapeForms, CellForms, GroupForms, RestoredForms, HasForms};
 
-use backup_words::{CellCommand, Command, DatabaseCommand, RestoredVolumes, TapeCommand};
+use backup_words::{
+    CellCommand, Command, DatabaseCommand, GroupCommand, RestoredVolumes, TapeCommand,
+};
 use bk_text::{Bytes, Expiry, Host, LevelPath, Name, Part, SetName, TapeName};
 use volume_sets::Pattern;
 
@@ -175,6 +177,7 @@ fn database_is_formed(command: &DatabaseCommand)
         DatabaseCommand::Deletedump { dumpid } => number_is_formed(*dumpid),
         DatabaseCommand::Dumpinfo { .. } => {}
         DatabaseCommand::Volinfo { .. } => {}
+        DatabaseCommand::Dbverify => {}
     }
 }
 
@@ -188,6 +191,8 @@ fn tape_command_is_formed(command: &TapeCommand)
         }
         TapeCommand::Readlabel { .. } => {}
         TapeCommand::Scantape { .. } => {}
+        TapeCommand::Savedb { .. } => {}
+        TapeCommand::Restoredb { .. } => {}
     }
 }
 
@@ -212,6 +217,20 @@ fn cell_command_is_formed(command: &CellCommand)
         CellCommand::VosBackup { .. } => {}
         CellCommand::VosRemove { .. } => {}
         CellCommand::VosListvol => {}
+    }
+}
+
+fn group_command_is_formed(command: &GroupCommand)
+    ensures { GroupForms command.now }
+{
+    match command {
+        GroupCommand::Together { schedule } => number_is_formed(*schedule),
+        GroupCommand::Kill { job, after } => {
+            number_is_formed(*job);
+            number_is_formed(*after);
+        }
+        GroupCommand::End => {}
+        GroupCommand::Jobs => {}
     }
 }
 
@@ -246,6 +265,7 @@ pub fn commands_have_forms(command: &Command)
             set_is_formed(&command.set);
             level_is_formed(&command.level);
         }
+        Command::Group(command) => group_command_is_formed(command),
         Command::Restore(command) => restored_are_formed(&command.volumes),
     }
 }

@@ -64,3 +64,13 @@ good_places cell entries places same within good =
 
 pub good_trial : (cell : List Stored) (entries : List VolEntry) (o : DumpOrder) → entries ≡ map entry_of_stored cell → All (λ place. place < length entries) o.volumes → trial_refusal entries o ≡ None → All (IsGoodAt cell) o.volumes
 good_trial cell entries o same within passed = good_places cell entries o.volumes same within (trial_passes entries o passed)
+
+-- a begin that was refused didn't fail
+pub begin_refused : (T : Type 0) (X : Type 0) (f r : JobFault) → Ok r ≡ passed_on f → UnlessFailed (let q : Result T JobFault = Err f in q) X → X
+begin_refused T X NothingToAppend r is holds = holds
+begin_refused T X (NoTape name) r is holds = holds
+begin_refused T X CapacityTooSmall r is holds = holds
+begin_refused T X IdsSpent r is holds = holds
+begin_refused T X (LogFull size) r is holds = holds
+begin_refused T X Failed r is holds = absurd (no_ok stop.Plant r (passed_on Failed) refl (sym is))
+begin_refused T X Memory r is holds = holds

@@ -8,3 +8,5 @@ pub mod LeftForms
 pub mod OrderForms
 pub mod Checks
 pub mod Making
+pub mod OnPort
+pub mod Starting

@@ -122,7 +122,7 @@ module _ {D E : Type 0} (P : Plant D) (C : Cell E) (s : Scene) (o : DumpOrder) (
       tells (slots_in s) (whole_in s) (scene_slots P C s laws budb old site is) (scene_whole P C s budb old site is) ∙ ap fault_of (tape_told P C s budb old site o log_told is)
 
   module _ (entries : List VolEntry) (fault : Option JobFault) (mid : D) (same : entries ≡ map entry_of_stored (C.list site)) (fault_is : fault ≡ fault_of (tape_for s o)) where
-    by_scene : refusal_by (entries_in s) o (fault_of (tape_for s o)) ≡ refusal_by entries o fault
+    pub by_scene : refusal_by (entries_in s) o (fault_of (tape_for s o)) ≡ refusal_by entries o fault
     by_scene = λ i. refusal_by (sym (same ∙ ap (map entry_of_stored) is.cell) i) o (sym fault_is i)
 
     real_refused : (text : List ℕ) → refusal_by entries o fault ≡ Some text → real_answer s o ≡ said s text
@@ -141,7 +141,7 @@ module _ {D E : Type 0} (P : Plant D) (C : Cell E) (s : Scene) (o : DumpOrder) (
     unfolding real_answer
     real_begun t found passed = ap (λ (r : Option (List ℕ)). refused_or s r (begun_or s o (tape_for s o))) (by_scene ∙ passed) ∙ ap (begun_or s o) found
 
-    passed_scene : Loads P old mid → StaysQuiet P old mid → IsScene P C s budb mid site
+    pub passed_scene : Loads P old mid → StaysQuiet P old mid → IsScene P C s budb mid site
     passed_scene loads stays = scene_later P C s told budb old mid site site is (loads_ahead P old mid s.state (λ _. is.state) loads) stays refl
 
     pub passed_answered : refusal_by entries o fault ≡ None → Loads P old mid → StaysQuiet P old mid → (budb_after : BudbView) (new : D) (d : Dumped) → ((t : FirstTape) → IsScene P C s budb mid site → tape_for s o ≡ Ok t → IsAnswered P s (begun s o t) budb_after mid new d) → IsAnswered P s (real_answer s o) budb_after old new d

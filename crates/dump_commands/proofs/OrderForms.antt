@@ -85,7 +85,7 @@ at_port : (offset : ℕ) (o : Option PortFields) (port : PortFields) → port_at
 at_port offset None port is = absurd (cc)
 at_port offset (Some p) port is = cc
 
-asked : (config : Settings) (db : Database) (a : DumpCommand) (port : PortFields) → asked_port config db a ≡ Ok port → port_in a.offset config.entries ≡ Some port
+pub asked : (config : Settings) (db : Database) (a : DumpCommand) (port : PortFields) → asked_port config db a ≡ Ok port → port_in a.offset config.entries ≡ Some port
 asked config db a port is =
     let level = by_test (has_set a.set db.sets) _ _ port is in
     let host = by_test (has_level db.levels a.level) _ _ port level in

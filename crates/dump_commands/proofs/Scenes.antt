@@ -55,7 +55,7 @@ not_true : (b : Bool) → not b ≡ true → b ≡ false
 not_true true e = absurd (false≢true e)
 not_true false e = refl
 
-whole_is : (tape : List Record) → IsTrue (not (list_any is_bad tape)) ↔ NoBad tape
+pub whole_is : (tape : List Record) → IsTrue (not (list_any is_bad tape)) ↔ NoBad tape
 whole_is tape = (λ whole. none_bad tape (not_true (list_any is_bad tape) whole), λ none. ap not (bad_none tape none))
 
 -- ---- what is found

@@ -87,6 +87,7 @@ pub(crate) fn begin<P: Plant>(
     requires cell { IsMaybe IsHost order.cell }
     ensures begun { IfOk result (λ begun. IfOk begun (IsBegun P.Plant order budb.old budb.new plant.old plant.new)) }
     ensures fit { IfOk result (λ begun. IfOk begun (λ job. FitsJob P.Plant job plant.new)) }
+    ensures refused { IfOk result (λ begun. OnErr begun (Loads P.Plant plant.old plant.new)) }
     ensures never { P.tells → (slots : AnyList Slot) (whole : ℕ → Bool) (t : FirstTape) → HasSlots P.Plant slots plant.old → AreWhole P.Plant whole plant.old → first_tape budb.old.database slots whole order (P.view plant.old).log_size ≡ Ok t → IfOk result IsOk }
     ensures nothing { budb.new.prepared ≡ None }
     ensures leaves { P.tells → (slots : AnyList Slot) (whole : ℕ → Bool) → HasSlots P.Plant slots plant.old → AreWhole P.Plant whole plant.old → LeavesBehindLoads P.Plant (begin_effects (id_of order budb.old.database) (first_tape budb.old.database slots whole order (P.view plant.old).log_size)) plant.old plant.new }

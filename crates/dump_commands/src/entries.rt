@@ -29,7 +29,7 @@ fn entry_of<C: Cell>(cell: &mut C, i: u32) -> Result<VolEntry, DumpStop>
 }
 
 /// What the cell's list says of all its volumes. The list stays.
-pub(crate) fn entries_of<C: Cell>(alloc: Global, cell: &mut C) -> Result<List<VolEntry>, DumpStop>
+pub fn entries_of<C: Cell>(alloc: Global, cell: &mut C) -> Result<List<VolEntry>, DumpStop>
     ensures entries { C.tells → IfOk result (λ entries. entries ≡ map entry_of_stored (C.list cell.old)) }
     ensures count { IfOk result (λ entries. length entries ≡ C.size cell.old) }
     ensures few { IfOk result (λ entries. length entries ≤ 65536) }

@@ -1,6 +1,6 @@
 //! Laws, each the contract of a function without a body.
 
-ghost use Rattle.std.specs.Prelude.{List as AnyList, All};
+ghost use Rattle.std.specs.Prelude.{◌≡◌, ℕ, List as AnyList, All, false, Ok, Err};
 ghost use Rattle.byte_formats.specs.Forms.{IsFour};
 ghost use Rattle.plant_core.specs.Effects.{come};
 ghost use Rattle.vnode_model.specs.declared.listed.VolEntry.{VolEntry};
@@ -14,7 +14,8 @@ ghost use Rattle.dump_courses.specs.Courses.{Point, course};
 ghost use Rattle.backup_words.specs.declared.command.DumpCommand.{DumpCommand as AnyCommand};
 ghost use Rattle.dump_commands.specs.Expanding.{expansion};
 ghost use Rattle.dump_commands.specs.Forms.{IsSceneForm, IsCommandForm, AreShort, AreVolumes};
-ghost use Rattle.dump_commands.specs.Answers.{Contents, dump_answer};
+ghost use Rattle.dump_commands.specs.Answers.{Contents, said, begun, dump_answer};
+ghost use Rattle.dump_commands.specs.Starts.{Start, dump_start};
 
 /// The expansion of a volume set, as a function of its entries, is that of its definition.
 pub fn a_set_is_expanded()
@@ -38,4 +39,10 @@ pub fn what_a_dump_leaves_has_forms()
     ensures time { (s : Scene) (a : AnyCommand) → IsSceneForm s → IsFour (dump_answer s a).time }
     ensures tapes { (s : Scene) (a : AnyCommand) → IsSceneForm s → IsCommandForm a → AreShort s.state.tape → AreShort (come (dump_answer s a).effects s.state).tape }
     ensures contents { (s : Scene) (a : AnyCommand) (contents : Contents) → IsSceneForm s → AreVolumes contents → AreVolumes ((dump_answer s a).contents contents) }
+{}
+
+/// A dump that isn't tried out is begun on the tape on which it starts and goes its course, or it is told what it is refused by.
+pub fn a_dump_starts_or_is_refused()
+    ensures begun { (s : Scene) (a : AnyCommand) (b : Start) → a.trial ≡ false → dump_start s a ≡ Ok b → dump_answer s a ≡ begun s b.order b.tape }
+    ensures refused { (s : Scene) (a : AnyCommand) (text : AnyList ℕ) → a.trial ≡ false → dump_start s a ≡ Err text → dump_answer s a ≡ said s text }
 {}

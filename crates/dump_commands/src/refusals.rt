@@ -10,7 +10,7 @@ use std::alloc::{AllocError, Global};
 use vnode_model::{EntryState, VolEntry};
 
 /// The line of a refusal of a tape, an id or a commit; nothing for what stops a session.
-pub(crate) fn fault_line(
+pub fn fault_line(
     alloc: Global,
     set: &SetName,
     offset: u16,

@@ -35,8 +35,8 @@ fn made_text(alloc: Global, dump: Option<&DumpRecord>) -> Result<Bytes, AllocErr
             &fields.set,
             &fields.level,
             fields.parent,
-            fields.volumes.len() as u32,
-            fields.tapes.len() as u32,
+            fields.volumes.len() as u64,
+            fields.tapes.len() as u64,
         )?;
     }
     lines.piece(b"ok\n")?;

@@ -1,6 +1,6 @@
 //! A dump: it is checked and begun, it goes on step by step, and where it is given up its tape is settled.
 
-ghost use Rattle.std.specs.Prelude.{◌≡◌, ◌≢◌, ◌≤◌, ℕ, Bool, List as AnyList, None, IfOk, OnOk, OnErr, length};
+ghost use Rattle.std.specs.Prelude.{◌≡◌, ◌≢◌, ◌≤◌, ◌^◌, ℕ, Bool, List as AnyList, None, IfOk, OnOk, OnErr, MatchOption, length};
 ghost use Rattle.bk_text.specs.Alphabets.{IsHost};
 ghost use Rattle.byte_formats.specs.Forms.{IsMaybe};
 ghost use Rattle.crash_moments.specs.Moments.{HasCause, HasCauseAt};
@@ -11,6 +11,8 @@ ghost use Rattle.tape_choice.specs.Append.{AreWhole};
 ghost use Rattle.dump_job.specs.Faults.{UnlessFailed, LeavesBehindLoads, Searches};
 ghost use Rattle.dump_job.specs.Beginning.{id_of, first_tape, begin_effects, IsBegun, Checks, Refuses};
 ghost use Rattle.dump_job.specs.Settling.{last_cut, settling_last};
+ghost use Rattle.dump_job.specs.Cloning.{volumes_done};
+ghost use Rattle.dump_job.specs.Ending.{all_parts};
 ghost use Rattle.dump_job.specs.Events.{Around, event};
 ghost use Rattle.dump_job.specs.Jobs.{FitsJob, HasPlaces};
 ghost use Rattle.dump_job.specs.Elsewhere.{LeavesOthers, LeavesTapes};
@@ -29,6 +31,7 @@ use cell_core::Cell;
 use plant_core::{Failed, Plant};
 use std::alloc::Global;
 use std::marker::Model;
+use tape_frames::DumpHeadFields;
 
 /// A dump between two steps. Contracts see what it has in hand. It fits the plant and the database that it was begun on.
 pub struct Job {
@@ -104,6 +107,32 @@ impl Job {
         ensures { result ≡ self.now.head.id }
     {
         self.fields.head.fields().id
+    }
+
+    /// The head of the part in hand, or of the last one, which has the dump's volume set, its level and its parent.
+    pub fn head(&self) -> &DumpHeadFields
+        ensures { result.now ≡ self.now.head }
+    {
+        self.fields.head.fields()
+    }
+
+    /// How many volumes its record has, that in hand among them; none where that is more than 64 bits hold.
+    pub fn volume_count(&self) -> Option<u64>
+        ensures { MatchOption result (2 ^ 64 ≤ length (volumes_done self.now)) (λ count. count ≡ length (volumes_done self.now)) }
+    {
+        let ended = self.fields.volumes.len() as u64;
+        match &self.fields.hand {
+            None => Some(ended),
+            Some(_) => ended.checked_add(1),
+        }
+    }
+
+    /// How many tapes its record has, that in hand among them; none where that is more than 64 bits hold.
+    pub fn tape_count(&self) -> Option<u64>
+        ensures { MatchOption result (2 ^ 64 ≤ length (all_parts self.now)) (λ count. count ≡ length (all_parts self.now)) }
+    {
+        let ended = self.fields.filled.len() as u64;
+        ended.checked_add(1)
     }
 
     /// Goes on by one step, which is the next one that `event` says. A step on a tape that isn't loaded loads it first. No step

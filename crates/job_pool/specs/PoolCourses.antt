@@ -10,6 +10,7 @@ use Rattle.job_pool.specs.declared.turn.Kill.{Kill}
 use Rattle.job_pool.specs.Pools.{PoolPoint, turn_event, behind, PoolCourse, interleaved}
 use Rattle.job_pool.specs.Schedules.{next_number, next_turn}
 
+-- a turn and those at the point behind it; none where no turn is next
 abbrev pub and_then : Option Turn → Scene → PoolPoint → (PoolPoint → List Turn) → List Turn
 and_then None s p rest = []
 and_then (Some t) s p rest = t ∷ rest (behind p (turn_event s p t))
@@ -19,6 +20,7 @@ abbrev pub scheduled : ℕ → Scene → List Kill → ℕ → PoolPoint → Lis
 scheduled zero s kills x p = []
 scheduled (suc m) s kills x p = and_then (next_turn kills x p.jobs) s p (scheduled m s kills (next_number x))
 
+-- how many turns a dump takes at most: one more than what is left of it where it runs, 0 where it has ended
 abbrev pub turns_for : Option JobEnd → ℕ → ℕ
 turns_for None left = suc left
 turns_for (Some end) left = 0

@@ -43,6 +43,7 @@ pub record PoolEvent : Type 0 where
   pub changes : List Change
   pub jobs : List PoolJob
 
+-- a turn without an effect and without a change, behind which the dumps are as before
 abbrev pub nothing_done : PoolPoint → PoolEvent
 nothing_done p = record { effects = []; changes = []; jobs = p.jobs }
 
@@ -63,6 +64,7 @@ counted steps = min (steps + 1) 18446744073709551615
 abbrev pub stepped : PoolJob → Event → PoolJob
 stepped q e = record { job = e.job; steps = counted q.steps; end = end_by e.answer }
 
+-- a dump that is killed: it ends with its id, and its steps stay as they were
 abbrev pub killed : PoolJob → PoolJob
 killed q = record { job = q.job; steps = q.steps; end = Some (Killed q.job.head.id) }
 
@@ -71,6 +73,7 @@ abbrev pub settling_at : Option ℕ → State → List Effect
 settling_at None s = []
 settling_at (Some k) s = cuts k (length (s.tape k)) ∷ []
 
+-- the next step of the dump of this number: its effects and changes, with the dump behind it in its place
 abbrev pub step_event : Scene → PoolPoint → ℕ → PoolJob → PoolEvent
 step_event s p n q = let e = next_event s (point_of p q) in record { effects = e.effects; changes = e.changes; jobs = with_job n (stepped q e) p.jobs }
 
@@ -83,10 +86,12 @@ abbrev pub unless_ended : Option JobEnd → PoolPoint → PoolEvent → PoolEven
 unless_ended None p e = e
 unless_ended (Some end) p e = nothing_done p
 
+-- a step of the dump of this number; nothing is done where there is no such dump or it has ended
 abbrev pub step_at : Scene → PoolPoint → ℕ → Option PoolJob → PoolEvent
 step_at s p n None = nothing_done p
 step_at s p n (Some q) = unless_ended q.end p (step_event s p n q)
 
+-- a kill of the dump of this number; nothing is done where there is no such dump or it has ended
 abbrev pub kill_at : PoolPoint → ℕ → Option PoolJob → PoolEvent
 kill_at p n None = nothing_done p
 kill_at p n (Some q) = unless_ended q.end p (kill_event p n q)
@@ -96,11 +101,13 @@ abbrev pub turn_event : Scene → PoolPoint → Turn → PoolEvent
 turn_event s p (Step n) = step_at s p n (slice_get p.jobs n)
 turn_event s p (Kill n) = kill_at p n (slice_get p.jobs n)
 
+-- the point behind a turn: its changes stand behind the log, and its effects were done to the plant
 abbrev pub behind : PoolPoint → PoolEvent → PoolPoint
 behind p e = record { log = p.log ++ e.changes; state = come e.effects p.state; jobs = e.jobs }
 
 -- ---- a list of turns
 
+-- what a list of turns comes to: all effects on the plant in order, the journal's changes, and the dumps in the end
 pub record PoolCourse : Type 0 where
   pub effects : List Effect
   pub log : List Change

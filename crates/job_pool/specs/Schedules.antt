@@ -13,6 +13,7 @@ next_number x = (x * 1103515245 + 12345) % 2147483648
 
 -- ---- whose turn is next
 
+-- the number of a dump in front of these numbers, where it runs
 abbrev pub if_runs : Option JobEnd → ℕ → List ℕ → List ℕ
 if_runs None n rest = n ∷ rest
 if_runs (Some end) n rest = rest
@@ -36,10 +37,12 @@ number_of (turns.Kill n) = n
 abbrev pub turn_for : List Kill → ℕ → PoolJob → Turn
 turn_for kills n q = if list_any (λ k. (k.job == n) && (k.after == q.steps)) kills then turns.Kill n else turns.Step n
 
+-- the turn of a dump of this number, where there is one; else `None`
 abbrev pub turn_of : List Kill → ℕ → Option PoolJob → Option Turn
 turn_of kills n None = None
 turn_of kills n (Some q) = Some (turn_for kills n q)
 
+-- the turn of the dump whose number is picked; `None` where no number is, or no dump has it
 abbrev pub turn_at : List Kill → List PoolJob → Option ℕ → Option Turn
 turn_at kills jobs None = None
 turn_at kills jobs (Some n) = turn_of kills n (slice_get jobs n)

@@ -1,8 +1,9 @@
-//! Dumps that take turns, on ports that have no slot in common, as up to sixteen coordinators do: each turn is the next step of one of
-//! them, or its kill, which settles the tape that it cut last. `specs/Pools.antt` says what a turn and a list of turns do,
-//! `specs/Schedules.antt` whose turn is next by a schedule, and `specs/PoolCourses.antt` what comes of all turns. A pool is made by
-//! `Pool::new`, takes dumps that were begun by `Pool::add`, and runs by `Pool::turn` or `Pool::run`; whatever is called, a turn leaves the
-//! tapes of other ports as they were. It stands on the steps of one dump in `dump_job` and on their course in `dump_courses`.
+//! Dumps that take turns, on ports that have no slot in common, as up to sixteen coordinators do: each turn is the
+//! next step of one of them, or its kill, which settles the tape that it cut last. `specs/Pools.antt` says what a
+//! turn and a list of turns do, `specs/Schedules.antt` whose turn is next by a schedule, and `specs/PoolCourses.antt`
+//! what comes of all turns. A pool is made by `Pool::new`, takes dumps that were begun by `Pool::add`, and runs by
+//! `Pool::turn` or `Pool::run`; unless the plant fails, a turn leaves the tapes of other ports as they were.
+//! `group_commands` stands above. The steps of one dump in `dump_job` and their course in `dump_courses` stand below.
 #![tactic(auto)]
 
 mod ends;

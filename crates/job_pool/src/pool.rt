@@ -99,6 +99,15 @@ impl Pool {
         one.end.as_ref()
     }
 
+    /// A dump as it stands: where it has ended, as its last step left it.
+    pub fn job_of(&self, job: u32) -> &Job
+        requires { job < length self.now.jobs }
+        ensures { (q : AnyOne) → slice_get self.now.jobs job ≡ Some q → result.now ≡ q.job }
+    {
+        let one = &self.jobs[job as usize];
+        &one.job
+    }
+
     /// A turn of a dump: its next step, or its kill. It tells whether a dump runs still. A turn of one that has ended changes nothing.
     /// After a stop that isn't the plant's all dumps are as they were, and no record or log was changed.
     pub fn turn<P: Plant, C: Cell>(

@@ -1,6 +1,6 @@
 use Rattle.dump_job.specs.Beginning.{first_tape}
 use Rattle.dump_job.specs.declared.fields.JobFields.{JobFields}
-use Rattle.dump_commands.proofs.Checks.{told_not, search_stopped}
+use Rattle.dump_commands.proofs.Checks.{told_not, search_stopped, begin_refused}
 use Rattle.tape_scan.specs.Looking.{Loads}
 use Rattle.dump_commands.proofs.dumping.begin.Goals as goal
 
@@ -10,3 +10,6 @@ returns-in-Ok-pass_on-clause-never g c = λ told slots whole t has are found.
 
 pub returns-in-Err-pass_on-clause-stopped : goal.returns-in-Err-pass_on-clause-stopped
 returns-in-Err-pass_on-clause-stopped g c = search_stopped JobFields (Loads g.P.Plant c.args.plant.now c.begin.new.plant) c.in-Err.fault c.in-Err-pass_on.stop c.in-Err-pass_on.ensures c.in-Err.ensures.loads
+
+pub returns-in-Ok-pass_on-clause-refused : goal.returns-in-Ok-pass_on-clause-refused
+returns-in-Ok-pass_on-clause-refused g c = begin_refused JobFields (Loads g.P.Plant c.args.plant.now c.begin.new.plant) c.in-Err.fault c.in-Ok-pass_on.refusal c.in-Ok-pass_on.ensures c.in-Err.ensures.loads

@@ -1,0 +1,11 @@
+pub mod Effects
+pub mod Settled
+pub mod Jobs
+pub mod Going
+pub mod SettledGroups
+pub mod StartedGroups
+pub mod Holding
+pub mod KillLaws
+pub mod Adding
+pub mod HeldBegins
+pub mod GroupEnds
