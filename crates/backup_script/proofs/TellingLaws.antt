@@ -28,6 +28,7 @@ module _ {D E : Type 0} (P : Plant D) (C : Cell E) where
     settled = record { log = fits.settled.log; tapes = fits.settled.tapes };
     slots = stays.slots ∙ fits.slots;
     present = λ k. ap (λ (f : ℕ → Bool). f k) stays.present ∙ fits.present k;
+    groups = fits.groups;
     cell = fits.cell;
   }
 

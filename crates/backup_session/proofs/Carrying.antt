@@ -14,7 +14,7 @@ use Rattle.cell_core.specs.declared.cell.Cell.{Ghosts as Cell}
 use Rattle.cell_core.specs.declared.stored.Stored.{Stored}
 use Rattle.backup_words.specs.declared.command.Command.{Command}
 use Rattle.backup_words.specs.declared.command.TapeCommand.{TapeCommand}
-use Rattle.backup_words.specs.declared.command.TapeCommand.TheVariants.{Labeltape, Readlabel, Scantape}
+use Rattle.backup_words.specs.declared.command.TapeCommand.TheVariants.{Labeltape, Readlabel, Scantape, Savedb, Restoredb}
 use Rattle.backup_words.specs.declared.command.CellCommand.{CellCommand}
 use Rattle.backup_replies.specs.declared.refusals.Refusal.TheVariants.{LogFull}
 use Rattle.backup_replies.specs.Texts.{refused_number}
@@ -31,6 +31,7 @@ use Rattle.tape_config.specs.declared.port.PortFields.{PortFields}
 use Rattle.backup_session.specs.Scanning.{port_of, scan_turn, slots_here}
 use Rattle.backup_session.proofs.Room.{full_true, room_false}
 use Rattle.backup_session.proofs.ScanLaws.{slots_cells}
+use Rattle.backup_session.proofs.SaveTurns.{by_save, by_back}
 use Rattle.backup_session.specs.Tapes.{slot_of, new_label, taken, labeled, label_turn, read_turn, tape_turn}
 use Rattle.backup_session.specs.Machine.{committed, replaced, carried, on_cell, done, turn}
 use Rattle.backup_session.specs.Fitting.{Stands, TurnDone, SomeTurnDone, OnTheWay, FitsPlant, TurnedPlant}
@@ -96,19 +97,22 @@ tape_cells w (Scantape dbadd offset) = go (port_of w.setting.config (after w.log
     go : (r : Result PortFields (List ℕ)) → (scan_turn w dbadd r).cells ≡ []
     go (Err text) = refl
     go (Ok port) = slots_cells w dbadd (slots_here w.setting.present port)
+tape_cells w (Savedb offset) = by_save w (λ (t : Turn). t.cells ≡ []) (λ text. refl) (λ p bytes few. refl) (port_of w.setting.config (after w.log).hosts offset)
+tape_cells w (Restoredb offset) = by_back w (λ (t : Turn). t.cells ≡ []) (λ text. refl) (port_of w.setting.config (after w.log).hosts offset) (λ changes comes. refl)
 
 -- ---- what fits
 
 module _ {D E : Type 0} (P : Plant D) (C : Cell E) (w : World) (old : D) (site : E) (session : SessionView) (stands : Stands P C w old site session) where
   -- the same at a moment of the clock
-  pub stands_at : (now : ℕ) (later : SessionView) → later.budb ≡ session.budb → later.config ≡ session.config → later.time ≡ max session.time (min now 4294967295) → Stands P C (at_moment w now) old site later
-  stands_at now later budb config time = record {
+  pub stands_at : (now : ℕ) (later : SessionView) → later.budb ≡ session.budb → later.config ≡ session.config → later.groups ≡ session.groups → later.time ≡ max session.time (min now 4294967295) → Stands P C (at_moment w now) old site later
+  stands_at now later budb config groups time = record {
     keeps = record { form = stands.keeps.form; is = stands.keeps.is; fold = ap (λ b. b.database) budb ∙ stands.keeps.fold };
     time = time ∙ ap (λ (t : ℕ). max t (min now 4294967295)) stands.time;
     config = config ∙ stands.config;
     state = stands.state;
     slots = stands.slots;
     present = stands.present;
+    groups = groups ∙ stands.groups;
     cell = stands.cell;
   }
 
@@ -121,6 +125,7 @@ module _ {D E : Type 0} (P : Plant D) (C : Cell E) (w : World) (old : D) (site :
     state = stands.state;
     slots = stands.slots;
     present = stands.present;
+    groups = stands.groups;
   }
 
   -- a turn that leaves the cell alone
@@ -135,6 +140,7 @@ module _ {D E : Type 0} (P : Plant D) (C : Cell E) (w : World) (old : D) (site :
       state = turned.fits.state;
       slots = turned.fits.slots;
       present = turned.fits.present;
+      groups = turned.fits.groups;
       cell = stands.cell ∙ sym (ap (last_cell w.cell) cells);
     };
     settles = turned.settles;
@@ -159,6 +165,7 @@ module _ {D E : Type 0} (P : Plant D) (C : Cell E) (w : World) (old : D) (site :
           state = stands.state;
           slots = stands.slots;
           present = stands.present;
+          groups = stands.groups;
           cell = answer.list ∙ (λ i. last_cell (stands.cell i) (same i).cells);
         };
         settles = λ whole. whole;

@@ -7,6 +7,7 @@ use Rattle.budb.specs.Views.{BudbView}
 use Rattle.dump_courses.specs.Scenes.{Finds}
 use Rattle.dump_commands.specs.declared.told.Dumped.{Dumped}
 use Rattle.dump_commands.specs.Answers.{Answer, IsAnswered}
+use Rattle.backup_session.specs.declared.groups.Groups.{Groups}
 use Rattle.backup_session.specs.Views.{SessionView, ReplyView}
 use Rattle.backup_session.specs.Worlds.{World}
 use Rattle.backup_session.specs.Dumps.{scene_of, answered}
@@ -26,10 +27,11 @@ module _ {D E : Type 0} (P : Plant D) (C : Cell E) (w : World) (old : D) (site :
     };
   }
 
-  -- it was answered
-  pub dump_turned : (a : Answer) (budb : BudbView) (new : D) (there : E) (told : Dumped) (later : SessionView) (reply : ReplyView) → IsAnswered P (scene_of w) a budb old new told → Stays P old new → C.list there ≡ C.list site
-      → later.config ≡ session.config → later.budb ≡ budb → later.time ≡ told.time → reply.text ≡ told.text → TurnDone P C w (answered w a) old new there later reply
-  dump_turned a budb new there told later reply is stays list config budb_is time text = record {
+  -- it was answered, and so are the groups behind it
+  pub dump_turned : (a : Answer) (groups : Groups) (budb : BudbView) (new : D) (there : E) (told : Dumped) (later : SessionView) (reply : ReplyView) → IsAnswered P (scene_of w) a budb old new told → Stays P old new → C.list there ≡ C.list site
+      → later.config ≡ session.config → later.budb ≡ budb → later.time ≡ told.time → later.groups ≡ groups → reply.text ≡ told.text
+      → TurnDone P C w (record (answered w a) { groups = groups }) old new there later reply
+  dump_turned a groups budb new there told later reply is stays list config budb_is time groups_are text = record {
     done = is.done;
     text = text ∙ is.text;
     stands = record {
@@ -39,6 +41,7 @@ module _ {D E : Type 0} (P : Plant D) (C : Cell E) (w : World) (old : D) (site :
       state = is.state;
       slots = stays.slots ∙ stands.slots;
       present = λ k. ap (λ (p : ℕ → Bool). p k) stays.present ∙ stands.present k;
+      groups = groups_are;
       cell = list ∙ stands.cell;
     };
     settles = is.settled;

@@ -10,8 +10,12 @@ pub mod Shortening
 pub mod LabelLaws
 pub mod Taking
 pub mod Settling
+pub mod SaveTurns
+pub mod BackTurns
+pub mod VerifiedLaws
 pub mod RestoreLaws
 pub mod DumpLaws
+pub mod GroupLaws
 pub mod Silent
 pub mod OpenLaws
 pub mod RecordForms
@@ -19,3 +23,4 @@ pub mod FoundForms
 pub mod ListingLaws
 pub mod AgainLaws
 pub mod TurnLaws
+pub mod LoadLaws

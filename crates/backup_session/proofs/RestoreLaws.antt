@@ -54,6 +54,7 @@ module _ {D E : Type 0} (P : Plant D) (C : Cell E) (w : World) (old : D) (site :
           state = ahead_both w.state (state_of P old) (state_of P new) stands.state (done.state told);
           slots = stays.slots ∙ stands.slots;
           present = λ k. ap (λ (p : ℕ → Bool). p k) stays.present ∙ stands.present k;
+          groups = stands.groups;
           cell = refl;
         };
         settles = λ whole. whole;
@@ -110,6 +111,7 @@ module _ {D E : Type 0} (P : Plant D) (C : Cell E) (w : World) (old : D) (site :
             state = ahead_both w.state (state_of P old) (state_of P new) stands.state (done.state told);
             slots = stays.slots ∙ stands.slots;
             present = λ k. ap (λ (p : ℕ → Bool). p k) stays.present ∙ stands.present k;
+            groups = stands.groups;
             cell = answer.list ∙ (λ i. last_of (stands.cell i) (answer_same i).cells) ∙ lists_same w.cell cells;
           };
           settles = λ whole. whole;

@@ -9,7 +9,7 @@ use Rattle.std.proofs.lemmas.Grind.{fold-append}
 use Rattle.plant_core.specs.declared.plant.Plant.{Ghosts as Plant}
 use Rattle.plant_core.specs.Crashes.{State, IsSettled}
 use Rattle.plant_core.specs.Records.{Record}
-use Rattle.plant_core.specs.Effects.{Effect, commits, come}
+use Rattle.plant_core.specs.Effects.{Effect, commits}
 use Rattle.plant_effects.specs.Runs.{state_of, Done, Leaves, Stays}
 use Rattle.plant_effects.proofs.States.{come_append}
 use Rattle.plant_effects.proofs.Joining.{Fits as FitsImages, nothing_left, leaves_more}
@@ -115,6 +115,7 @@ module _ {D : Type 0} (P : Plant D) (w : World) where
           state = subst (λ (x : State). IsAhead x (state_of P new)) is second.fits.state;
           slots = second.fits.slots;
           present = second.fits.present;
+          groups = second.fits.groups;
         };
         settles = λ whole. subst IsSettled is (second.settles (first.settles whole));
       }
@@ -128,6 +129,7 @@ loads_fit P w old new session told fits loads stays = record {
   state = ahead_both w.state (state_of P old) (state_of P new) fits.state ((loads_ahead P old new w.state (λ _. fits.state) loads).state told);
   slots = stays.slots ∙ fits.slots;
   present = λ k. ap (λ (p : ℕ → Bool). p k) stays.present ∙ fits.present k;
+  groups = fits.groups;
 }
 
 -- ---- one dump
@@ -193,10 +195,10 @@ module _ {D : Type 0} (P : Plant D) (w : World) (old : D) (session : SessionView
   room_is never = sym (ap (λ (s : Step). s.full) (with_room (roomy never)))
 
   pub added_stepped : (mid : D) (later : SessionView) (before after : List ℕ) → P.tells → (268435456 < (P.view old).log_size + length (encoded (change.Found d ∷ [])) → ⊥) → Done P (commits (encoded (change.Found d ∷ [])) ∷ []) old mid
-      → Stays P old mid → Keeps (w.log ++ change.Found d ∷ []) (state_of P mid).log later.budb → later.time ≡ time_with session.time d → later.config ≡ session.config
+      → Stays P old mid → Keeps (w.log ++ change.Found d ∷ []) (state_of P mid).log later.budb → later.time ≡ time_with session.time d → later.config ≡ session.config → later.groups ≡ session.groups
       → after ≡ before ++ added_line d.id → Stepped P w (added w d).turn old mid later before after
   unfolding full_step made_step
-  added_stepped mid later before after told never done stays keeps time config text =
+  added_stepped mid later before after told never done stays keeps time config groups text =
       let es = commits (encoded (change.Found d ∷ [])) ∷ [] in
       let all = done_ahead P es old mid w.state fits.state done in
       let here = ahead_behind P es old mid w.state told fits.state all in
@@ -210,6 +212,7 @@ module _ {D : Type 0} (P : Plant D) (w : World) (old : D) (session : SessionView
           state = here;
           slots = stays.slots ∙ fits.slots;
           present = λ k. ap (λ (p : ℕ → Bool). p k) stays.present ∙ fits.present k;
+          groups = groups ∙ fits.groups;
         };
         settles = settled_commit (encoded (change.Found d ∷ [])) w.state;
       })
@@ -381,6 +384,7 @@ module _ {D : Type 0} (P : Plant D) (w : World) (old : D) (session : SessionView
         state = stepped.fits.state;
         slots = stepped.fits.slots;
         present = stepped.fits.present;
+        groups = stepped.fits.groups;
       };
       settles = stepped.settles;
     })

@@ -69,6 +69,7 @@ module _ {D E : Type 0} (P : Plant D) (C : Cell E) (w : World) (plant : D) (site
         (ahead_within w.state (record { log = omega (arith, fits.settled.log); tapes = λ k. omega (arith, fits.settled.tapes k) })) fits.state;
     slots = fits.slots;
     present = fits.present;
+    groups = fits.groups;
     cell = fits.cell;
   }
 
@@ -81,6 +82,7 @@ module _ {D E : Type 0} (P : Plant D) (C : Cell E) (w : World) (plant : D) (site
     settled = settled;
     slots = stands.slots;
     present = stands.present;
+    groups = stands.groups;
     cell = stands.cell;
   }
 

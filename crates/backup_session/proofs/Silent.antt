@@ -1,8 +1,9 @@
 -- The effects of a command tell nothing: all that is told of it is its reply.
-use Rattle.std.proofs.Common.{◌≡◌, ℕ, zero, suc, Bool, true, false, Option, Some, None, List, [], ◌∷◌, ◌++◌, length, refl, sym, ◌∙◌, ap, append_assoc}
+use Rattle.std.proofs.Common.{◌≡◌, ◌≤◌, ℕ, zero, suc, Bool, true, false, Option, Some, None, List, [], ◌∷◌, ◌++◌, length, refl, sym, ◌∙◌, ap, append_assoc}
 use Rattle.std.specs.Prelude.{nat_lt, if◌then◌else◌, slice_get, Result, Ok, Err, IfOk}
 use Rattle.std.specs.List.{fold}
 use Rattle.plant_core.specs.declared.plant.Plant.{Ghosts as Plant}
+use Rattle.plant_core.specs.Crashes.{State}
 use Rattle.plant_core.specs.Effects.{Effect, commits, replaces, tells, puts, settles, cuts, told_by}
 use Rattle.vnode_model.specs.declared.listed.VolEntry.{VolEntry}
 use Rattle.cell_core.specs.declared.cell.Cell.{Ghosts as Cell}
@@ -37,15 +38,32 @@ use Rattle.dump_job.specs.Passing.{next_choice, next_changes, part_passed, part_
 use Rattle.dump_job.specs.Closing.{committing, made_of, done_changes, dump_ended}
 use Rattle.dump_job.specs.Events.{Around, Event, putting, items_at, clone_by, clone_from, closing, part_end_by, part_end_event, dump_end_event, head_event, piece_event, hand_event, event_by, event}
 use Rattle.tape_choice.specs.declared.choosing.Chosen.{Chosen}
+use Rattle.tape_choice.specs.Choice.{permanent_in}
+use Rattle.budb_save.specs.declared.choosing.Picked.{Picked}
+use Rattle.budb_save.specs.Saves.{save_label}
 use Rattle.backup_words.specs.declared.command.DumpCommand.{DumpCommand}
+use Rattle.dump_job.specs.Settling.{last_cut}
 use Rattle.dump_courses.specs.Scenes.{Scene}
 use Rattle.dump_courses.specs.Courses.{Point, Course, around, next_event, behind, goes_on, last_event, event_then, course_within, events_left, course}
 use Rattle.dump_commands.specs.Answers.{Answer, begun_point, begun, dump_answer}
 use Rattle.dump_commands.proofs.LeftForms.{by_answer}
+use Rattle.dump_commands.specs.Starts.{Start}
+use Rattle.job_pool.specs.declared.ends.JobEnd.{JobEnd}
+use Rattle.job_pool.specs.declared.jobs.PoolJob.{PoolJob}
+use Rattle.job_pool.specs.declared.turn.Kill.{Kill}
+use Rattle.job_pool.specs.declared.turn.Turn.{Turn as PoolTurn}
+use Rattle.job_pool.specs.declared.turn.Turn.TheVariants as turns
+use Rattle.job_pool.specs.Pools.{PoolPoint, PoolEvent, PoolCourse, point_of, settling_at, step_event, kill_event, unless_ended, step_at, kill_at, turn_event, behind as pool_behind, interleaved}
+use Rattle.job_pool.specs.PoolCourses.{scheduled, turns_left, pool_course}
+use Rattle.group_commands.specs.Groups.{GroupView}
+use Rattle.group_commands.specs.Begins.{start_event, started, first_point, begins, starts_of, kills_of}
+use Rattle.group_commands.specs.Answers.{group_answer}
 use Rattle.backup_words.specs.declared.command.Command.{Command}
 use Rattle.backup_words.specs.declared.command.Command.TheVariants as commands
+use Rattle.backup_words.specs.declared.command.GroupCommand.{GroupCommand}
+use Rattle.backup_words.specs.declared.command.GroupCommand.TheVariants as groups
 use Rattle.backup_words.specs.declared.command.TapeCommand.{TapeCommand}
-use Rattle.backup_words.specs.declared.command.TapeCommand.TheVariants.{Labeltape, Readlabel, Scantape}
+use Rattle.backup_words.specs.declared.command.TapeCommand.TheVariants.{Labeltape, Readlabel, Scantape, Savedb, Restoredb}
 use Rattle.backup_session.specs.declared.verdict.Verdict.{Verdict}
 use Rattle.backup_session.specs.declared.verdict.Verdict.TheVariants.{Refuses, Makes, Shortens, Shows}
 use Rattle.backup_session.specs.Views.{SessionView, ReplyView}
@@ -54,10 +72,13 @@ use Rattle.backup_session.specs.Turns.{length_with}
 use Rattle.backup_session.specs.Verdicts.{verdict}
 use Rattle.backup_session.specs.Labels.{label_of}
 use Rattle.backup_session.specs.Scanning.{port_of, slots_here, scans_of, Step, says, has_wrong_parent, added, added_if, with_dump, adding, dumps_turn, slots_turn, scan_turn}
+use Rattle.backup_session.specs.Saves.{saved_in_slot, saved_turn, back_turn}
 use Rattle.backup_session.specs.Tapes.{slot_of, read_turn, new_label, taken, labeled, label_turn, tape_turn}
 use Rattle.backup_session.specs.Dumps.{scene_of, dump_turn}
-use Rattle.backup_session.specs.Machine.{carried, done, turn}
+use Rattle.backup_session.specs.Groups.{group_in, in_group, group_alone}
+use Rattle.backup_session.specs.Machine.{carried, alone, done_in, done, turn}
 use Rattle.backup_session.specs.Fitting.{TurnDone, SomeTurnDone}
+use Rattle.backup_session.proofs.SaveTurns.{save_silent, by_save, by_back}
 
 -- ---- effects that tell nothing
 
@@ -170,6 +191,50 @@ begun_silent s o t = course_silent s (begun_point s o t)
 answer_silent : (s : Scene) (a : DumpCommand) → IsSilent (dump_answer s a).effects
 answer_silent s a = by_answer s (λ (x : Answer). IsSilent x.effects) (λ text. refl) (λ o t. begun_silent s o t) a
 
+-- ---- the turns of a group
+
+settling_silent : (k : Option ℕ) (s : State) → IsSilent (settling_at k s)
+settling_silent None s = refl
+settling_silent (Some k) s = refl
+
+ended_silent : (end : Option JobEnd) (p : PoolPoint) (e : PoolEvent) → IsSilent e.effects → IsSilent (unless_ended end p e).effects
+ended_silent None p e is = is
+ended_silent (Some end) p e is = refl
+
+step_silent : (s : Scene) (p : PoolPoint) (n : ℕ) (q : Option PoolJob) → IsSilent (step_at s p n q).effects
+step_silent s p n None = refl
+step_silent s p n (Some q) = ended_silent q.end p (step_event s p n q) (event_silent (around s (point_of p q)) q.job)
+
+kill_silent : (p : PoolPoint) (n : ℕ) (q : Option PoolJob) → IsSilent (kill_at p n q).effects
+kill_silent p n None = refl
+kill_silent p n (Some q) = ended_silent q.end p (kill_event p n q) (settling_silent (last_cut q.job) p.state)
+
+one_turn_silent : (s : Scene) (p : PoolPoint) (t : PoolTurn) → IsSilent (turn_event s p t).effects
+one_turn_silent s p (turns.Step n) = step_silent s p n (slice_get p.jobs n)
+one_turn_silent s p (turns.Kill n) = kill_silent p n (slice_get p.jobs n)
+
+interleaved_silent : (s : Scene) (p : PoolPoint) (ts : List PoolTurn) → IsSilent (interleaved s p ts).effects
+interleaved_silent s p [] = refl
+interleaved_silent s p (t ∷ ts) =
+    let e = turn_event s p t in
+    both e.effects (interleaved s (pool_behind p e) ts).effects (one_turn_silent s p t) (interleaved_silent s (pool_behind p e) ts)
+
+pool_silent : (s : Scene) (kills : List Kill) (x : ℕ) (p : PoolPoint) → IsSilent (pool_course s kills x p).effects
+unfolding pool_course
+pool_silent s kills x p = interleaved_silent s p (scheduled (turns_left s.cell p.jobs) s kills x p)
+
+started_silent : (rest : PoolPoint → PoolCourse) → ((p : PoolPoint) → IsSilent (rest p).effects) → (p : PoolPoint) (starts : List Start) → IsSilent (started rest p starts).effects
+started_silent rest each p [] = each p
+started_silent rest each p (b ∷ starts) =
+    let e = start_event p b in
+    both e.effects (started rest (pool_behind p e) starts).effects refl (started_silent rest each (pool_behind p e) starts)
+
+group_silent : (s : Scene) (g : GroupView) → IsSilent (group_answer s g).answer.effects
+unfolding group_answer
+group_silent s g =
+    let kills = kills_of (begins s (first_point s) g.held) g.kills in
+    started_silent (pool_course s kills g.schedule) (pool_silent s kills g.schedule) (first_point s) (starts_of s (first_point s) g.held)
+
 -- ---- scans
 
 one_step : (b : Bool) (s t : Step) → IsSilent s.turn.effects → IsSilent t.turn.effects → IsSilent (if b then s else t).turn.effects
@@ -220,6 +285,17 @@ read_silent : (w : World) (r : Result ℕ (List ℕ)) → IsSilent (read_turn w 
 read_silent w (Err text) = refl
 read_silent w (Ok slot) = refl
 
+-- ---- saves
+
+put_silent_on : (w : World) (p : Picked) (bytes : List ℕ) → length bytes ≤ 4000000000 → IsSilent (saved_in_slot w p bytes).effects
+put_silent_on w p bytes few = save_silent p.slot (save_label (permanent_in p.label)) bytes
+
+saved_silent : (w : World) (port : Result PortFields (List ℕ)) → IsSilent (saved_turn w port).effects
+saved_silent w port = by_save w (λ (t : Turn). IsSilent t.effects) (λ text. refl) (put_silent_on w) port
+
+back_silent : (w : World) (port : Result PortFields (List ℕ)) → IsSilent (back_turn w port).effects
+back_silent w port = by_back w (λ (t : Turn). IsSilent t.effects) (λ text. refl) port (λ changes comes. refl)
+
 -- ---- the commands
 
 pub carried_silent : (w : World) (v : Verdict) → told_by (carried w v).effects ≡ []
@@ -232,16 +308,46 @@ pub tape_silent : (w : World) (command : TapeCommand) → told_by (tape_turn w c
 tape_silent w (Labeltape name pname offset slot) = label_silent w name pname (slot_of w.setting (after w.log).hosts offset slot)
 tape_silent w (Readlabel offset slot) = read_silent w (slot_of w.setting (after w.log).hosts offset slot)
 tape_silent w (Scantape dbadd offset) = scan_silent w dbadd (port_of w.setting.config (after w.log).hosts offset)
+tape_silent w (Savedb offset) = saved_silent w (port_of w.setting.config (after w.log).hosts offset)
+tape_silent w (Restoredb offset) = back_silent w (port_of w.setting.config (after w.log).hosts offset)
 
 pub dump_silent : (w : World) (command : DumpCommand) → told_by (dump_turn w command).effects ≡ []
 dump_silent w command = answer_silent (scene_of w) command
 
+pub group_alone_silent : (w : World) (command : GroupCommand) → told_by (group_alone w command).effects ≡ []
+group_alone_silent w (groups.Together schedule) = refl
+group_alone_silent w (groups.Kill job after) = refl
+group_alone_silent w groups.End = refl
+group_alone_silent w groups.Jobs = refl
+
+alone_silent : (w : World) (command : Command) → told_by (alone w command).effects ≡ []
+alone_silent w (commands.Database command) = carried_silent w (verdict (after w.log) command)
+alone_silent w (commands.Tape command) = tape_silent w command
+alone_silent w (commands.Cell command) = refl
+alone_silent w (commands.Dump command) = dump_silent w command
+alone_silent w (commands.Group command) = group_alone_silent w command
+alone_silent w (commands.Restore command) = refl
+
+group_in_silent : (w : World) (g : GroupView) (command : GroupCommand) → told_by (group_in w g command).effects ≡ []
+group_in_silent w g (groups.Together schedule) = refl
+group_in_silent w g (groups.Kill job after) = refl
+group_in_silent w g groups.End = group_silent (scene_of w) g
+group_in_silent w g groups.Jobs = refl
+
+pub in_group_silent : (w : World) (g : GroupView) (command : Command) → told_by (in_group w g command).effects ≡ []
+in_group_silent w g (commands.Database command) = refl
+in_group_silent w g (commands.Tape command) = refl
+in_group_silent w g (commands.Cell command) = refl
+in_group_silent w g (commands.Dump command) = refl
+in_group_silent w g (commands.Group command) = group_in_silent w g command
+in_group_silent w g (commands.Restore command) = refl
+
+in_silent : (w : World) (opened : Option GroupView) (command : Command) → told_by (done_in w opened command).effects ≡ []
+in_silent w None command = alone_silent w command
+in_silent w (Some g) command = in_group_silent w g command
+
 pub done_silent : (w : World) (command : Command) → told_by (done w command).effects ≡ []
-done_silent w (commands.Database command) = carried_silent w (verdict (after w.log) command)
-done_silent w (commands.Tape command) = tape_silent w command
-done_silent w (commands.Cell command) = refl
-done_silent w (commands.Dump command) = dump_silent w command
-done_silent w (commands.Restore command) = refl
+done_silent w command = in_silent w w.groups.open command
 
 pub turn_silent : (w : World) (now : ℕ) (command : Command) → told_by (turn w now command).effects ≡ []
 unfolding turn

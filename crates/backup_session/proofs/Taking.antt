@@ -45,6 +45,7 @@ still_fits P w old new session told fits done numbers stays = record {
   state = ahead_behind P [] old new w.state told fits.state (done_ahead P [] old new w.state fits.state done);
   slots = stays.slots ∙ fits.slots;
   present = λ k. ap (λ (p : ℕ → Bool). p k) stays.present ∙ fits.present k;
+  groups = fits.groups;
 }
 
 module _ {D : Type 0} (P : Plant D) (w : World) (old : D) (session : SessionView) (fits : FitsPlant P w old session) (size : (P.view old).log_size ≡ length (state_of P old).log) (slot : ℕ) (a : LabelFields) (c : Change) where
@@ -99,9 +100,9 @@ module _ {D : Type 0} (P : Plant D) (w : World) (old : D) (session : SessionView
         (leaves_both P (commits (encoded (c ∷ [])) ∷ []) (putting_label slot a) old mid new done first second)
 
     pub both_turned : (later : SessionView) (reply : ReplyView) → P.tells → DoneAhead P (putting_label slot a) mid new → Stays P old new
-        → Keeps (w.log ++ c ∷ []) (state_of P mid).log later.budb → later.time ≡ session.time → later.config ≡ session.config → reply.text ≡ labeled_lines a.afs a.permanent slot → TurnedPlant P w (labeled w slot a (c ∷ [])) old new later reply
+        → Keeps (w.log ++ c ∷ []) (state_of P mid).log later.budb → later.time ≡ session.time → later.config ≡ session.config → later.groups ≡ session.groups → reply.text ≡ labeled_lines a.afs a.permanent slot → TurnedPlant P w (labeled w slot a (c ∷ [])) old new later reply
     unfolding full_turn made_turn
-    both_turned later reply told second stays keeps time config text =
+    both_turned later reply told second stays keeps time config groups text =
         let first = done_ahead P (commits (encoded (c ∷ [])) ∷ []) old mid w.state fits.state done in
         let all = done_ahead_both P (commits (encoded (c ∷ [])) ∷ []) (putting_label slot a) old mid new first second in
         let here = ahead_behind P (commits (encoded (c ∷ [])) ∷ []) old mid w.state told fits.state first in
@@ -116,6 +117,7 @@ module _ {D : Type 0} (P : Plant D) (w : World) (old : D) (session : SessionView
             state = ahead_behind P (commits (encoded (c ∷ [])) ∷ putting_label slot a) old new w.state told fits.state all;
             slots = stays.slots ∙ fits.slots;
             present = λ k. ap (λ (p : ℕ → Bool). p k) stays.present ∙ fits.present k;
+            groups = groups ∙ fits.groups;
           };
           settles = λ whole. settled_label slot a (come (commits (encoded (c ∷ [])) ∷ []) w.state) (settled_commit (encoded (c ∷ [])) w.state whole);
         })

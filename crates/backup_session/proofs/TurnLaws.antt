@@ -1,6 +1,6 @@
 -- What a scan that adds dumps lists, in a world.
 use Rattle.std.proofs.Common.{◌≡◌, inl, inr, ℕ, ◌<◌, Bool, true, false, not, List, [], ◌∷◌, ◌++◌, length, map, refl, sym, ◌∙◌, ap, subst, arith}
-use Rattle.std.specs.Prelude.{All, Contains, nat_lt, nat_le, ◌==◌, ◌&&◌, if◌then◌else◌, Result, Ok}
+use Rattle.std.specs.Prelude.{All, Contains, nat_lt, nat_le, ◌==◌, ◌&&◌, if◌then◌else◌, Option, None, Result, Ok}
 use Rattle.std.specs.List.{list_all}
 use Rattle.std.proofs.lemmas.Bool.{or_from}
 use Rattle.std.proofs.lemmas.Bool.Decides.{nat_tests}
@@ -14,6 +14,7 @@ use Rattle.budb_changes.specs.Bytes.{encoded}
 use Rattle.budb_fold.specs.Database.{after, is_whole}
 use Rattle.budb_fold.proofs.Behind.{each_behind}
 use Rattle.budb_fold.proofs.FoldKeeps.{IsNextDump, fit_parts, kept_after}
+use Rattle.group_commands.specs.Groups.{GroupView}
 use Rattle.backup_words.specs.declared.command.Command.TheVariants.{Tape}
 use Rattle.backup_words.specs.declared.command.TapeCommand.TheVariants.{Scantape}
 use Rattle.tape_scan.specs.Slots.{Slot, Located}
@@ -24,7 +25,7 @@ use Rattle.tape_answers.specs.Assembling.{found_in}
 use Rattle.archive_model.specs.Archives.{Archive, listed_of, Holds}
 use Rattle.backup_session.specs.Worlds.{World, Turn, at_moment}
 use Rattle.backup_session.specs.Scanning.{port_of, slots_here, scans_of, has_wrong_parent, adding, slots_turn, scan_turn}
-use Rattle.backup_session.specs.Machine.{turn}
+use Rattle.backup_session.specs.Machine.{done_in, turn}
 use Rattle.backup_session.specs.Listing.{may_be_listed, found_changes, IsFullAt, ListsWhole}
 use Rattle.backup_session.specs.Again.{HasTheseTapes, IsHeldOn, IsListedBehind}
 use Rattle.backup_session.proofs.RecordForms.{found_id}
@@ -33,21 +34,21 @@ use Rattle.backup_session.proofs.ListingLaws.{Added, adding_lists, with_one}
 use Rattle.backup_session.proofs.AgainLaws.{OneReading, found_again}
 
 -- the journal behind the command
-log_is : (w : World) (now offset : ℕ) (port : PortFields) → port_of w.setting.config (after w.log).hosts offset ≡ Ok port
+log_is : (w : World) → w.groups.open ≡ None → (now offset : ℕ) (port : PortFields) → port_of w.setting.config (after w.log).hosts offset ≡ Ok port
     → (turn w now (Tape (Scantape true offset))).log ≡ (adding (at_moment w now) (found_in (scans_of w.state.tape (slots_here w.setting.present port))).whole).turn.log
 unfolding turn slots_turn
-log_is w now offset port is = ap (λ (r : Result PortFields (List ℕ)). (scan_turn (at_moment w now) true r).log) is
+log_is w none now offset port is = ap (λ (o : Option GroupView). (done_in (at_moment w now) o (Tape (Scantape true offset))).log) none ∙ ap (λ (r : Result PortFields (List ℕ)). (scan_turn (at_moment w now) true r).log) is
 
 some_ids : (slots : List Slot) (whole : List DumpRecordFields) → All (λ d. (parts : List Located) × IsChosen slots parts d) whole → All (λ d. 0 < d.id) whole
 some_ids slots whole each = All-weaker (λ (d : DumpRecordFields). (parts : List Located) × IsChosen slots parts d) (λ (d : DumpRecordFields). 0 < d.id) (λ d c. found_id slots c.0 d c.1.found) whole each
 
-pub scan_lists : (w : World) (now offset : ℕ) (port : PortFields) → port_of w.setting.config (after w.log).hosts offset ≡ Ok port → ListsWhole w (slots_here w.setting.present port) (turn w now (Tape (Scantape true offset)))
-scan_lists w now offset port is =
+pub scan_lists : (w : World) → w.groups.open ≡ None → (now offset : ℕ) (port : PortFields) → port_of w.setting.config (after w.log).hosts offset ≡ Ok port → ListsWhole w (slots_here w.setting.present port) (turn w now (Tape (Scantape true offset)))
+scan_lists w alone now offset port is =
     let slots = slots_here w.setting.present port in
     let scan = scanned_in w.setting.present w.state.tape slots in
     let whole = (found_in (scans_of w.state.tape slots)).whole in
     let added : Added (at_moment w now) whole (adding (at_moment w now) whole).turn.log = adding_lists (at_moment w now) whole (some_ids (map (slot_of w.setting.present w.state.tape) slots) whole scan.1.each) scan.1.ascending in
-    let log = log_is w now offset port is in
+    let log = log_is w alone now offset port is in
     record {
       whole = whole;
       left = scan.0;
@@ -80,11 +81,11 @@ full_at : (log : List Change) (listed more : List DumpRecordFields) (d : DumpRec
 full_at log listed [] d there full = absurd (omega (arith, there.1))
 full_at log listed (e ∷ more) d there full = (e, (0, omega arith, refl), full)
 
-pub listed_again : OneReading → (w : World) (now offset : ℕ) (port : PortFields) → port_of w.setting.config (after w.log).hosts offset ≡ Ok port → (after w.log).listed ≡ []
+pub listed_again : OneReading → (w : World) → w.groups.open ≡ None → (now offset : ℕ) (port : PortFields) → port_of w.setting.config (after w.log).hosts offset ≡ Ok port → (after w.log).listed ≡ []
     → (stock : Stock) (a : Archive) (records : List DumpRecordFields) → Holds stock a records → HasTheseTapes w stock a
     → (d : DumpRecordFields) → Contains (listed_of a) d → IsHeldOn d (slots_here w.setting.present port) a.slots → IsListedBehind w (slots_here w.setting.present port) (turn w now (Tape (Scantape true offset))) d
-listed_again reading w now offset port is none stock a records held these d there on =
-    let lists = scan_lists w now offset port is in
+listed_again reading w alone now offset port is none stock a records held these d there on =
+    let lists = scan_lists w alone now offset port is in
     let t : Turn = turn w now (Tape (Scantape true offset)) in
     let whole : Contains lists.whole d = found_again reading w stock a records held these port lists.whole lists.left lists.scanned d there on in
     let may : may_be_listed (after w.log).listed d ≡ true = ap (λ (l : List DumpRecordFields). may_be_listed l d) none ∙ ap not (right_parents a.log d there) in

@@ -14,7 +14,7 @@ use Rattle.backup_session.specs.Worlds.{World, Turn, before_reply}
 use Rattle.backup_session.specs.Restores.{restored}
 
 -- What stands there is this world: the log's bytes are those of the changes, the database is what they make, and time, configuration,
--- slots and the cell's list are the world's; so is the state, but that more may be settled of tapes.
+-- slots, groups and the cell's list are the world's; so is the state, but that more may be settled of tapes.
 pub record Stands {D E : Type 0} (P : Plant D) (C : Cell E) (w : World) (plant : D) (site : E) (session : SessionView) : Type 0 where
   pub keeps : Keeps w.log w.state.log session.budb
   pub time : session.time ≡ w.time
@@ -22,6 +22,7 @@ pub record Stands {D E : Type 0} (P : Plant D) (C : Cell E) (w : World) (plant :
   pub state : IsAhead w.state (state_of P plant)
   pub slots : (P.view plant).slots ≡ w.setting.slots
   pub present : (k : ℕ) → (P.view plant).present k ≡ w.setting.present k
+  pub groups : session.groups ≡ w.groups
   pub cell : C.list site ≡ w.cell
 
 -- A turn was done: its effects on the plant, but that more may be settled, and its reply is handed back; what is left is the world behind it,
@@ -54,6 +55,7 @@ pub record Fits {D E : Type 0} (P : Plant D) (C : Cell E) (w : World) (plant : D
   pub settled : IsSettled w.state
   pub slots : (P.view plant).slots ≡ w.setting.slots
   pub present : (k : ℕ) → (P.view plant).present k ≡ w.setting.present k
+  pub groups : session.groups ≡ w.groups
   pub cell : C.list site ≡ w.cell
 
 -- A turn was done there: exactly its effects, and all is settled behind it.
@@ -83,6 +85,12 @@ pub record FitsPlant {D : Type 0} (P : Plant D) (w : World) (plant : D) (session
   pub state : IsAhead w.state (state_of P plant)
   pub slots : (P.view plant).slots ≡ w.setting.slots
   pub present : (k : ℕ) → (P.view plant).present k ≡ w.setting.present k
+  pub groups : session.groups ≡ w.groups
+
+-- A turn was done that is one of the groups alone, and its reply is handed back: all else of the session stays.
+pub record OnGroups (t : Turn) (old new : SessionView) (reply : ReplyView) : Type 0 where
+  pub text : reply.text ≡ t.reply
+  pub session : new ≡ record old { groups = t.groups }
 
 -- The plant's part of a turn was done: its effects, with the reply handed back, and the plant's part of the world after it stands there.
 pub record TurnedPlant {D : Type 0} (P : Plant D) (w : World) (t : Turn) (old new : D) (session : SessionView) (reply : ReplyView) : Type 0 where

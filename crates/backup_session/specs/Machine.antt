@@ -1,16 +1,17 @@
 -- THE MACHINE: what a command makes of a world.
-use Rattle.std.specs.Prelude.{ℕ, List, [], ◌∷◌, ◌++◌, length, nat_lt, if◌then◌else◌}
+use Rattle.std.specs.Prelude.{ℕ, List, [], ◌∷◌, ◌++◌, length, nat_lt, if◌then◌else◌, Option, Some, None}
 use Rattle.plant_core.specs.Effects.{commits, replaces}
 use Rattle.budb_changes.specs.declared.change.Change.{Change}
 use Rattle.budb_changes.specs.Bytes.{encoded}
 use Rattle.budb_fold.specs.Database.{after}
 use Rattle.budb_fold.specs.Checkpoints.{checkpoint}
 use Rattle.backup_words.specs.declared.command.Command.{Command}
-use Rattle.backup_words.specs.declared.command.Command.TheVariants.{Database, Tape, Cell, Dump, Restore}
+use Rattle.backup_words.specs.declared.command.Command.TheVariants.{Database, Tape, Cell, Dump, Group, Restore}
 use Rattle.backup_replies.specs.declared.refusals.Refusal.TheVariants.{LogFull}
 use Rattle.backup_replies.specs.Texts.{refused_number, ok_line}
 use Rattle.backup_session.specs.declared.verdict.Verdict.{Verdict}
 use Rattle.backup_session.specs.declared.verdict.Verdict.TheVariants.{Refuses, Makes, Shortens, Shows}
+use Rattle.group_commands.specs.Groups.{GroupView}
 use Rattle.backup_session.specs.Cells.{CellAnswer, cell_answer}
 use Rattle.backup_session.specs.Verdicts.{verdict}
 use Rattle.backup_session.specs.Worlds.{World, Turn, at_moment}
@@ -18,6 +19,7 @@ use Rattle.backup_session.specs.Turns.{said, length_with}
 use Rattle.backup_session.specs.Tapes.{tape_turn}
 use Rattle.backup_session.specs.Restores.{archive_turn}
 use Rattle.backup_session.specs.Dumps.{dump_turn}
+use Rattle.backup_session.specs.Groups.{group_alone, in_group}
 
 -- changes are made by one commit
 abbrev pub committed : World → List Change → List ℕ → Turn
@@ -42,13 +44,23 @@ carried w Shortens = shortened w (checkpoint (after w.log))
 abbrev pub on_cell : World → CellAnswer → Turn
 on_cell w answer = record (said w answer.reply) { cells = answer.cells }
 
+-- A COMMAND outside of a group.
+abbrev pub alone : World → Command → Turn
+alone w (Database command) = carried w (verdict (after w.log) command)
+alone w (Tape command) = tape_turn w command
+alone w (Cell command) = on_cell w (cell_answer w.cell w.time command)
+alone w (Dump command) = dump_turn w command
+alone w (Group command) = group_alone w command
+alone w (Restore command) = archive_turn w command
+
+-- a command, by the group that is open
+abbrev pub done_in : World → Option GroupView → Command → Turn
+done_in w None command = alone w command
+done_in w (Some g) command = in_group w g command
+
 -- A COMMAND at the session's time.
 abbrev pub done : World → Command → Turn
-done w (Database command) = carried w (verdict (after w.log) command)
-done w (Tape command) = tape_turn w command
-done w (Cell command) = on_cell w (cell_answer w.cell w.time command)
-done w (Dump command) = dump_turn w command
-done w (Restore command) = archive_turn w command
+done w command = done_in w w.groups.open command
 
 -- ONE COMMAND at a moment of the clock.
 unfoldable pub turn : World → ℕ → Command → Turn

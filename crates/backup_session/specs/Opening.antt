@@ -1,5 +1,5 @@
 -- The world in which a session begins.
-use Rattle.std.specs.Prelude.{ℕ, max, List, Result, Ok, Err}
+use Rattle.std.specs.Prelude.{ℕ, max, List, [], None, Result, Ok, Err}
 use Rattle.std.specs.List.{fold}
 use Rattle.vnode_model.specs.declared.listed.EntryState.{EntryState}
 use Rattle.vnode_model.specs.declared.listed.EntryState.TheVariants.{Good, Bad}
@@ -18,6 +18,7 @@ use Rattle.plant_core.specs.Crashes.{State}
 use Rattle.backup_session.specs.declared.stops.OpenStop.{OpenStop}
 use Rattle.backup_session.specs.declared.stops.OpenStop.TheVariants as stop
 use Rattle.backup_session.specs.Worlds.{World, Setting, Contents}
+use Rattle.backup_session.specs.declared.groups.Groups.{Groups}
 
 -- the greatest of a time and the clone times of a listed dump
 abbrev pub with_clone : ℕ → VolRecordFields → ℕ
@@ -44,9 +45,13 @@ with_stored time stored = with_state time (state_of stored.image)
 abbrev pub first_time : List Change → List Stored → ℕ
 first_time log cell = fold with_stored (database_time (after log)) cell
 
--- the world of a log's changes, a cell's list, the contents of the dumps, and what stands in a plant
+-- no group is open, and none was ended
+abbrev pub no_groups : Groups
+no_groups = record { «open» = None; jobs = [] }
+
+-- the world of a log's changes, a cell's list, the contents of the dumps, and what stands in a plant, where no group is open
 abbrev pub opened : Setting → List Change → List Stored → Contents → State → World
-opened setting log cell contents state = record { setting = setting; log = log; time = first_time log cell; cell = cell; contents = contents; state = state }
+opened setting log cell contents state = record { setting = setting; log = log; time = first_time log cell; cell = cell; contents = contents; state = state; groups = no_groups }
 
 -- A database that keeps the log; where the log is no list of changes, the place at which it stops being one; unless the plant fails
 -- or memory runs out.

@@ -16,7 +16,7 @@ use Rattle.budb_changes.specs.Bytes.{encoded}
 use Rattle.budb_fold.specs.declared.database.HostPort.{HostPort}
 use Rattle.budb_fold.specs.Database.{after, has_port, is_initial}
 use Rattle.backup_words.specs.declared.command.TapeCommand.{TapeCommand}
-use Rattle.backup_words.specs.declared.command.TapeCommand.TheVariants.{Labeltape, Readlabel, Scantape}
+use Rattle.backup_words.specs.declared.command.TapeCommand.TheVariants.{Labeltape, Readlabel, Scantape, Savedb, Restoredb}
 use Rattle.backup_replies.specs.declared.refusals.Refusal.TheVariants.{BadValue, NoSuchPort, SlotEmpty, NoLabel, LogFull}
 use Rattle.backup_replies.specs.Texts.{refused_word, refused_number}
 use Rattle.backup_replies.specs.Labels.{labeled_lines, label_lines}
@@ -24,6 +24,7 @@ use Rattle.backup_session.specs.Worlds.{Setting, World, Turn}
 use Rattle.backup_session.specs.Turns.{said, length_with}
 use Rattle.backup_session.specs.Labels.{label_of}
 use Rattle.backup_session.specs.Scanning.{port_of, scan_turn}
+use Rattle.backup_session.specs.Saves.{saved_turn, back_turn}
 
 -- ---- where the tape is
 
@@ -94,6 +95,8 @@ abbrev pub tape_turn : World → TapeCommand → Turn
 tape_turn w (Labeltape name pname offset slot) = label_turn w name pname (slot_of w.setting (after w.log).hosts offset slot)
 tape_turn w (Readlabel offset slot) = read_turn w (slot_of w.setting (after w.log).hosts offset slot)
 tape_turn w (Scantape dbadd offset) = scan_turn w dbadd (port_of w.setting.config (after w.log).hosts offset)
+tape_turn w (Savedb offset) = saved_turn w (port_of w.setting.config (after w.log).hosts offset)
+tape_turn w (Restoredb offset) = back_turn w (port_of w.setting.config (after w.log).hosts offset)
 
 -- ---- inside the crate
 

@@ -16,7 +16,7 @@ use Rattle.budb_fold.specs.Database.{has_port, has_dump, is_initial}
 use Rattle.budb_fold.specs.Lookups.{record_of}
 use Rattle.budb.specs.Histories.{descending, ids_of, volume_history}
 use Rattle.backup_words.specs.declared.command.DatabaseCommand.{DatabaseCommand}
-use Rattle.backup_words.specs.declared.command.DatabaseCommand.TheVariants.{Addvolset, Delvolset, Addvolentry, Delvolentry, Listvolsets, Adddump, Setexp, Deldump, Listdumps, Addhost, Delhost, Listhosts, Checkpoint, Deletedump, Dumpinfo, Volinfo}
+use Rattle.backup_words.specs.declared.command.DatabaseCommand.TheVariants.{Addvolset, Delvolset, Addvolentry, Delvolentry, Listvolsets, Adddump, Setexp, Deldump, Listdumps, Addhost, Delhost, Listhosts, Checkpoint, Deletedump, Dumpinfo, Volinfo, Dbverify}
 use Rattle.backup_replies.specs.declared.refusals.Refusal.TheVariants.{SetExists, NoSuchSet, NoSuchEntry, LevelExists, NoSuchLevel, NoParentLevel, PortTaken, NoSuchPort, NoSuchDump, AppendedDump}
 use Rattle.backup_replies.specs.Texts.{refused_word, refused_number, refused_numbers, ok_line}
 use Rattle.backup_replies.specs.Hosts.{hosts_lines}
@@ -25,6 +25,7 @@ use Rattle.backup_replies.specs.Levels.{levels_lines}
 use Rattle.backup_replies.specs.Dumps.{whole_dump_lines, dumps_lines, history_lines, deleted_lines}
 use Rattle.backup_session.specs.declared.verdict.Verdict.{Verdict}
 use Rattle.backup_session.specs.declared.verdict.Verdict.TheVariants.{Refuses, Makes, Shortens, Shows}
+use Rattle.backup_session.specs.Verified.{verified_lines}
 use Rattle.backup_session.specs.Levels.{first_known, first_unfounded, first_missing}
 
 -- a tape host at this port
@@ -113,4 +114,5 @@ verdict db Listdumps = Shows (levels_lines db.levels)
 verdict db (Deletedump id) = dump_goes db.listed id (record_of db.listed id)
 verdict db (Dumpinfo count id) = told_dumps db.listed count id
 verdict db (Volinfo name) = Shows (history_lines db.listed name (volume_history db.listed name))
+verdict db Dbverify = Shows (verified_lines db.listed)
 verdict db Checkpoint = Shortens

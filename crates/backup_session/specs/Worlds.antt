@@ -8,6 +8,7 @@ use Rattle.budb_changes.specs.declared.change.Change.{Change}
 use Rattle.tape_config.specs.Configs.{Settings}
 use Rattle.tape_answers.specs.Slots.{slots_of}
 use Rattle.archive_model.specs.Archives.{Archive, Refusal}
+use Rattle.backup_session.specs.declared.groups.Groups.{Groups}
 
 -- What stays during a run: the configuration, how many slots there are, and which of them are here.
 pub record Setting : Type 0 where
@@ -19,8 +20,8 @@ pub record Setting : Type 0 where
 abbrev pub Contents : Type 0
 Contents = ℕ → List ℕ → Result VolumeFields Refusal
 
--- What a command finds: the changes of the journal, the session's time, the cell's list, the contents of the dumps, and the plant's state
--- (its log's bytes are those of the changes).
+-- What a command finds: the changes of the journal, the session's time, the cell's list, the contents of the dumps, the plant's state
+-- (its log's bytes are those of the changes), and the group that is open, with the dumps of the last one.
 pub record World : Type 0 where
   pub setting : Setting
   pub log : List Change
@@ -28,14 +29,15 @@ pub record World : Type 0 where
   pub cell : List Stored
   pub contents : Contents
   pub state : State
+  pub groups : Groups
 
 -- the archive of a world
 abbrev pub archive_of : World → Archive
 archive_of w = record { log = w.log; slots = slots_of w.setting.slots w.setting.present w.state.tape; contents = w.contents }
 
 -- What comes of a command: its effects on the plant but for the reply; the reply; the changes of the journal and the session's time after
--- it; the lists that the cell has on the way, after each change of it, none where it isn't changed; and what the dumps have behind it. Loading
--- a tape is no effect: by it more may be settled than they say, and nothing is where all was settled.
+-- it; the lists that the cell has on the way, after each change of it, none where it isn't changed; what the dumps have behind it; and the group
+-- that is open then, with the dumps of the last one. Loading a tape is no effect: by it more may be settled than they say, and nothing is where all was settled.
 pub record Turn : Type 0 where
   pub effects : List Effect
   pub reply : List ℕ
@@ -43,6 +45,7 @@ pub record Turn : Type 0 where
   pub time : ℕ
   pub cells : List (List Stored)
   pub contents : Contents
+  pub groups : Groups
 
 -- the last of these lists; this one where there is none
 abbrev pub last_cell : List Stored → List (List Stored) → List Stored
@@ -51,7 +54,7 @@ last_cell cell (c ∷ cs) = last_cell c cs
 
 -- the world when a command is done, and its reply isn't told yet
 abbrev pub before_reply : World → Turn → World
-before_reply w t = record w { log = t.log; time = t.time; cell = last_cell w.cell t.cells; contents = t.contents; state = come t.effects w.state }
+before_reply w t = record w { log = t.log; time = t.time; cell = last_cell w.cell t.cells; contents = t.contents; state = come t.effects w.state; groups = t.groups }
 
 -- a text is told
 abbrev pub with_told : World → List ℕ → World

@@ -19,7 +19,7 @@ use plant_core::Plant;
 use std::alloc::Global;
 
 /// What a dump stops for, as a session says it.
-fn stop_of(stop: DumpStop) -> Stop
+pub(crate) fn stop_of(stop: DumpStop) -> Stop
     ensures plant { result ≡ Stop.Plant → stop ≡ DumpStop.Plant }
     ensures only_plant { stop ≡ DumpStop.Plant → result ≡ Stop.Plant }
     ensures cell { result ≡ Stop.Cell → stop ≡ DumpStop.Cell }

@@ -329,6 +329,8 @@ impl Session {
             TapeCommand::Scantape { dbadd, portoffset } => {
                 self.scan(alloc, plant, *dbadd, *portoffset)
             }
+            TapeCommand::Savedb { portoffset } => self.save(alloc, plant, *portoffset),
+            TapeCommand::Restoredb { portoffset } => self.back(alloc, plant, *portoffset),
         }
     }
 }

@@ -1,6 +1,6 @@
 //! Laws on what a scan finds and lists, each the contract of a function without a body of its own.
 
-ghost use Rattle.std.specs.Prelude.{◌≡◌, ◌≤◌, [], ℕ, true, Some, Ok, List as AnyList, length, map, slice_get, Contains};
+ghost use Rattle.std.specs.Prelude.{◌≡◌, ◌≤◌, [], ℕ, true, Some, None, Ok, List as AnyList, length, map, slice_get, Contains};
 ghost use Rattle.plant_core.specs.Stock.{Stock};
 ghost use Rattle.tape_config.specs.declared.port.PortFields.{PortFields};
 ghost use Rattle.budb_changes.specs.declared.records.DumpRecordFields.{DumpRecordFields};
@@ -26,11 +26,11 @@ pub fn what_is_found_has_a_form()
     ensures { (slots : AnyList Slot) (parts : AnyList Located) (d : DumpRecordFields) → length slots ≤ 65535 → ((k : ℕ) (s : Slot) → slice_get slots k ≡ Some s → length s.items ≤ 4294967295) → IsFound slots parts d → IsDumpRecord d }
 {}
 
-/// `scantape -dbadd` on a port that has a tape host and a line in the configuration lists exactly the dumps that are whole over the
-/// coordinator's tapes that are here: those that aren't listed and whose parent isn't wrong, so far as the log has room. Over a database
-/// without listed dumps it passes by those with a wrong parent alone.
+/// Outside of a group `scantape -dbadd` on a port that has a tape host and a line in the configuration lists exactly the dumps that are
+/// whole over the coordinator's tapes that are here: those that aren't listed and whose parent isn't wrong, so far as the log has room.
+/// Over a database without listed dumps it passes by those with a wrong parent alone.
 pub fn a_scan_lists_what_is_whole()
-    ensures { (w : World) (now offset : ℕ) (port : PortFields) → port_of w.setting.config (after w.log).hosts offset ≡ Ok port → ListsWhole w (slots_here w.setting.present port) (turn w now (Tape (Scantape true offset))) }
+    ensures { (w : World) → w.groups.open ≡ None → (now offset : ℕ) (port : PortFields) → port_of w.setting.config (after w.log).hosts offset ≡ Ok port → ListsWhole w (slots_here w.setting.present port) (turn w now (Tape (Scantape true offset))) }
 {}
 
 /// Each dump that any archive with these tapes has listed, and whose tapes are all held in a coordinator's slots that are here, is among
@@ -46,10 +46,10 @@ pub fn recorded_dumps_are_found_again()
     one_reading();
 }
 
-/// Over a database without listed dumps `scantape -dbadd` lists each of these dumps again with its own record, unless the log has no room
-/// for the record of one that is found.
+/// Over a database without listed dumps `scantape -dbadd`, outside of a group, lists each of these dumps again with its own record, unless
+/// the log has no room for the record of one that is found.
 pub fn recorded_dumps_are_listed_again()
-    ensures { (w : World) (now offset : ℕ) (port : PortFields) → port_of w.setting.config (after w.log).hosts offset ≡ Ok port → (after w.log).listed ≡ []
+    ensures { (w : World) → w.groups.open ≡ None → (now offset : ℕ) (port : PortFields) → port_of w.setting.config (after w.log).hosts offset ≡ Ok port → (after w.log).listed ≡ []
         → (stock : Stock) (a : Archive) (records : AnyList DumpRecordFields) → Holds stock a records → HasTheseTapes w stock a
         → (d : DumpRecordFields) → Contains (listed_of a) d → IsHeldOn d (slots_here w.setting.present port) a.slots → IsListedBehind w (slots_here w.setting.present port) (turn w now (Tape (Scantape true offset))) d }
 {

@@ -48,7 +48,7 @@ pub(crate) fn with_clones(time: u32, dump: &DumpRecord) -> u32
 }
 
 /// The greatest of the greatest id and of all clone times of listed dumps.
-fn database_time(database: &Database) -> u32
+pub(crate) fn database_time(database: &Database) -> u32
     ensures { result ≡ database_time database.now }
 {
     let mut greatest = database.greatest;

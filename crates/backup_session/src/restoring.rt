@@ -1,16 +1,19 @@
 //! Restores: each volume is looked up in what the tapes hold, and put into the cell.
 
-ghost use Rattle.std.specs.Prelude.{◌≡◌, ◌≢◌, [], Err, IfOk, OnOk, OnErr};
+ghost use Rattle.std.specs.Prelude.{◌≡◌, ◌≢◌, ◌≤◌, ◌+◌, [], List as AnyList, Err, IfSome, IfOk, OnOk, OnErr};
 ghost use Rattle.crash_moments.specs.Moments.{HasCauseAt};
 ghost use Rattle.plant_effects.specs.Runs.{Leaves, StaysQuiet};
-ghost use Rattle.tape_scan.specs.Looking.{Loads, LeavesLoads};
+ghost use Rattle.tape_scan.specs.Slots.{Slot};
+ghost use Rattle.tape_scan.specs.Looking.{HasSlots, Loads, LeavesLoads};
 ghost use Rattle.archive_model.specs.Archives.{Archive};
 ghost use Rattle.dump_courses.specs.Ahead.{LeftAhead};
 ghost use Rattle.restore_commands.specs.Leaving.{IsArchiveOf, IsAnswer, OnTheWay};
 ghost use Rattle.backup_session.specs.Worlds.{World};
 ghost use Rattle.backup_session.specs.Held.{HoldsArchive};
 ghost use Rattle.budb_fold.specs.Database.{after};
+ghost use Rattle.budb_fold.specs.Chains.{HaveParentsBelow};
 ghost use Rattle.backup_session.specs.Restores.{manner_at, restore_answer, archive_turn, MayRestore};
+ghost use Rattle.backup_session.specs.Loading.{command_loads, restore_loads};
 
 use crate::reply::Reply;
 use crate::session::Session;
@@ -65,6 +68,7 @@ fn restored<P: Plant, C: Cell>(
     ensures done { result ≢ Err RestoreStop.Plant → Loads P.Plant plant.old plant.new }
     ensures leaves { LeavesLoads P.Plant plant.old plant.new }
     ensures stays { StaysQuiet P.Plant plant.old plant.new }
+    ensures loads { P.tells → HaveParentsBelow budb.now.database.listed → (slots : AnyList Slot) → HasSlots P.Plant slots plant.old → IfSome (command_loads slots budb.now.database command.now) (λ most. (P.view plant.new).loads ≤ (P.view plant.old).loads + most) }
     ensures cause { HasCauseAt RestoreStop.Plant (P.view plant.old).faults (P.view plant.new).faults result }
     ensures cell_cause { HasCauseAt RestoreStop.Cell (C.faults cell.old) (C.faults cell.new) result }
 {
@@ -97,6 +101,7 @@ impl Session {
         ensures leaves { P.tells → C.tells → (w : World) → Stands P.Plant C.Cell w plant.old cell.old self.now → Leaves P.Plant [] plant.old plant.new }
         ensures stopped { P.tells → C.tells → (w : World) → Stands P.Plant C.Cell w plant.old cell.old self.now → OnErr result (result ≢ Err Stop.Plant → LeftAhead P.Plant [] plant.old plant.new) }
         ensures cells { P.tells → C.tells → (w : World) → Stands P.Plant C.Cell w plant.old cell.old self.now → HoldsArchive w → OnTheWay w.cell (archive_turn w command.now).cells (C.list cell.new) }
+        ensures loads { P.tells → (w : World) → Stands P.Plant C.Cell w plant.old cell.old self.now → IfSome (restore_loads w command.now) (λ most. (P.view plant.new).loads ≤ (P.view plant.old).loads + most) }
         ensures stays { StaysQuiet P.Plant plant.old plant.new }
         ensures plant_cause { HasCauseAt Stop.Plant (P.view plant.old).faults (P.view plant.new).faults result }
         ensures cell_cause { HasCauseAt Stop.Cell (C.faults cell.old) (C.faults cell.new) result }

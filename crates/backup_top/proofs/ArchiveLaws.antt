@@ -13,6 +13,7 @@ use Rattle.backup_session.specs.Worlds.{World, Contents, archive_of}
 use Rattle.backup_session.specs.Bounded.{HasTapes}
 use Rattle.backup_session.specs.Held.{HoldsArchive}
 use Rattle.backup_script.specs.Scripts.{Outcome, script}
+use Rattle.script_journals.specs.Worlds.{HasGroupForm}
 use Rattle.session_archives.specs.Held.{HoldsWorld, HoldsAfter, HoldsOnTheWay, contents_on, HoldsImage}
 use Rattle.session_archives.specs.Ready.{IsReadyFor}
 use Rattle.session_archives.proofs.Images.{world_at_rest}
@@ -42,8 +43,8 @@ keeps_media hold c s back state whole held =
     record { world = held; media = hold c.world s.world.contents s.effects c.after whole left }
 
 -- media that hold the archive at the entry, where all is settled
-pub holds_world : (w : World) → HasTapes w → ((k : ℕ) → IsTrue (w.setting.present k) → k < w.setting.slots) → IsSettled w.state → HoldsArchive w → HoldsWorld w
-holds_world w has within settled held = world_at_rest w held.0 held.1 settled within has
+pub holds_world : (w : World) → HasTapes w → ((k : ℕ) → IsTrue (w.setting.present k) → k < w.setting.slots) → IsSettled w.state → HasGroupForm w.groups.open → HoldsArchive w → HoldsWorld w
+holds_world w has within settled group held = world_at_rest w held.0 held.1 settled within has group
 
 -- what is left is what a next run finds
 pub image_enters : (config later : Settings) (files : ℕ) (present : ℕ → Bool) (log : List Change) (cell next : List Stored) (before contents : Contents) (old image : Stock) (effects : List Effect)

@@ -47,10 +47,11 @@ use Rattle.backup_top.specs.declared.status.Status.{Status}
 use Rattle.backup_top.specs.declared.status.Status.TheVariants.{Done, SomeRefused, Usage, ReadFault, MediaFault, CellFault, Memory, BadConfig, BadLog, OutputFault, ScriptTooLong}
 use Rattle.backup_top.specs.Answers.{run_status, opening_status, config_status}
 use Rattle.backup_top.specs.Courses.{Course, FindsFit, FindsVolumes, contents_in, IsWithin, IsComplete, outcome, Leaves, LeavesShort, Runs, TellsLines, TakesBy, Journal, IsBadLog, RefusesJournal, IsRefusedAt, Reopens, LeftImage, LeavesImages, EndImage, EndsAt, RunsLines, HasCauseAs}
+use Rattle.script_journals.specs.Worlds.{HasGroupForm}
 use Rattle.script_journals.specs.Dumping.{IsFormedFor}
 use Rattle.session_archives.specs.Held.{HoldsWorld, HoldsAfter, KeepsListed, EachKeepsListed, RepliesSettle}
 use Rattle.session_archives.proofs.Replies.{settle_first}
-use Rattle.session_archives.specs.Ready.{IsFitWorld, IsReady, RestoresApartThroughout, at_first, IsReadyFor, IsFitFor, AreVolumesFor}
+use Rattle.session_archives.specs.Ready.{IsFitWorld, IsReady, RestoresApartThroughout, FitsBackThroughout, at_first, IsReadyFor, IsFitFor, AreVolumesFor}
 use Rattle.backup_top.proofs.Lowering.{alike_same, log_come, log_whole}
 use Rattle.backup_top.proofs.ArchiveLaws.{ScriptsKeep, ImagesHold, keeps_media}
 
@@ -58,7 +59,7 @@ use Rattle.backup_top.proofs.ArchiveLaws.{ScriptsKeep, ImagesHold, keeps_media}
 
 -- what is so of each world in which a session begins
 pub record OpenedForms : Type 0 where
-  pub lines : (w : World) (bytes : List ℕ) (these : List (List ℕ)) → config_of bytes ≡ Ok w.setting.config → HasTapes w → AreChanges w.log → IsCellForm w.cell → w.time ≡ first_time w.log w.cell → AreVolumesFor w these → IsFormedFor w these
+  pub lines : (w : World) (bytes : List ℕ) (these : List (List ℕ)) → config_of bytes ≡ Ok w.setting.config → HasTapes w → AreChanges w.log → IsCellForm w.cell → w.time ≡ first_time w.log w.cell → HasGroupForm w.groups.open → AreVolumesFor w these → IsFormedFor w these
   pub ready : (w : World) (bytes moments : List ℕ) (these : List (List ℕ)) → config_of bytes ≡ Ok w.setting.config → AreChanges w.log → IsCellForm w.cell → w.time ≡ first_time w.log w.cell → IsFitWorld (at_first w moments these) → IsReady (at_first w moments these)
   pub fit : (w : World) → IsReady w → IsFitWorld w
 
@@ -68,16 +69,16 @@ pub record HasForms (c : Course) : Type 0 where
   pub ready : (these : List (List ℕ)) → IsFitWorld (at_first c.world c.moments these) → IsReady (at_first c.world c.moments these)
 
 pub has_forms : OpenedForms → (c : Course) (bytes : List ℕ) → config_of bytes ≡ Ok c.world.setting.config → HasTapes c.world → AreChanges c.world.log → IsCell c.world.cell → All IsStoredForm c.world.cell → c.world.time ≡ first_time c.world.log c.world.cell
-    → HasForms c
-has_forms laws c bytes says has form cell allowed begins =
+    → HasGroupForm c.world.groups.open → HasForms c
+has_forms laws c bytes says has form cell allowed begins group =
     let cells : IsCellForm c.world.cell = record { list = cell; volumes = allowed } in
     record {
-      formed = λ these volumes. laws.lines c.world bytes these says has form cells begins volumes;
+      formed = λ these volumes. laws.lines c.world bytes these says has form cells begins group volumes;
       ready = λ these fit. laws.ready c.world bytes c.moments these says form cells begins fit;
     }
 
 pub ready_for : (c : Course) → HasForms c → (these : List (List ℕ)) → IsFitFor c.world c.moments these → IsReadyFor c.world c.moments these
-ready_for c forms these fit = λ asks. (let f = fit asks in (forms.ready these f.0, f.1))
+ready_for c forms these fit = record { dumps = λ asks. (let f = fit.dumps asks in (forms.ready these f.0, f.1)); back = fit.back }
 
 -- ---- what was done
 
@@ -102,7 +103,7 @@ absent_tape c effects rests archive stay k absent =
 pub leaves_media : (c : Course) (these : List (List ℕ)) (s : Outcome) (first last : State) → c.world.state ≡ first → c.world.state.log_settled ≡ length c.world.state.log → c.world.state.told ≡ c.before.told → AreAtRest c → c.after ≡ settled_part last
     → Alike (come s.effects first) last → Alike s.world.state last → AreChanges s.world.log → s.world.state.log ≡ encoded s.world.log → c.cell ≡ s.world.cell → c.left ≡ s.moments
     → AbsentStay c.world s.effects → ImagesHold → (HoldsWorld c.world → IsFitFor c.world c.moments these → HoldsAfter c.world s.world.contents s.effects) → (HoldsWorld c.world → IsFitFor c.world c.moments these → HoldsWorld s.world)
-    → (HoldsWorld c.world → IsFitWorld (at_first c.world c.moments these) → RestoresApartThroughout c.world c.moments these → IsFitWorld s.world) → Leaves c these s
+    → (HoldsWorld c.world → IsFitWorld (at_first c.world c.moments these) → RestoresApartThroughout c.world c.moments these → FitsBackThroughout c.world c.moments these → IsFitWorld s.world) → Leaves c these s
 leaves_media c these s first last rests settled told_at tapes_at back done state form log cell clock stay hold whole kept fit =
     let end : come s.effects c.world.state ≡ last = ap (come s.effects) rests ∙ alike_same (come s.effects first) last done in
     let archive : c.after ≡ settled_part (come s.effects c.world.state) = back ∙ ap settled_part (sym end) in

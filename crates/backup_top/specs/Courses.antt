@@ -25,7 +25,7 @@ use Rattle.backup_script.specs.Held.{IsHeldThroughout}
 use Rattle.backup_script.specs.Running.{Took, TookAll, TookToQuit, TookTooMany, TookToFault, AreBegun}
 use Rattle.dump_forms.specs.Journals.{IsJournalAfter}
 use Rattle.session_archives.specs.Held.{HoldsWorld, HoldsImage, contents_on, EachKeepsListed, RepliesSettle}
-use Rattle.session_archives.specs.Ready.{IsFitWorld, RestoresApartThroughout, at_first, IsFitFor, AreVolumesFor}
+use Rattle.session_archives.specs.Ready.{IsFitWorld, RestoresApartThroughout, FitsBackThroughout, at_first, IsFitFor, AreVolumesFor}
 use Rattle.backup_top.specs.Answers.{config_status}
 use Rattle.backup_top.specs.declared.status.Status.{Status}
 use Rattle.backup_top.specs.declared.status.Status.TheVariants.{Done, SomeRefused, Usage, ReadFault, MediaFault, CellFault, Memory, BadConfig, BadLog, OutputFault, ScriptTooLong}
@@ -99,7 +99,8 @@ course_of seen count present contents old entry new cell_old cell_new moments le
 abbrev pub FindsHeld : Course → Type 0
 FindsHeld c = IsHeldThroughout c.world c.moments (lines c.input)
 
--- a script that dumps finds a world that is fit for dumps at its first command; so it is of every script without a dump
+-- A script that dumps finds a world that is fit for dumps at its first command, and what one reads back of a saved database fits the media; so
+-- it is of every script that does neither.
 abbrev pub FindsFit : Course → Type 0
 FindsFit c = IsFitFor c.world c.moments (lines c.input)
 
@@ -123,8 +124,9 @@ pub record KeepsArchive (c : Course) (s : Outcome) : Type 0 where
 
 -- What is left where these lines were run, and this came of them. The journal and the tapes are those of the entry with these effects, so far
 -- as they are settled. The tapes in slots that aren't here are those of the entry. Where the media held the archive at the entry, and a script
--- that dumps found a world that is fit for it, they hold it at the exit. And a world that was fit at the first command is fit again, where no
--- volume was restored under a name that ends in `.backup`.
+-- that dumps found a world that is fit for it, and one that reads a saved database back one that fits the media, they hold it at the exit. And
+-- a world that was fit at the first command is fit again, where no volume was restored under a name that ends in `.backup`, and what was read
+-- back fits the media.
 pub record Leaves (c : Course) (these : List (List ℕ)) (s : Outcome) : Type 0 where
   pub told : c.after.told ≡ c.before.told ++ told_by s.effects
   pub archive : c.after ≡ settled_part (come s.effects c.world.state)
@@ -134,7 +136,7 @@ pub record Leaves (c : Course) (these : List (List ℕ)) (s : Outcome) : Type 0 
   pub cell : c.cell ≡ s.world.cell
   pub clock : c.left ≡ s.moments
   pub kept : HoldsWorld c.world → IsFitFor c.world c.moments these → KeepsArchive c s
-  pub fit : HoldsWorld c.world → IsFitWorld (at_first c.world c.moments these) → RestoresApartThroughout c.world c.moments these → IsFitWorld s.world
+  pub fit : HoldsWorld c.world → IsFitWorld (at_first c.world c.moments these) → RestoresApartThroughout c.world c.moments these → FitsBackThroughout c.world c.moments these → IsFitWorld s.world
 
 -- cut short by a read or the limit: the lines that were ended were run
 pub record LeavesShort (c : Course) : Type 0 where

@@ -205,9 +205,10 @@ pub fn run<M: Media, C: Cell, K: Clock, S: Source>(
     // Whatever stands on the media, a script that was run to its end is `SomeRefused` where a line that was told begins with `refused`, and
     // else `Done`.
     ensures told_lines { asked words.now.items ≡ Run → M.tells → C.tells → TellsLines (stock_of (M.seen media)).told (stock_of (M.seen result.1)).told result.0 }
-    // Each restore on a line that is run answers each volume by one look-up in the archive that it finds there, and each scan that adds dumps
-    // lists just those that are whole on the coordinator's tapes that are here, aren't listed and have no wrong parent, so far as the log has
-    // room; recorded dumps are among the whole ones. So are the turns of which `runs` speaks.
+    // Each restore on a line that is run outside of a group answers each volume by one look-up in the archive that it finds there, and each
+    // scan there that adds dumps lists just those that are whole on the coordinator's tapes that are here, aren't listed and have no wrong
+    // parent, so far as the log has room; recorded dumps are among the whole ones. In a group both are refused. So are the turns of which `runs`
+    // speaks.
     ensures restores { asked words.now.items ≡ Run → (entry : Entry config.now (stock_of (M.seen media))) → (contents : Contents)
         → let c = course_of M.seen M.count M.present contents media entry result.1 (C.list cell.old) (C.list cell.new) (K.moments clock.old) (K.moments clock.new) (S.left source.old) (S.left source.new) in
         RestoresLookUp c.world c.moments (lines c.input) }

@@ -1,9 +1,7 @@
 -- A DUMP, whatever it is told: it keeps the archive, and leaves one.
-use Rattle.std.proofs.Common.{◌≡◌, ◌⊎◌, ℕ, zero, suc, ◌+◌, ◌<◌, ◌≤◌, max, Bool, true, false, Option, Some, None, Ok, Err, List, [], ◌∷◌, ◌++◌, length, take, refl, sym, subst, arith, inl, inr}
-use Rattle.std.specs.Prelude.{Contains, Result, slice_get, ◌&&◌, if◌then◌else◌}
-use Rattle.std.specs.Option.{unwrap_or}
+use Rattle.std.proofs.Common.{◌≡◌, ◌⊎◌, ℕ, zero, suc, ◌+◌, ◌<◌, ◌≤◌, max, Bool, true, false, Option, Some, None, Ok, Err, List, [], ◌++◌, length, take, refl, sym, subst, arith, inl, inr}
+use Rattle.std.specs.Prelude.{Contains, Result, slice_get, if◌then◌else◌}
 use Rattle.std.proofs.lemmas.List.Elements.{All-weaker}
-use Rattle.bk_text.specs.Blanks.{is_same_text}
 use Rattle.byte_formats.specs.Forms.{IsFour}
 use Rattle.tape_frames.specs.declared.frame.Frame.TheVariants as frames
 use Rattle.tape_frames.specs.declared.dump_head.DumpHeadFields.{DumpHeadFields}
@@ -11,12 +9,8 @@ use Rattle.tape_config.specs.declared.port.PortFields.{PortFields}
 use Rattle.cell_core.specs.declared.stored.Stored.{Stored}
 use Rattle.cell_core.specs.declared.stored.Image.{Image}
 use Rattle.cell_core.specs.declared.stored.Image.TheVariants.{Good, Bad}
-use Rattle.cell_core.specs.Calls.{entry_of_stored}
 use Rattle.cell_core.specs.Fairness.{Fair, IsNotMadeAfter, NoneIsMadeAfter}
 use Rattle.cell_core.proofs.FairLaws.{fair_later}
-use Rattle.std.proofs.lemmas.List.{length-map}
-use Rattle.volume_sets.specs.Sets.{entries_under}
-use Rattle.dump_levels.specs.Elements.{paths_above}
 use Rattle.budb.proofs.FoldForms.{forms_after}
 use Rattle.budb_changes.specs.declared.records.DumpRecordFields.{DumpRecordFields}
 use Rattle.budb_changes.specs.declared.change.Change.{Change}
@@ -24,13 +18,11 @@ use Rattle.budb_changes.proofs.Logs.{same_changes}
 use Rattle.budb_changes.specs.Bytes.{encoded}
 use Rattle.budb_changes.specs.Forms.{AreChanges}
 use Rattle.budb_fold.specs.Database.{is_initial, without, after}
-use Rattle.budb_fold.specs.Lookups.{dumps_at, greatest_id, greatest_at, parent_at}
 use Rattle.plant_core.specs.Crashes.{seen_in, IsSettled}
 use Rattle.plant_core.specs.Effects.{come}
 use Rattle.tape_text.specs.Texts.{Tape}
 use Rattle.tape_text.specs.Items.{Says}
 use Rattle.tape_scan.specs.Slots.{Slot}
-use Rattle.tape_scan.proofs.ListLaws.{of_filter}
 use Rattle.tape_choice.specs.declared.places.Place.{Place}
 use Rattle.tape_choice.specs.declared.places.Appending.TheVariants.{Found}
 use Rattle.tape_choice.specs.Append.{appending}
@@ -61,61 +53,20 @@ use Rattle.dump_commands.specs.Forms.{IsCommandForm}
 use Rattle.dump_commands.specs.Orders.{asked_port, order_of}
 use Rattle.dump_commands.specs.Refusals.{refusal_by, fault_of, trial_refusal}
 use Rattle.dump_commands.specs.Trials.{trial_text}
-use Rattle.dump_commands.specs.Answers.{Contents, Answer, said, contents_with, begin_of, commit_of, begun_point, ended, begun, tape_for, begun_or, refused_or, real_answer, trial_answer, order_answer, port_answer, dump_answer}
+use Rattle.dump_commands.specs.Answers.{Contents, said, contents_with, begin_of, commit_of, begun_point, ended, begun, tape_for, begun_or, refused_or, real_answer, trial_answer, order_answer, port_answer, dump_answer}
 use Rattle.dump_commands.proofs.Passing.{Passes, passes}
-use Rattle.dump_commands.proofs.OrderForms.{order_form}
 use Rattle.dump_archives.specs.Asking.{archive_with, archive_in, AsksOfScene}
-use Rattle.dump_archives.specs.Keeping.{IsKnown, HeadsUpTo, KnowsIds, HoldsOnTheWay, EachKeepsListed, AsksBehind}
-use Rattle.dump_archives.proofs.Clones.{AreUp, expansion_up, expansion_within, good_places, HasGoodPlaces}
+use Rattle.dump_archives.specs.Keeping.{IsKnown, HeadsUpTo, KnowsIds, AsksBehind}
+use Rattle.dump_archives.proofs.Clones.{HasGoodPlaces}
 use Rattle.dump_archives.proofs.Contents.{free_contents, dumped_same, grown_other}
 use Rattle.dump_archives.proofs.Courses.{Underway, Left, course_done}
 use Rattle.dump_archives.proofs.Fairs.{fewer_fair}
 use Rattle.dump_archives.proofs.Growing.{greatest_begun}
 use Rattle.dump_archives.proofs.Heads.{StaysUpTo, stays_known, heads_raised}
-use Rattle.dump_archives.proofs.Keeping.{Keeps, keeps_then, keeps_so, kept_after}
+use Rattle.dump_archives.proofs.Keeping.{Keeps, keeps_then, keeps_so}
 use Rattle.dump_archives.proofs.Slots.{ReadOnce}
-use Rattle.dump_archives.proofs.Staying.{kept_step}
-
--- ---- an order's parent
-
-two_cases : (a b : ℕ) → (a ≤ b) ⊎ (b < a)
-two_cases zero b = inl (omega arith)
-two_cases (suc a) zero = inr (omega arith)
-two_cases (suc a) (suc b) = elim (two_cases a b) [
-  | inl le ↦ inl (omega (arith, le))
-  | inr lt ↦ inr (omega (arith, lt))
-]
-
--- a dump of this id is among these
-abbrev HasId : List DumpRecordFields → ℕ → Type 0
-HasId ds g = (p : DumpRecordFields) × Contains ds p × (p.id ≡ g)
-
-one_more_id : (d : DumpRecordFields) (ds : List DumpRecordFields) (g : ℕ) → HasId ds g → HasId (d ∷ ds) g
-one_more_id d ds g has = (has.0, (suc has.1.0, omega (arith, has.1.1), has.1.2), has.2)
-
-greater_there : (d : DumpRecordFields) (ds : List DumpRecordFields) (g n : ℕ) → HasId ds n → max d.id n ≡ g → HasId (d ∷ ds) g
-greater_there d ds g n has same = elim (two_cases d.id n) [
-  | inl le ↦ one_more_id d ds g (has.0, has.1, (let id = has.2 in omega (arith, le, same, id)))
-  | inr lt ↦ (d, (0, omega arith, refl), omega (arith, lt, same))
-]
-
-greatest_by : (d : DumpRecordFields) (ds : List DumpRecordFields) (g : ℕ) (o : Option ℕ) → ((n : ℕ) → o ≡ Some n → HasId ds n) → max d.id (unwrap_or o 0) ≡ g → HasId (d ∷ ds) g
-greatest_by d ds g None each same = (d, (0, omega arith, refl), omega (arith, same))
-greatest_by d ds g (Some n) each same = greater_there d ds g n (each n refl) same
-
-greatest_there : (ds : List DumpRecordFields) (g : ℕ) → greatest_id ds ≡ Some g → HasId ds g
-greatest_there [] g is = absurd (cc)
-greatest_there (d ∷ ds) g is = (let same : max d.id (unwrap_or (greatest_id ds) 0) ≡ g = cc in greatest_by d ds g (greatest_id ds) (λ n some. greatest_there ds n some) same)
-
-level_parent : (listed : List DumpRecordFields) (set level : List ℕ) (o : Option ℕ) (rest : ℕ) → greatest_at listed set level ≡ o → HasParent listed rest → HasParent listed (unwrap_or o rest)
-level_parent listed set level None rest is has = has
-level_parent listed set level (Some g) rest is has =
-    let p = greatest_there (dumps_at listed set level) g is in
-    inr (p.0, (of_filter (λ (d : DumpRecordFields). is_same_text d.set set && is_same_text d.level level) listed p.0 p.1).0, p.2)
-
-has_parent_at : (listed : List DumpRecordFields) (set : List ℕ) (levels : List (List ℕ)) → HasParent listed (parent_at listed set levels)
-has_parent_at listed set [] = inl refl
-has_parent_at listed set (level ∷ levels) = level_parent listed set level (greatest_at listed set level) (parent_at listed set levels) refl (has_parent_at listed set levels)
+use Rattle.dump_archives.proofs.Kept.{KeptBy}
+use Rattle.dump_archives.proofs.Orders.{two_cases, IsOrder, is_order, good_order}
 
 -- ---- a later time
 
@@ -123,13 +74,13 @@ image_later : (time now : ℕ) → time ≤ now → (image : Image) → IsNotMad
 image_later time now le (Good v) is = omega (arith, le, is)
 image_later time now le (Bad at) is = is
 
-made_later : (time now : ℕ) → time ≤ now → (cell : List Stored) → NoneIsMadeAfter time cell → NoneIsMadeAfter now cell
+pub made_later : (time now : ℕ) → time ≤ now → (cell : List Stored) → NoneIsMadeAfter time cell → NoneIsMadeAfter now cell
 made_later time now le cell none = All-weaker (λ (x : Stored). IsNotMadeAfter time x.image) (λ (x : Stored). IsNotMadeAfter now x.image) (λ x is. image_later time now le x.image is) cell none
 
 -- ---- ids that are known
 
 -- the dumps of a scene's archive are
-within_two : (id time greatest : ℕ) → id < max (greatest + 1) time → (id ≤ greatest) ⊎ (id < time)
+pub within_two : (id time greatest : ℕ) → id < max (greatest + 1) time → (id ≤ greatest) ⊎ (id < time)
 within_two id time greatest less = elim (two_cases id greatest) [
   | inl le ↦ inl le
   | inr lt ↦ inr (omega (arith, less, lt))
@@ -141,7 +92,7 @@ known_heads slots time greatest heads k x n h at is = elim (heads k x n h at is)
   | inr lt ↦ omega (arith, lt)
 ]
 
-known_dumps : (s : Scene) (contents : Contents) (records : List DumpRecordFields) → AsksOfScene s contents records → (d : DumpRecordFields) → Contains records d → IsKnown s.time (database_in s).greatest d
+pub known_dumps : (s : Scene) (contents : Contents) (records : List DumpRecordFields) → AsksOfScene s contents records → (d : DumpRecordFields) → Contains records d → IsKnown s.time (database_in s).greatest d
 known_dumps s contents records asks d there =
     within_two d.id s.time (database_in s).greatest
     (ids_below (seen_in s.state) (archive_in s contents) records (max ((database_in s).greatest + 1) s.time) asks.holds.seen (known_heads (slots_in s) s.time (database_in s).greatest asks.heads) (omega arith) d there)
@@ -322,14 +273,7 @@ module _ (once : ReadOnce) (s : Scene) (contents : Contents) (records : List Dum
 
 -- ---- whatever is answered
 
--- an answer keeps the archive with its contents, and behind it all that a dump asks is so again
-pub record KeptBy (s : Scene) (contents : Contents) (a : Answer) : Type 0 where
-  pub keeps : Keeps s.slots s.present (a.contents contents) (IsKnown a.time (after a.log).greatest) s.log s.state a.effects a.log
-  pub behind : AsksBehind s a (a.contents contents)
-  pub others : (d : DumpRecordFields) (name : List ℕ) → IsKnown s.time (database_in s).greatest d → a.contents contents d.id name ≡ contents d.id name
-  pub ids : (count : ℕ) (changes : List Change) → IsJournalAfter s.log (take count a.effects) changes → KnowsIds (archive_in s contents) → KnowsIds (archive_with s (a.contents contents) changes (come (take count a.effects) s.state).tape)
-
-said_ids : (s : Scene) (contents : Contents) (count : ℕ) (changes : List Change) → IsJournalAfter s.log (take count []) changes → KnowsIds (archive_in s contents) → KnowsIds (archive_with s contents changes (come (take count []) s.state).tape)
+pub said_ids : (s : Scene) (contents : Contents) (count : ℕ) (changes : List Change) → IsJournalAfter s.log (take count []) changes → KnowsIds (archive_in s contents) → KnowsIds (archive_with s contents changes (come (take count []) s.state).tape)
 said_ids s contents zero changes journal known = subst (λ (l : List Change). KnowsIds (archive_with s contents l s.state.tape)) (sym journal) known
 said_ids s contents (suc count) changes journal known = subst (λ (l : List Change). KnowsIds (archive_with s contents l s.state.tape)) (sym journal) known
 
@@ -342,18 +286,10 @@ said_kept s contents records asks text = record {
 }
 
 module _ (once : ReadOnce) (s : Scene) (contents : Contents) (records : List DumpRecordFields) (asks : AsksOfScene s contents records) where
-  -- the volumes of an order are good ones, in order
-  record IsOrder (o : DumpOrder) : Type 0 where
-    form : IsOrderForm o
-    time : o.time ≡ s.time
-    parent : HasParent (database_in s).listed o.parent
-    up : AreUp 0 o.volumes
-    within : (n p : ℕ) → slice_get o.volumes n ≡ Some p → p < length s.cell
-
-  by_tape : (o : DumpOrder) → IsOrder o → (f : Option JobFault) → Passes (entries_in s) o f → (r : Result FirstTape JobFault) → tape_for s o ≡ r → KeptBy s contents (begun_or s o r)
+  by_tape : (o : DumpOrder) → IsOrder s o → (f : Option JobFault) → Passes (entries_in s) o f → (r : Result FirstTape JobFault) → tape_for s o ≡ r → KeptBy s contents (begun_or s o r)
   unfolding begun
   by_tape o order f pass (Ok t) is =
-      let good : HasGoodPlaces s.cell o.volumes = record { up = order.up; good = good_places s.cell o.volumes pass.good order.within } in
+      let good : HasGoodPlaces s.cell o.volumes = good_order s o order pass.good in
       record {
         keeps = begun_known once s contents records asks o order.form order.time order.parent pass.some good t is;
         behind = begun_asks once s contents records asks o order.form order.time order.parent pass.some good t is;
@@ -362,7 +298,7 @@ module _ (once : ReadOnce) (s : Scene) (contents : Contents) (records : List Dum
       }
   by_tape o order f pass (Err fault) is = said_kept s contents records asks _
 
-  by_refusal : (o : DumpOrder) → IsOrder o → (r : Option (List ℕ)) → refusal_by (entries_in s) o (fault_of (tape_for s o)) ≡ r → KeptBy s contents (refused_or s r (begun_or s o (tape_for s o)))
+  by_refusal : (o : DumpOrder) → IsOrder s o → (r : Option (List ℕ)) → refusal_by (entries_in s) o (fault_of (tape_for s o)) ≡ r → KeptBy s contents (refused_or s r (begun_or s o (tape_for s o)))
   by_refusal o order (Some text) is = said_kept s contents records asks text
   by_refusal o order None is = by_tape o order (fault_of (tape_for s o)) (passes (entries_in s) o (fault_of (tape_for s o)) is) (tape_for s o) refl
 
@@ -370,46 +306,16 @@ module _ (once : ReadOnce) (s : Scene) (contents : Contents) (records : List Dum
   by_trial_refusal (Some line) text = said_kept s contents records asks line
   by_trial_refusal None text = said_kept s contents records asks text
 
-  by_trial : (o : DumpOrder) → IsOrder o → (trial : Bool) → KeptBy s contents (if trial then trial_answer s o else real_answer s o)
+  by_trial : (o : DumpOrder) → IsOrder s o → (trial : Bool) → KeptBy s contents (if trial then trial_answer s o else real_answer s o)
   unfolding real_answer
   by_trial o order true = by_trial_refusal (trial_refusal (entries_in s) o) (trial_text (database_in s).listed s.cell o)
   by_trial o order false = by_refusal o order (refusal_by (entries_in s) o (fault_of (tape_for s o))) refl
 
-  is_order : (a : DumpCommand) (port : PortFields) → IsCommandForm a → asked_port s.config (database_in s) a ≡ Ok port → IsOrder (order_of s.config (database_in s) (entries_in s) s.time a port)
-  is_order a port command is =
-      let db = database_in s in
-      let entries = entries_under a.set db.sets in
-      record {
-        form = order_form s a port asks.form command is;
-        time = refl;
-        parent = has_parent_at db.listed a.set (paths_above a.level);
-        up = expansion_up entries (entries_in s);
-        within = λ n p at. (let less = expansion_within entries (entries_in s) n p at in omega (arith, less, length-map s.cell entry_of_stored));
-      }
-
   by_port : (a : DumpCommand) → IsCommandForm a → (r : Result PortFields (List ℕ)) → asked_port s.config (database_in s) a ≡ r → KeptBy s contents (port_answer s a r)
   unfolding order_answer
   by_port a command (Err text) is = said_kept s contents records asks text
-  by_port a command (Ok port) is = by_trial (order_of s.config (database_in s) (entries_in s) s.time a port) (is_order a port command is) a.trial
+  by_port a command (Ok port) is = by_trial (order_of s.config (database_in s) (entries_in s) s.time a port) (is_order s asks.form a port command is) a.trial
 
   pub answer_kept : (a : DumpCommand) → IsCommandForm a → KeptBy s contents (dump_answer s a)
   unfolding dump_answer
   answer_kept a command = by_port a command (asked_port s.config (database_in s) a) refl
-
-  -- ---- on the way
-
-  pub on_the_way : (a : DumpCommand) → IsCommandForm a → HoldsOnTheWay s (dump_answer s a) contents
-  on_the_way a command count =
-      let x = kept_after s.slots s.present ((dump_answer s a).contents contents) (IsKnown (dump_answer s a).time (after (dump_answer s a).log).greatest) count (dump_answer s a).effects s.state s.log (dump_answer s a).log (answer_kept a command).keeps in
-      record { changes = x.0; journal = x.1; records = x.2.0; holds = x.2.1; known = x.2.2; ids = (answer_kept a command).ids count x.0 x.1 }
-
-  pub each_keeps_listed : (a : DumpCommand) → IsCommandForm a → EachKeepsListed s (dump_answer s a).effects
-  each_keeps_listed a command count e at =
-      let x = kept_step s.slots s.present ((dump_answer s a).contents contents) (IsKnown (dump_answer s a).time (after (dump_answer s a).log).greatest) count (dump_answer s a).effects s.state s.log (dump_answer s a).log (answer_kept a command).keeps e at in
-      record { changes = x.0; journal = x.1; still = x.2 }
-
-  pub asks_behind : (a : DumpCommand) → IsCommandForm a → AsksBehind s (dump_answer s a) ((dump_answer s a).contents contents)
-  asks_behind a command = (answer_kept a command).behind
-
-  pub known_contents : (a : DumpCommand) → IsCommandForm a → (d : DumpRecordFields) (name : List ℕ) → IsKnown s.time (database_in s).greatest d → (dump_answer s a).contents contents d.id name ≡ contents d.id name
-  known_contents a command = (answer_kept a command).others

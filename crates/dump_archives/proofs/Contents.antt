@@ -82,7 +82,7 @@ module _ (s : Scene) (o : DumpOrder) (contents : Contents) where
   pub grown_other : (id : ℕ) (name : List ℕ) → (id ≡ its_id → ⊥) → grown id name ≡ contents id name
   grown_other id name other = (let miss : (id == its_id) ≡ false = unequal id its_id other in rw miss refl)
 
-  grown_own : (name : List ℕ) → grown its_id name ≡ given_at s o contents name (contents its_id name) (place_of s.cell o.volumes name)
+  pub grown_own : (name : List ℕ) → grown its_id name ≡ given_at s o contents name (contents its_id name) (place_of s.cell o.volumes name)
   grown_own name = (let hit : (its_id == its_id) ≡ true = eq-eqb its_id its_id refl in rw hit refl)
 
   -- what a dump of these clones has of a name is what these contents have already

@@ -13,4 +13,6 @@ pub mod Ways
 pub mod Lasts
 pub mod Lengths
 pub mod Courses
+pub mod Orders
+pub mod Kept
 pub mod Answers

@@ -1,5 +1,5 @@
 -- A journal that is lost is made again by a scan of the tapes.
-use Rattle.std.proofs.Common.{◌≡◌, ℕ, zero, suc, ◌<◌, true, false, Some, Ok, List, [], ◌∷◌, ◌++◌, map, get_or, IsTrue, refl, sym, ap, subst, ◌∙◌}
+use Rattle.std.proofs.Common.{◌≡◌, ℕ, zero, suc, ◌<◌, true, false, Some, None, Ok, List, [], ◌∷◌, ◌++◌, map, get_or, IsTrue, refl, sym, ap, subst, ◌∙◌}
 use Rattle.std.specs.Prelude.{All, Contains, slice_get, not, ◌&&◌, ◌==◌, nat_le}
 use Rattle.std.specs.List.{list_all}
 use Rattle.std.proofs.lemmas.Bool.{and_parts, or_parts, leb-false}
@@ -32,7 +32,7 @@ use Rattle.lost_journals.proofs.Standing.{its_tapes, under_same}
 -- what scans list again, by the law
 abbrev pub ListsAgain : Type 0
 ListsAgain =
-    (w : World) (now offset : ℕ) (port : PortFields) → port_of w.setting.config (after w.log).hosts offset ≡ Ok port → (after w.log).listed ≡ []
+    (w : World) → w.groups.open ≡ None → (now offset : ℕ) (port : PortFields) → port_of w.setting.config (after w.log).hosts offset ≡ Ok port → (after w.log).listed ≡ []
     → (stock : Stock) (a : Archive) (records : List DumpRecordFields) → Holds stock a records → HasTheseTapes w stock a
     → (d : DumpRecordFields) → Contains (listed_of a) d → IsHeldOn d (slots_here w.setting.present port) a.slots → IsListedBehind w (slots_here w.setting.present port) (turn w now (Tape (Scantape true offset))) d
 
@@ -53,12 +53,13 @@ module _ (w v : World) (held : HoldsWorld w) (has : HasTapesAnywhere w v) where
     cell = v.cell;
     contents = v.contents;
     state = record { log = w.state.log; tape = v.state.tape; told = v.state.told; log_settled = w.state.log_settled; settled = v.state.settled };
+    groups = v.groups;
   }
 
   as_if_held : HoldsWorld as_if
   as_if_held =
       under_same w as_if held
-      (record { place = has.place; tapes = has.tapes; once = has.once; beyond = has.beyond; here = has.here; settled = record { log = held.settled.log; tapes = has.settled.tapes }; contents = has.contents }) refl refl
+      (record { place = has.place; tapes = has.tapes; once = has.once; beyond = has.beyond; here = has.here; alone = has.alone; settled = record { log = held.settled.log; tapes = has.settled.tapes }; contents = has.contents }) refl refl
 
   these : HasTheseTapes v (seen_in as_if.state) (archive_of as_if)
   these k here = (refl, (slot_of v.setting.present v.state.tape k, slot_there v.setting.present v.state.tape v.setting.slots k (has.here k here).0))
@@ -67,7 +68,7 @@ module _ (w v : World) (held : HoldsWorld w) (has : HasTapesAnywhere w v) where
     -- each dump that was listed, and whose tapes are here, is listed again
     pub listed_again : ListsAgain → (d : DumpRecordFields) → Contains (listed_of (archive_of w)) d → IsHeldOn d (slots_here v.setting.present port) (archive_of v).slots
         → IsListedBehind v (slots_here v.setting.present port) (turn v now (Tape (Scantape true offset))) d
-    listed_again again d there on = again v now offset port is none (seen_in as_if.state) (archive_of as_if) as_if_held.records as_if_held.holds.seen these d there on
+    listed_again again d there on = again v has.alone now offset port is none (seen_in as_if.state) (archive_of as_if) as_if_held.records as_if_held.holds.seen these d there on
 
     -- ---- what is listed was a dump
 

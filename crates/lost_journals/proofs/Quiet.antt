@@ -1,6 +1,6 @@
 -- A scan leaves the tapes, and what the dumps have, as they were.
 use Rattle.std.proofs.Common.{◌≡◌, ℕ, Bool, true, false, List, [], ◌∷◌, ◌++◌, refl, ap, ◌∙◌}
-use Rattle.std.specs.Prelude.{nat_lt, if◌then◌else◌, Result, Ok, Err}
+use Rattle.std.specs.Prelude.{nat_lt, if◌then◌else◌, Option, Some, None, Result, Ok, Err}
 use Rattle.std.specs.List.{fold, flat_map}
 use Rattle.plant_core.specs.Crashes.{State}
 use Rattle.plant_core.specs.Effects.{come}
@@ -19,7 +19,8 @@ use Rattle.backup_words.specs.declared.command.TapeCommand.TheVariants.{Scantape
 use Rattle.backup_session.specs.Worlds.{World, Turn, before_reply, at_moment}
 use Rattle.backup_session.specs.Turns.{said, length_with}
 use Rattle.backup_session.specs.Scanning.{stopped_line, left_line, port_of, slots_here, scans_of, has_wrong_parent, Step, says, recorded, added_if, then_turn, with_front, with_dump, adding, dumps_turn, then_said, tapes_turn, slots_turn, scan_turn}
-use Rattle.backup_session.specs.Machine.{turn}
+use Rattle.group_commands.specs.Groups.{GroupView}
+use Rattle.backup_session.specs.Machine.{done_in, turn}
 
 pub record IsQuiet (w : World) (t : Turn) : Type 0 where
   pub tape : (come t.effects w.state).tape ≡ w.state.tape
@@ -82,8 +83,12 @@ scan_quiet : (w : World) (dbadd : Bool) (port : Result PortFields (List ℕ)) �
 scan_quiet w dbadd (Err text) = said_quiet w text
 scan_quiet w dbadd (Ok port) = slots_quiet w dbadd (slots_here w.setting.present port)
 
+done_quiet : (w : World) (dbadd : Bool) (offset : ℕ) (o : Option GroupView) → IsQuiet w (done_in w o (Tape (Scantape dbadd offset)))
+done_quiet w dbadd offset None = scan_quiet w dbadd (port_of w.setting.config (after w.log).hosts offset)
+done_quiet w dbadd offset (Some g) = said_quiet w _
+
 pub turn_quiet : (w : World) (now : ℕ) (dbadd : Bool) (offset : ℕ) → IsQuiet w (turn w now (Tape (Scantape dbadd offset)))
 unfolding turn
 turn_quiet w now dbadd offset =
-    let s = scan_quiet (at_moment w now) dbadd (port_of w.setting.config (after w.log).hosts offset) in
+    let s = done_quiet (at_moment w now) dbadd offset w.groups.open in
     record { tape = s.tape; contents = s.contents }

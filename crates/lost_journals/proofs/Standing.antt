@@ -16,6 +16,7 @@ use Rattle.tape_answers.specs.Reading.{items_of}
 use Rattle.tape_answers.specs.Slots.{slot_of}
 use Rattle.backup_session.specs.Worlds.{World, archive_of}
 use Rattle.backup_session.specs.Bounded.{HasTapes}
+use Rattle.script_journals.specs.Worlds.{HasGroupForm}
 use Rattle.session_archives.specs.Held.{HoldsWorld}
 use Rattle.session_archives.proofs.Slots.{slot_there, slot_told}
 use Rattle.session_archives.proofs.Images.{world_at_rest}
@@ -49,6 +50,7 @@ in_place w v held has = record {
   once = λ j k some_j some_k same. same;
   beyond = λ k behind. bare k behind (has.tapes k);
   here = has.here;
+  alone = has.alone;
   settled = has.settled;
   contents = has.contents;
 }
@@ -130,7 +132,7 @@ module _ (w v : World) (held : HoldsWorld w) (has : HasTapesAnywhere w v) where
   pub under_any : AreChanges v.log → v.state.log ≡ encoded v.log → ListsDumpsOf (archive_of w) (archive_of v) → HoldsWorld v
   under_any changes log lists =
       let holds = alone_holds (seen_in w.state) (seen_in v.state) (archive_of w) (archive_of v) held.records held.holds.seen lists its_tapes has.contents changes (ap (λ (bytes : List ℕ). Some bytes) log) reads others in
-      world_at_rest v holds.0 holds.1 has.settled (λ k here. (has.here k here).0) bounded
+      world_at_rest v holds.0 holds.1 has.settled (λ k here. (has.here k here).0) bounded (subst HasGroupForm (sym has.alone) tt)
 
   -- it lists none
   pub under_no_dump : AreChanges v.log → v.state.log ≡ encoded v.log → (after v.log).listed ≡ [] → HoldsWorld v

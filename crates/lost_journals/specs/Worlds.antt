@@ -1,5 +1,5 @@
 -- TAPES THAT OUTLIVE THEIR JOURNAL, in terms of worlds.
-use Rattle.std.specs.Prelude.{◌≡◌, ◌⊎◌, ℕ, ◌<◌, ◌≤◌, [], IsTrue}
+use Rattle.std.specs.Prelude.{◌≡◌, ◌⊎◌, ℕ, ◌<◌, ◌≤◌, [], None, IsTrue}
 use Rattle.budb_changes.specs.Bytes.{encoded}
 use Rattle.budb_changes.specs.Forms.{AreChanges}
 use Rattle.budb_fold.specs.Database.{after}
@@ -8,11 +8,12 @@ use Rattle.backup_session.specs.Worlds.{World, archive_of}
 use Rattle.lost_journals.specs.Archives.{HasItsContents}
 
 -- A world stands on the tapes of another one: it has as many slots, and in each of them the other's tape or a blank one. Any of them may be
--- here or out. All is settled, and each dump of the other's archive has what it had there.
+-- here or out. No group is open, as where a session begins. All is settled, and each dump of the other's archive has what it had there.
 pub record HasTapesOf (w v : World) : Type 0 where
   pub slots : v.setting.slots ≡ w.setting.slots
   pub here : (k : ℕ) → IsTrue (v.setting.present k) → (k < v.setting.slots) × (k < 65535)
   pub tapes : (k : ℕ) → (v.state.tape k ≡ w.state.tape k) ⊎ (v.state.tape k ≡ [])
+  pub alone : v.groups.open ≡ None
   pub settled : IsSettled v.state
   pub contents : HasItsContents (archive_of w) (archive_of v)
 
@@ -24,6 +25,7 @@ pub record HasTapesAnywhere (w v : World) : Type 0 where
   pub once : (j k : ℕ) → (v.state.tape j ≡ [] → ⊥) → (v.state.tape k ≡ [] → ⊥) → place j ≡ place k → j ≡ k
   pub beyond : (k : ℕ) → v.setting.slots ≤ k → v.state.tape k ≡ []
   pub here : (k : ℕ) → IsTrue (v.setting.present k) → (k < v.setting.slots) × (k < 65535)
+  pub alone : v.groups.open ≡ None
   pub settled : IsSettled v.state
   pub contents : HasItsContents (archive_of w) (archive_of v)
 

@@ -1,5 +1,5 @@
 -- A dump begins beside others that run: they run on, and it is one of them.
-use Rattle.std.proofs.Common.{◌≡◌, ◌⊎◌, ℕ, zero, suc, ◌+◌, ◌<◌, ◌≤◌, Bool, true, false, not, Option, Some, None, List, [], ◌∷◌, ◌++◌, length, refl, sym, ap, subst, ◌∙◌, arith, inl, inr}
+use Rattle.std.proofs.Common.{◌≡◌, ℕ, ◌+◌, ◌<◌, ◌≤◌, Bool, true, false, not, Option, Some, None, List, [], ◌∷◌, ◌++◌, length, refl, sym, ap, subst, ◌∙◌, arith, inl, inr}
 use Rattle.std.specs.Prelude.{All, Contains, slice_get}
 use Rattle.cell_core.specs.Cells.{IsCell}
 use Rattle.cell_core.specs.Fairness.{NoneIsMadeAfter, NoSourceHasBackupName}
@@ -43,23 +43,10 @@ use Rattle.pool_laws.proofs.Fields.{chosen_among}
 use Rattle.pool_laws.proofs.Framing.{LeavesAlone, runs_on as runs_alone}
 use Rattle.pool_laws.specs.Underway.{IsGrown, IsUnderway, StandsAt, AllUnderway}
 use Rattle.pool_laws.proofs.Stepping.{while_running}
+use Rattle.group_commands.proofs.Jobs.{get_more, more_get}
 use Rattle.pool_laws.proofs.Pool.{put_with, put_own, put_other, beside_other}
 
 -- ---- a dump more
-
-get_more : (jobs : List PoolJob) (q : PoolJob) (k : ℕ) (r : PoolJob) → slice_get (jobs ++ q ∷ []) k ≡ Some r → ((k < length jobs) × (slice_get jobs k ≡ Some r)) ⊎ ((k ≡ length jobs) × (q ≡ r))
-get_more [] q zero r at = (let same : q ≡ r = cc in inr (refl, same))
-get_more [] q (suc k) r at = absurd (cc)
-get_more (x ∷ jobs) q zero r at = inl (omega arith, at)
-get_more (x ∷ jobs) q (suc k) r at = elim (get_more jobs q k r at) [
-  | inl old ↦ inl (omega (arith, old.0), old.1)
-  | inr new ↦ inr (omega (arith, new.0), new.1)
-]
-
-more_get : (jobs : List PoolJob) (q : PoolJob) (k : ℕ) (r : PoolJob) → slice_get jobs k ≡ Some r → slice_get (jobs ++ q ∷ []) k ≡ Some r
-more_get [] q k r at = absurd (cc)
-more_get (x ∷ jobs) q zero r at = at
-more_get (x ∷ jobs) q (suc k) r at = more_get jobs q k r at
 
 among_begun : (take : Option ℕ) (a : Archive) (records : List DumpRecordFields) (e : DumpRecordFields) → Contains (begun_records take a records) e → Contains records e
 among_begun None a records e there = there

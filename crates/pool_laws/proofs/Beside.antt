@@ -37,7 +37,7 @@ use Rattle.tape_config.specs.Ports.{IsAmong, AreApart}
 use Rattle.tape_config.proofs.PortLaws.{none_of_both}
 use Rattle.dump_job.specs.Elsewhere.{IsOnPort}
 use Rattle.pool_laws.specs.Beside.{IsBeside}
-use Rattle.pool_laws.proofs.Effects.{stays_elsewhere, event_on}
+use Rattle.group_commands.proofs.Effects.{stays_elsewhere, event_on}
 use Rattle.pool_laws.proofs.Slots.{here_get, closed_there, has_no, no_heads, in_front_or_more, uncut_get}
 use Rattle.pool_laws.proofs.Lists.{event_lists, dump_there}
 use Rattle.pool_laws.proofs.Framing.{ReadOnce, ended_among, LeavesAlone, runs_on}

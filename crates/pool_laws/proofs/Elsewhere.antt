@@ -16,7 +16,7 @@ use Rattle.job_pool.specs.declared.jobs.PoolJob.{PoolJob}
 use Rattle.job_pool.specs.declared.turn.Turn.{Turn}
 use Rattle.job_pool.specs.declared.turn.Turn.TheVariants.{Step, Kill}
 use Rattle.job_pool.specs.Pools.{PoolPoint, PoolEvent, point_of, settling_at, step_event, kill_event, unless_ended, step_at, kill_at, turn_event, behind}
-use Rattle.pool_laws.proofs.Effects.{event_on, stays_elsewhere}
+use Rattle.group_commands.proofs.Effects.{event_on, stays_elsewhere}
 
 -- a step leaves each tape that isn't of its port, and how much of it is settled
 pub step_elsewhere : (s : Scene) (p : PoolPoint) (n : ℕ) (q : PoolJob) → slice_get p.jobs n ≡ Some q → q.end ≡ None → IsOnPort q.job → (k : ℕ) → (IsAmong q.job.port k → ⊥)

@@ -36,7 +36,7 @@ use Rattle.dump_laws.proofs.DumpEnds.{others_told}
 use Rattle.tape_config.specs.Ports.{IsAmong, AreApart}
 use Rattle.dump_job.specs.Elsewhere.{IsOnPort}
 use Rattle.pool_laws.specs.Beside.{IsBeside}
-use Rattle.pool_laws.proofs.Effects.{stays_elsewhere, event_on}
+use Rattle.group_commands.proofs.Effects.{stays_elsewhere, event_on}
 use Rattle.pool_laws.proofs.Slots.{here_get, closed_there, has_no, no_heads, in_front_or_more, uncut_get}
 use Rattle.pool_laws.proofs.Lists.{event_lists, dump_there}
 use Rattle.pool_laws.proofs.Volumes.{volumes_so, goes_so, comes_so}

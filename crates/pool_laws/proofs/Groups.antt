@@ -27,7 +27,9 @@ use Rattle.job_pool.specs.PoolCourses.{scheduled, turns_left, pool_course}
 use Rattle.pool_laws.specs.Underway.{StandsAt, AllUnderway, KeepsAll, CourseKept}
 use Rattle.job_pool.specs.Schedules.{AllEnded}
 use Rattle.pool_laws.specs.Left.{ImageHolds}
-use Rattle.pool_laws.specs.Groups.{Start, id_in, start_in, start_event, started, group_course, MayStartIn, MayStart, MayAllStart, last_id}
+use Rattle.dump_commands.specs.Starts.{Start}
+use Rattle.group_commands.specs.Begins.{id_in, start_in, start_event, started, group_course}
+use Rattle.pool_laws.specs.Groups.{MayStartIn, MayStart, MayAllStart, last_id}
 use Rattle.pool_laws.proofs.Pool.{course_kept}
 use Rattle.job_pool.proofs.CourseLaws.{course_ends}
 use Rattle.pool_laws.proofs.Begins.{taken_underway}
@@ -42,7 +44,7 @@ holds_of s time top more grown log t a records known le st =
 module _ (once : ReadOnce) (s : Scene) (time : ℕ) (grown : Contents) (is_cell : IsCell s.cell) (stored : All IsStoredForm s.cell) (made : NoneIsMadeAfter time s.cell) (named : NoSourceHasBackupName s.cell) where
   -- ---- one begin
 
-  start_under : (top : ℕ) (p : PoolPoint) (b : Start) → AllUnderway s time top grown p → MayStart s time top grown p b → AllUnderway s time (id_in p.log b) grown (behind p (start_event p b))
+  pub start_under : (top : ℕ) (p : PoolPoint) (b : Start) → AllUnderway s time top grown p → MayStart s time top grown p b → AllUnderway s time (id_in p.log b) grown (behind p (start_event p b))
   start_under top p b u may =
       let m : MayStartIn s time top grown p.jobs b u.archive.log u.archive.slots =
       subst (λ (l : List Change). MayStartIn s time top grown p.jobs b l u.archive.slots) (sym u.stands.log_is)

@@ -1,4 +1,3 @@
-pub mod Effects
 pub mod Slots
 pub mod Heads
 pub mod Lists
@@ -6,7 +5,6 @@ pub mod Fields
 pub mod Volumes
 pub mod Framing
 pub mod Beside
-pub mod Settled
 pub mod Stepping
 pub mod Pool
 pub mod Begins

@@ -52,11 +52,12 @@ use Rattle.job_pool.specs.declared.turn.Turn.{Turn}
 use Rattle.job_pool.specs.declared.turn.Turn.TheVariants.{Step, Kill}
 use Rattle.job_pool.specs.Pools.{PoolPoint, PoolEvent, PoolCourse, point_of, with_job, nothing_done, end_by, stepped, killed, settling_at, step_event, kill_event, unless_ended, step_at, kill_at, turn_event, behind, interleaved}
 use Rattle.job_pool.proofs.Pooling.{with_get, get_with, get_own}
-use Rattle.pool_laws.proofs.Effects.{unequal, stays_elsewhere, event_on}
+use Rattle.group_commands.proofs.Effects.{unequal, stays_elsewhere, event_on}
 use Rattle.pool_laws.proofs.Fields.{Same, event_same}
 use Rattle.pool_laws.proofs.Beside.{runs_beside}
-use Rattle.pool_laws.specs.Underway.{IsUnderway, StandsAt, MayWait, IsFree, AllUnderway, KeepsAll, TurnKept, CourseKept}
-use Rattle.pool_laws.proofs.Settled.{own_settled, log_stays_settled}
+use Rattle.group_commands.specs.Settled.{MayWait, IsFree}
+use Rattle.pool_laws.specs.Underway.{IsUnderway, StandsAt, AllUnderway, KeepsAll, TurnKept, CourseKept}
+use Rattle.group_commands.proofs.Settled.{own_settled, log_stays_settled}
 use Rattle.pool_laws.proofs.Stepping.{kept, known_then, known_is, known_more, way_of, up_of, stands_then, finds, underway_then}
 
 -- ---- lists of dumps

@@ -1,16 +1,11 @@
--- A GROUP: dumps begin one after the other, and then they take turns. What is done is one list of effects.
+-- WHAT THE BEGINS OF A GROUP ASK of what they find.
 use Rattle.std.specs.Prelude.{◌≡◌, ◌<◌, ◌≤◌, ℕ, List, [], ◌∷◌, ◌++◌, Some, None, slice_get}
 use Rattle.budb_changes.specs.declared.change.Change.{Change}
-use Rattle.budb_changes.specs.Bytes.{encoded}
 use Rattle.budb_changes.specs.Forms.{AreChanges}
 use Rattle.budb_fold.specs.Database.{after}
-use Rattle.plant_core.specs.Effects.{commits}
 use Rattle.tape_scan.specs.Slots.{Slot}
 use Rattle.tape_answers.specs.Slots.{slots_of}
-use Rattle.dump_job.specs.declared.order.DumpOrder.{DumpOrder}
-use Rattle.dump_job.specs.declared.first_tapes.FirstTape.{FirstTape}
-use Rattle.dump_job.specs.declared.fields.JobFields.{JobFields}
-use Rattle.dump_job.specs.Beginning.{new_id, begin_changes, begun_job}
+use Rattle.dump_job.specs.Beginning.{begin_changes}
 use Rattle.dump_forms.specs.Forms.{HasForms}
 use Rattle.dump_laws.specs.Beginning.{HeadsAreBelow, HasParent, TakenBy}
 use Rattle.dump_courses.specs.Scenes.{Scene}
@@ -18,44 +13,10 @@ use Rattle.dump_commands.specs.Answers.{Contents}
 use Rattle.dump_archives.proofs.Clones.{HasGoodPlaces}
 use Rattle.tape_config.specs.Ports.{AreApart}
 use Rattle.job_pool.specs.declared.jobs.PoolJob.{PoolJob}
-use Rattle.job_pool.specs.Pools.{PoolPoint, PoolEvent, PoolCourse, behind}
-use Rattle.job_pool.specs.declared.turn.Kill.{Kill as PoolKill}
-use Rattle.job_pool.specs.PoolCourses.{pool_course}
+use Rattle.job_pool.specs.Pools.{PoolPoint, behind}
+use Rattle.dump_commands.specs.Starts.{Start}
+use Rattle.group_commands.specs.Begins.{id_in, job_in, start_event}
 use Rattle.pool_laws.specs.Underway.{IsGrown}
-
--- a dump that begins: its order, and the tape on which it does
-pub record Start : Type 0 where
-  pub order : DumpOrder
-  pub tape : FirstTape
-
-abbrev pub id_in : List Change → Start → ℕ
-id_in log b = new_id b.order.time (after log).greatest
-
-abbrev pub job_in : List Change → Start → JobFields
-job_in log b = begun_job b.order (after log).listed (id_in log b) b.tape
-
--- Its begin: one commit, and the dump is the last one, before its first step.
-abbrev pub start_in : List Change → PoolPoint → Start → PoolEvent
-start_in log p b = record {
-  effects = commits (encoded (begin_changes (id_in log b) b.tape.take)) ∷ [];
-  changes = begin_changes (id_in log b) b.tape.take;
-  jobs = p.jobs ++ record { job = job_in log b; steps = 0; end = None } ∷ [];
-}
-
-abbrev pub start_event : PoolPoint → Start → PoolEvent
-start_event p b = start_in p.log p b
-
--- begins, one after the other, and then the rest
-abbrev pub started : (PoolPoint → PoolCourse) → PoolPoint → List Start → PoolCourse
-started rest p [] = rest p
-started rest p (b ∷ starts) =
-    let e = start_event p b in
-    let more = started rest (behind p e) starts in
-    record { effects = e.effects ++ more.effects; log = more.log; jobs = more.jobs }
-
--- A GROUP: its begins, and its turns by a schedule.
-abbrev pub group_course : Scene → List PoolKill → ℕ → PoolPoint → List Start → PoolCourse
-group_course s kills x p starts = started (pool_course s kills x) p starts
 
 -- ---- what begins ask
 
@@ -74,6 +35,7 @@ pub record MayStartIn (s : Scene) (time top : ℕ) (grown : Contents) (jobs : Li
   pub is_grown : IsGrown s time grown (job_in log b)
   pub ports : (n : ℕ) (q : PoolJob) → slice_get jobs n ≡ Some q → AreApart q.job.port b.order.port
 
+-- a dump may begin beside those of the pool: it has what it asks of the journal and of the tapes as they are then
 abbrev pub MayStart : Scene → ℕ → ℕ → Contents → PoolPoint → Start → Type 0
 MayStart s time top grown p b = MayStartIn s time top grown p.jobs b p.log (slots_of s.slots s.present p.state.tape)
 

@@ -11,8 +11,6 @@ use Rattle.archive_model.specs.Archives.{Archive}
 use Rattle.archive_model.specs.Settled.{HoldsSettled}
 use Rattle.archive_model.specs.Sources.{dumped_by}
 use Rattle.dump_job.specs.declared.fields.JobFields.{JobFields}
-use Rattle.dump_job.specs.declared.fields.Phase.{Phase}
-use Rattle.dump_job.specs.declared.fields.Phase.TheVariants as phase
 use Rattle.dump_forms.specs.Forms.{HasForms}
 use Rattle.dump_laws.specs.Made.{Made}
 use Rattle.dump_laws.specs.Growing.{with_dump}
@@ -28,6 +26,7 @@ use Rattle.dump_job.specs.Elsewhere.{IsOnPort}
 use Rattle.pool_laws.specs.Beside.{IsBeside}
 use Rattle.job_pool.specs.declared.jobs.PoolJob.{PoolJob}
 use Rattle.job_pool.specs.Pools.{PoolPoint, PoolEvent, PoolCourse, behind}
+use Rattle.group_commands.specs.Settled.{IsRest}
 
 -- ---- one of the dumps
 
@@ -63,28 +62,6 @@ pub record StandsAt (s : Scene) (time top : ℕ) (grown : Contents) (log : List 
   pub fair : Fair s.cell (dumped_by grown known) time
   pub heads : HeadsUpTo top (slots_of s.slots s.present t.tape)
   pub short : (k : ℕ) → length (t.tape k) ≤ 4294967295
-
--- ---- what is settled
-
--- a dump in this phase has put records that may wait on the tape in hand
-abbrev pub MayWait : Phase → Type 0
-MayWait phase.Tape = ⊥
-MayWait phase.Clone = Unit {0}
-MayWait phase.Head = Unit {0}
-MayWait phase.Piece = Unit {0}
-MayWait phase.VolumeEnd = Unit {0}
-MayWait phase.PartEnd = Unit {0}
-MayWait phase.DumpEnd = Unit {0}
-MayWait phase.Over = ⊥
-
--- no dump that runs has put records on the tape of this slot that may wait
-abbrev pub IsFree : List PoolJob → ℕ → Type 0
-IsFree jobs c = (n : ℕ) (q : PoolJob) → slice_get jobs n ≡ Some q → q.end ≡ None → MayWait q.job.phase → q.job.reel.slot ≡ c → ⊥
-
--- all is settled but what such dumps have put on the tapes in hand
-pub record IsRest (jobs : List PoolJob) (t : State) : Type 0 where
-  pub log : t.log_settled ≡ length t.log
-  pub tapes : (c : ℕ) → IsFree jobs c → t.settled c ≡ length (t.tape c)
 
 -- ---- all of them
 

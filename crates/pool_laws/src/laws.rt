@@ -38,7 +38,9 @@ ghost use Rattle.pool_laws.specs.Underway.{IsGrown, AllUnderway, TurnKept, Cours
 ghost use Rattle.job_pool.specs.Schedules.{AllEnded};
 ghost use Rattle.pool_laws.specs.Left.{ImageHolds, LeftBehind};
 ghost use Rattle.pool_laws.specs.Grown.{HasGrown};
-ghost use Rattle.pool_laws.specs.Groups.{Start, group_course, MayAllStart, last_id};
+ghost use Rattle.dump_commands.specs.Starts.{Start};
+ghost use Rattle.group_commands.specs.Begins.{group_course};
+ghost use Rattle.pool_laws.specs.Groups.{MayAllStart, last_id};
 ghost use Rattle.job_pool.specs.declared.turn.Kill.{Kill as PoolKill};
 
 use tape_answers::a_tape_is_read;

@@ -13,7 +13,7 @@ use Rattle.bk_text.specs.Tests.{word_test, name_test, host_test, set_name_test, 
 use Rattle.budb_changes.specs.Printable.{IsPatternBytes}
 use Rattle.backup_words.specs.declared.command.Command.{Command}
 use Rattle.backup_words.specs.Forms.{ends_in_backup}
-use Rattle.backup_session.specs.Asks.{asks_dump}
+use Rattle.backup_session.specs.Asks.{asks_dump, asks_saved}
 use Rattle.backup_session.specs.Worlds.{World}
 use Rattle.command_forms.specs.Forms.{HasForms}
 use Rattle.command_forms.specs.NewNames.{IsApart, NamesApart}
@@ -34,11 +34,13 @@ pub record IsMade (command : Command) : Type 0 where
   pub forms : HasForms command
   pub named : NamesApart command
   pub restores : (w : World) → RestoresApart w command
+  pub no_saved : asks_saved command ≡ false
 
 -- a command of another one
 pub record IsRead (command : Command) : Type 0 where
   pub forms : HasForms command
   pub no_dump : asks_dump command ≡ false
+  pub no_saved : asks_saved command ≡ false
 
 -- ---- the names of the volumes, by a table
 
@@ -140,7 +142,7 @@ module _ (tests : Tests) where
   named k is = (tests.name (volume_name k)).0 (both_first (name_test (volume_name k)) (not (ends_in_backup (volume_name k))) is)
 
   writes : (k size : ℕ) → IsMade (writing k size)
-  writes k size = record { forms = (omega arith, tt); named = tt; restores = λ w. All-nil IsApart }
+  writes k size = record { forms = (omega arith, tt); named = tt; restores = λ w. All-nil IsApart; no_saved = refl }
 
   makes : (k : ℕ) → is_fine k ≡ true → All IsMade (making k)
   makes k is = All-from_recursion IsMade (making k) (
@@ -148,12 +150,13 @@ module _ (tests : Tests) where
       forms = ((tests.host server).0 server_fine, (tests.name partition).0 partition_fine, named k is);
       named = apart (volume_name k) (both_second (name_test (volume_name k)) (not (ends_in_backup (volume_name k))) is);
       restores = λ w. All-nil IsApart;
+      no_saved = refl;
     },
     (writes k (1000 * k), tt),
   )
 
   dumps : (level : List ℕ) → IsLevelPath level → All IsMade (dumping level ∷ [])
-  dumps level is = All-from_recursion IsMade (dumping level ∷ []) (record { forms = ((tests.set_name set_name).0 set_fine, is); named = tt; restores = λ w. All-nil IsApart }, tt)
+  dumps level is = All-from_recursion IsMade (dumping level ∷ []) (record { forms = ((tests.set_name set_name).0 set_fine, is); named = tt; restores = λ w. All-nil IsApart; no_saved = refl }, tt)
 
   four_levels : All IsLevelPath (full_level ∷ (first_level ∷ (second_level ∷ (third_level ∷ []))))
   four_levels =
@@ -162,12 +165,12 @@ module _ (tests : Tests) where
 
   adds : All IsMade adding
   adds = All-from_recursion IsMade adding (
-    record { forms = ((tests.host tape_host).0 host_fine, omega arith); named = tt; restores = λ w. All-nil IsApart },
+    record { forms = ((tests.host tape_host).0 host_fine, omega arith); named = tt; restores = λ w. All-nil IsApart; no_saved = refl },
     (
-      record { forms = (tests.set_name set_name).0 set_fine; named = tt; restores = λ w. All-nil IsApart },
+      record { forms = (tests.set_name set_name).0 set_fine; named = tt; restores = λ w. All-nil IsApart; no_saved = refl },
       (
-        record { forms = ((tests.set_name set_name).0 set_fine, tt, tt, pattern_fine); named = tt; restores = λ w. All-nil IsApart },
-        (record { forms = (four_levels, tt); named = tt; restores = λ w. All-nil IsApart }, tt),
+        record { forms = ((tests.set_name set_name).0 set_fine, tt, tt, pattern_fine); named = tt; restores = λ w. All-nil IsApart; no_saved = refl },
+        (record { forms = (four_levels, tt); named = tt; restores = λ w. All-nil IsApart; no_saved = refl }, tt),
       ),
     ),
   )
@@ -197,15 +200,15 @@ module _ (tests : Tests) where
   restores : (n : ℕ) → n ≤ 200 → All IsRead (map restoring (volumes n))
   restores n few =
       All-map IsRead restoring (volumes n)
-      (of_all (λ k. IsRead (restoring k)) (λ k is. record { forms = ((tests.host server).0 server_fine, (tests.name partition).0 partition_fine); no_dump = refl }) (volumes n) (volumes_fine n few))
+      (of_all (λ k. IsRead (restoring k)) (λ k is. record { forms = ((tests.host server).0 server_fine, (tests.name partition).0 partition_fine); no_dump = refl; no_saved = refl }) (volumes n) (volumes_fine n few))
 
   scans : (n : ℕ) → n ≤ 200 → All IsRead (scanning ∷ map restoring (volumes n))
-  scans n few = All-cons IsRead scanning (map restoring (volumes n)) (record { forms = tt; no_dump = refl }) (restores n few)
+  scans n few = All-cons IsRead scanning (map restoring (volumes n)) (record { forms = tt; no_dump = refl; no_saved = refl }) (restores n few)
 
   pub second_read : (n : ℕ) → n ≤ 200 → All AreRead (second_session n)
   second_read n few =
       All-cons AreRead (at 1000500 (hosting ∷ (scanning ∷ map restoring (volumes n)))) []
-      (All-cons IsRead hosting (scanning ∷ map restoring (volumes n)) (record { forms = ((tests.host tape_host).0 host_fine, omega arith); no_dump = refl }) (scans n few)) (All-nil AreRead)
+      (All-cons IsRead hosting (scanning ∷ map restoring (volumes n)) (record { forms = ((tests.host tape_host).0 host_fine, omega arith); no_dump = refl; no_saved = refl }) (scans n few)) (All-nil AreRead)
 
   pub third_read : (n : ℕ) → n ≤ 200 → All AreRead (third_session n)
   third_read n few = All-cons AreRead (at 1000600 (scanning ∷ map restoring (volumes n))) [] (scans n few) (All-nil AreRead)

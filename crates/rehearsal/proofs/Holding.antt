@@ -1,5 +1,6 @@
 -- Each restore of a rehearsal finds media that hold the archive of the dumps.
-use Rattle.std.proofs.Common.{◌≡◌, inl, inr, ℕ, ◌<◌, ◌≤◌, Bool, true, false, List, [], ◌∷◌, refl, sym, ◌∙◌, ap, arith, IsTrue, All}
+use Rattle.std.proofs.Common.{◌≡◌, ◌≢◌, inl, inr, ℕ, ◌<◌, ◌≤◌, Bool, true, false, List, [], ◌∷◌, refl, sym, ◌∙◌, ap, arith, IsTrue, All}
+use Rattle.std.proofs.lemmas.Bool.{eqb-true}
 use Rattle.std.proofs.lemmas.List.Elements.{All-nil, All-head, All-tail}
 use Rattle.std.specs.Prelude.{◌&&◌, ◌==◌, not, if◌then◌else◌, nat_lt, Some, None, Ok, Contains}
 use Rattle.vnode_model.specs.declared.volumes.VolumeFields.{VolumeFields}
@@ -8,6 +9,7 @@ use Rattle.byte_formats.specs.Forms.{IsFour, IsMaybe}
 use Rattle.tape_config.specs.declared.port.PortFields.{PortFields}
 use Rattle.tape_config.specs.declared.line.DeviceLine.{DeviceLine}
 use Rattle.tape_config.specs.Configs.{port_in, port_with, or_else, name_or_nothing}
+use Rattle.tape_config.specs.Ports.{AreApart}
 use Rattle.budb_changes.specs.declared.change.Change.{Change}
 use Rattle.budb_changes.specs.Bytes.{encoded}
 use Rattle.plant_core.specs.Crashes.{seen_in, IsSettled}
@@ -16,7 +18,7 @@ use Rattle.cell_core.specs.Fairness.{Fair, NoneIsMadeAfter, NoSourceHasBackupNam
 use Rattle.cell_forms.specs.Forms.{IsCellForm}
 use Rattle.cell_core.specs.Forms.{IsVolumeForm}
 use Rattle.backup_words.specs.declared.command.Command.{Command}
-use Rattle.backup_session.specs.Asks.{asks_archive, asks_dump}
+use Rattle.backup_session.specs.Asks.{asks_archive}
 use Rattle.backup_session.specs.Bounded.{HasTapes}
 use Rattle.backup_session.specs.Held.{HoldsArchive, HeldWhere, HeldFor}
 use Rattle.backup_session.specs.Machine.{turn}
@@ -24,7 +26,8 @@ use Rattle.backup_session.specs.Worlds.{World, Setting, after_turn, at_moment}
 use Rattle.command_forms.specs.Forms.{HasForms}
 use Rattle.command_forms.specs.NewNames.{NamesApart}
 use Rattle.session_archives.specs.Held.{HoldsWorld}
-use Rattle.session_archives.specs.Ready.{IsReady, RestoresApart, IsReadyForCommand}
+use Rattle.session_archives.specs.Ready.{IsReady, RestoresApart, FitsBackFor, IsReadyForCommand}
+use Rattle.session_archives.proofs.BackLines.{nothing_asked}
 use Rattle.session_archives.proofs.TurnLeads.{ready_later}
 use Rattle.rehearsal.specs.declared.batch.Batch.{Batch}
 use Rattle.rehearsal.specs.Commands.{first_session, second_session, third_session}
@@ -34,15 +37,16 @@ use Rattle.lost_journals.specs.Worlds.{HasTapesOf}
 use Rattle.rehearsal.proofs.Forms.{Tests, IsMade, IsRead, AreMade, AreRead, first_made, second_read, third_read}
 use Rattle.rehearsal.proofs.Worlds.{dumped_setting, scanned_setting}
 
--- the laws of the crates below
+-- the laws of the crates below; of blank worlds, what they say of the one in which a rehearsal begins
 pub record Laws : Type 0 where
   pub tests : Tests
   pub keep : (w : World) (now : ℕ) (command : Command) → HasForms command → HoldsWorld w → IsReadyForCommand (at_moment w now) command → HoldsWorld (after_turn w (turn w now command))
-  pub ready : (w : World) (now : ℕ) (command : Command) → HasForms command → NamesApart command → RestoresApart w command → HoldsWorld w → IsReady (at_moment w now) → IsReady (after_turn w (turn w now command))
-  pub blank : (w : World) → w.log ≡ [] → IsNothing (seen_in w.state) → IsSettled w.state → ((k : ℕ) → IsTrue (w.setting.present k) → k < w.setting.slots) → HasTapes w → HoldsWorld w
-  pub blank_ready : (w : World) → w.log ≡ [] → IsNothing (seen_in w.state) → IsCellForm w.cell → Fair w.cell [] w.time → NoneIsMadeAfter w.time w.cell → NoSourceHasBackupName w.cell → IsFour w.time
+  pub ready : (w : World) (now : ℕ) (command : Command) → HasForms command → NamesApart command → RestoresApart w command → FitsBackFor (at_moment w now) command → HoldsWorld w → IsReady (at_moment w now) → IsReady (after_turn w (turn w now command))
+  pub blank : IsNothing (seen_in blank_world.state) → IsSettled blank_world.state → ((k : ℕ) → IsTrue (blank_world.setting.present k) → k < blank_world.setting.slots) → HasTapes blank_world → HoldsWorld blank_world
+  pub blank_ready : let w = blank_world in IsNothing (seen_in w.state) → IsCellForm w.cell → Fair w.cell [] w.time → NoneIsMadeAfter w.time w.cell → NoSourceHasBackupName w.cell → IsFour w.time
       → ((id : ℕ) (name : List ℕ) (volume : VolumeFields) → w.contents id name ≡ Ok volume → IsVolumeForm volume) → IsMaybe IsHost (name_or_nothing w.setting.config.cell)
-      → ((offset : ℕ) (port : PortFields) → port_in offset w.setting.config.entries ≡ Some port → port.capacity ≤ 4000000000) → IsReady w
+      → ((offset : ℕ) (port : PortFields) → port_in offset w.setting.config.entries ≡ Some port → port.capacity ≤ 4000000000)
+      → ((one other : ℕ) (p q : PortFields) → one ≢ other → port_in one w.setting.config.entries ≡ Some p → port_in other w.setting.config.entries ≡ Some q → AreApart p q) → IsReady w
   pub none : (w v : World) → HoldsWorld w → HasTapesOf w v → v.log ≡ [] → v.state.log ≡ [] → HoldsWorld v
   pub same : (w v : World) → HoldsWorld w → HasTapesOf w v → v.log ≡ w.log → v.state.log ≡ w.state.log → HoldsWorld v
 
@@ -67,6 +71,7 @@ reopens w before present log is within = record {
   slots = sym (ap (λ (x : Setting). x.slots) is);
   here = λ k here. (within k here, omega (arith, within k here));
   tapes = λ k. inl refl;
+  alone = refl;
   settled = record { log = refl; tapes = λ k. refl };
   contents = λ d name there. refl;
 }
@@ -87,8 +92,8 @@ module _ (laws : Laws) where
 
   made_next : (s : Stage) (now : ℕ) (command : Command) → IsMade command → Ready s → Ready (then_turn s (turn s.world now command))
   made_next s now command made is = record {
-    held = laws.keep s.world now command made.forms is.held (λ asks. ready_later s.world now is.ready);
-    ready = laws.ready s.world now command made.forms made.named (made.restores s.world) is.held (ready_later s.world now is.ready);
+    held = laws.keep s.world now command made.forms is.held (record { ready = λ asks. ready_later s.world now is.ready; back = nothing_asked (at_moment s.world now) command made.no_saved });
+    ready = laws.ready s.world now command made.forms made.named (made.restores s.world) (nothing_asked (at_moment s.world now) command made.no_saved) is.held (ready_later s.world now is.ready);
   }
 
   made_given : (s : Stage) (now : ℕ) (commands : List Command) → All IsMade commands → Ready s → FindsHeld s now commands × Ready (given s now commands)
@@ -108,14 +113,17 @@ module _ (laws : Laws) where
 
   -- ---- the others: no command dumps
 
-  dumps_not : (command : Command) (w : World) → asks_dump command ≡ false → IsReadyForCommand w command
-  dumps_not command w none asks = absurd (let e : true ≡ false = sym asks ∙ none in cc)
+  dumps_not : (command : Command) (w : World) → IsRead command → IsReadyForCommand w command
+  dumps_not command w read = record {
+    ready = λ asks. absurd (let e : true ≡ false = sym asks ∙ read.no_dump in cc);
+    back = nothing_asked w command read.no_saved;
+  }
 
   read_given : (s : Stage) (now : ℕ) (commands : List Command) → All IsRead commands → HoldsWorld s.world → FindsHeld s now commands × HoldsWorld (given s now commands).world
   unfolding given FindsHeld
   read_given s now [] read held = (tt, held)
   read_given s now (c ∷ cs) read held =
-      let rest = read_given (then_turn s (turn s.world now c)) now cs (All-tail IsRead c cs read) (laws.keep s.world now c (All-head IsRead c cs read).forms held (dumps_not c (at_moment s.world now) (All-head IsRead c cs read).no_dump)) in
+      let rest = read_given (then_turn s (turn s.world now c)) now cs (All-tail IsRead c cs read) (laws.keep s.world now c (All-head IsRead c cs read).forms held (dumps_not c (at_moment s.world now) (All-head IsRead c cs read))) in
       ((finds s.world now c held, rest.0), rest.1)
 
   read_played : (s : Stage) (batches : List Batch) → All (AreRead laws.tests) batches → HoldsWorld s.world → AllFindHeld s batches × HoldsWorld (played s batches).world
@@ -148,6 +156,17 @@ module _ (laws : Laws) where
   no_port : (offset : ℕ) (port : PortFields) → port_in offset blank_world.setting.config.entries ≡ Some port → port.capacity ≤ 4000000000
   no_port offset port is = port_within offset port (0 == offset) is
 
+  -- it has one port alone
+  first_port : (offset : ℕ) (port : PortFields) (b : Bool) → port_with offset true (or_else (if b then Some one_device else None) None) ≡ Some port → b ≡ true
+  first_port offset port true is = refl
+  first_port offset port false is = absurd cc
+
+  one_port : (offset : ℕ) (port : PortFields) → port_in offset blank_world.setting.config.entries ≡ Some port → 0 ≡ offset
+  one_port offset port is = eqb-true 0 offset (first_port offset port (0 == offset) is)
+
+  ports_apart : (one other : ℕ) (p q : PortFields) → one ≢ other → port_in one blank_world.setting.config.entries ≡ Some p → port_in other blank_world.setting.config.entries ≡ Some q → AreApart p q
+  ports_apart one other p q differ is also = absurd (differ (sym (one_port one p is) ∙ one_port other q also))
+
   no_cell : IsCellForm []
   no_cell = record { list = record { few = omega arith; ordered = λ i j d lt below. absurd (omega (arith, below)); images = All-nil _ }; volumes = All-nil _ }
 
@@ -161,11 +180,11 @@ module _ (laws : Laws) where
   }
 
   blank_held : HoldsWorld blank_world
-  blank_held = laws.blank blank_world refl (record { log = refl; tapes = λ k. refl; told = refl }) (record { log = refl; tapes = λ k. refl }) here_within
+  blank_held = laws.blank (record { log = refl; tapes = λ k. refl; told = refl }) (record { log = refl; tapes = λ k. refl }) here_within
       (record { slots = λ k here. omega (arith, here_within k here); records = λ k. omega arith })
 
   blank_is_ready : IsReady blank_world
-  blank_is_ready = laws.blank_ready blank_world refl (record { log = refl; tapes = λ k. refl; told = refl }) no_cell no_fair (All-nil _) (All-nil _) (omega arith) (λ id name volume is. absurd cc) (inr refl) no_port
+  blank_is_ready = laws.blank_ready (record { log = refl; tapes = λ k. refl; told = refl }) no_cell no_fair (All-nil _) (All-nil _) (omega arith) (λ id name volume is. absurd cc) (inr refl) no_port ports_apart
 
   -- ---- the three sessions
 

@@ -17,7 +17,7 @@ use Rattle.budb_changes.specs.Forms.{AreChanges}
 use Rattle.budb_changes.proofs.Logs.{same_changes}
 use Rattle.backup_session.specs.Worlds.{World, Setting, Contents}
 use Rattle.backup_session.specs.Views.{SessionView}
-use Rattle.backup_session.specs.Opening.{opened, first_time}
+use Rattle.backup_session.specs.Opening.{opened, no_groups, first_time}
 use Rattle.backup_session.specs.Fitting.{Fits, Stands as StandsThere}
 use Rattle.backup_session.proofs.Settling.{stands_fit}
 use Rattle.rehearsal.specs.Playing.{StandsOn}
@@ -51,23 +51,23 @@ alike_seen s t settled_s settled_t log tape told = record {
 -- ---- a plant
 
 world_same : (w : World) (config : Settings) (slots : ℕ) (here : ℕ → Bool) (cell : List Stored) (shown : State) → config ≡ w.setting.config → slots ≡ w.setting.slots → ((k : ℕ) → here k ≡ w.setting.present k) → cell ≡ w.cell
-    → w.time ≡ first_time w.log w.cell → w.state ≡ shown → opened (record { config = config; slots = slots; present = here }) w.log cell w.contents shown ≡ w
-world_same w config slots here cell shown config_is slots_is here_is cell_is time_is state_is =
+    → w.time ≡ first_time w.log w.cell → w.groups ≡ no_groups → w.state ≡ shown → opened (record { config = config; slots = slots; present = here }) w.log cell w.contents shown ≡ w
+world_same w config slots here cell shown config_is slots_is here_is cell_is time_is groups_is state_is =
     let time : first_time w.log cell ≡ w.time = ap (first_time w.log) cell_is ∙ sym time_is in
-    λ i. record w { setting = record { config = config_is i; slots = slots_is i; present = λ k. here_is k i }; time = time i; cell = cell_is i; state = sym state_is i }
+    λ i. record w { setting = record { config = config_is i; slots = slots_is i; present = λ k. here_is k i }; time = time i; cell = cell_is i; state = sym state_is i; groups = sym groups_is i }
 
 module _ {D E : Type 0} (P : Plant D) (C : Cell E) where
   -- the session that is opened fits the world
-  pub opened_stands : (w : World) (config : Settings) (old new : D) (site site2 : E) (session : SessionView) → StandsOn P C w old site → config ≡ w.setting.config → w.time ≡ first_time w.log w.cell
+  pub opened_stands : (w : World) (config : Settings) (old new : D) (site site2 : E) (session : SessionView) → StandsOn P C w old site → config ≡ w.setting.config → w.time ≡ first_time w.log w.cell → w.groups ≡ no_groups
       → (log : List Change) → AreChanges log → (state_of P old).log ≡ encoded log
       → ((contents : Contents) → StandsThere P C (opened (record { config = config; slots = (P.view old).slots; present = (P.view old).present }) log (C.list site) contents (state_of P old)) new site2 session)
       → Fits P C w new site2 session
-  opened_stands w config old new site site2 session stands config_is time_is log form is opens =
+  opened_stands w config old new site site2 session stands config_is time_is groups_is log form is opens =
       let state = alike_same w.state (state_of P old) stands.state in
       let same : log ≡ w.log = same_changes log w.log form stands.form (sym is ∙ stands.state.log ∙ stands.journal) in
       let setting : Setting = record { config = config; slots = (P.view old).slots; present = (P.view old).present } in
       let fits = stands_fit P C (opened setting log (C.list site) w.contents (state_of P old)) new site2 session (subst IsSettled state stands.settled) (opens w.contents) in
-      let there = world_same w config (P.view old).slots (P.view old).present (C.list site) (state_of P old) config_is stands.slots stands.present stands.cell time_is state in
+      let there = world_same w config (P.view old).slots (P.view old).present (C.list site) (state_of P old) config_is stands.slots stands.present stands.cell time_is groups_is state in
       subst (λ (x : World). Fits P C x new site2 session) there
       (subst (λ (l : List Change). Fits P C (opened (record { config = config; slots = (P.view old).slots; present = (P.view old).present }) l (C.list site) w.contents (state_of P old)) new site2 session) same fits)
 

@@ -42,15 +42,15 @@ scanned_setting n = played_setting (start (lost n)) (second_session n)
 -- ---- where each session begins
 
 pub blank_begins : Begins blank_world
-blank_begins = record { config = refl; time = refl }
+blank_begins = record { config = refl; time = refl; groups = refl }
 
 pub lost_begins : (n : ℕ) → Begins (lost n)
 unfolding lost
-lost_begins n = record { config = refl; time = refl }
+lost_begins n = record { config = refl; time = refl; groups = refl }
 
 pub put_back_begins : (n : ℕ) → Begins (put_back n)
 unfolding put_back
-put_back_begins n = record { config = refl; time = refl }
+put_back_begins n = record { config = refl; time = refl; groups = refl }
 
 -- ---- media in these worlds
 

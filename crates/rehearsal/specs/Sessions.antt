@@ -11,7 +11,7 @@ use Rattle.tape_config.specs.declared.line.Entry.TheVariants.{Device}
 use Rattle.tape_config.specs.Configs.{Settings}
 use Rattle.archive_model.specs.Archives.{NoDump}
 use Rattle.backup_session.specs.Worlds.{World, Setting, Contents}
-use Rattle.backup_session.specs.Opening.{opened, first_time}
+use Rattle.backup_session.specs.Opening.{opened, no_groups, first_time}
 use Rattle.rehearsal.specs.Commands.{first_session, second_session, third_session}
 use Rattle.rehearsal.specs.Playing.{Stage, played}
 
@@ -79,10 +79,11 @@ restored n = played (start (put_back n)) (third_session n)
 
 -- ---- inside the crate: media and a cell in a world
 
--- a session begins in a world: with these settings, at the time that an opening finds
+-- a session begins in a world: with these settings, at the time that an opening finds, and no group is open
 pub record Begins (w : World) : Type 0 where
   pub config : w.setting.config ≡ settings
   pub time : w.time ≡ first_time w.log w.cell
+  pub groups : w.groups ≡ no_groups
 
 -- the files are those of a world, as between two sessions, and so is the cell's list
 pub record Stands (w : World) (image : Image) (list : List Stored) : Type 0 where

@@ -4,7 +4,7 @@ ghost use Rattle.std.specs.Prelude.{◌≡◌, OnOk, IfOk};
 ghost use Rattle.backup_session.specs.Worlds.{World, at_moment};
 ghost use Rattle.backup_session.specs.Machine.{turn};
 ghost use Rattle.backup_session.specs.Held.{HeldFor};
-ghost use Rattle.backup_session.specs.Opening.{first_time};
+ghost use Rattle.backup_session.specs.Opening.{no_groups, first_time};
 ghost use Rattle.rehearsal.specs.Playing.{Stage, then_turn, given, played, FindsHeld, AllFindHeld, Reached, StandsOn};
 ghost use Rattle.rehearsal.specs.Sessions.{settings, start, Begins, Stands, HasFiles};
 
@@ -106,9 +106,9 @@ fn play_on<P: Plant, C: Cell>(
 ) -> Result<Bytes, AllocError>
     requires { P.sound plant.old }
     ensures sound { OnOk result (P.sound plant.new) }
-    ensures told { P.tells → C.tells → (w : World) → StandsOn P.Plant C.Cell w plant.old cell.old → config ≡ w.setting.config → w.time ≡ first_time w.log w.cell → AllFindHeld (start w) batches.now
+    ensures told { P.tells → C.tells → (w : World) → StandsOn P.Plant C.Cell w plant.old cell.old → config ≡ w.setting.config → w.time ≡ first_time w.log w.cell → w.groups ≡ no_groups → AllFindHeld (start w) batches.now
         → IfOk result (λ told. told ≡ (played (start w) batches.now).told) }
-    ensures stands { P.tells → C.tells → (w : World) → StandsOn P.Plant C.Cell w plant.old cell.old → config ≡ w.setting.config → w.time ≡ first_time w.log w.cell → AllFindHeld (start w) batches.now
+    ensures stands { P.tells → C.tells → (w : World) → StandsOn P.Plant C.Cell w plant.old cell.old → config ≡ w.setting.config → w.time ≡ first_time w.log w.cell → w.groups ≡ no_groups → AllFindHeld (start w) batches.now
         → OnOk result (StandsOn P.Plant C.Cell (played (start w) batches.now).world plant.new cell.new) }
 {
     let Ok(mut session) = Session::open(alloc, config, plant, cell) else {

@@ -3,6 +3,7 @@ pub mod Verdicts
 pub mod Scans
 pub mod CellForms
 pub mod RestoreForms
+pub mod Groups
 pub mod TurnForms
 pub mod Turns
 pub mod Scripts

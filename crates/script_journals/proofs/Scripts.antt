@@ -18,6 +18,7 @@ use Rattle.command_forms.proofs.Lines.{line_form}
 use Rattle.dump_forms.specs.Journals.{IsJournalAfter}
 use Rattle.dump_forms.proofs.JournalLaws.{journal_joined}
 use Rattle.script_journals.specs.Worlds.{IsWorldForm}
+use Rattle.script_journals.proofs.TurnForms.{EndForms}
 use Rattle.script_journals.proofs.Turns.{turn_form, told_form}
 
 -- what a line says has its forms
@@ -39,13 +40,13 @@ pub item_forms : (line : List ℕ) → ItemForms (item_of line)
 unfolding item_of
 item_forms line = picked (is_quit line) _ _ tt (picked (is_silent line) _ _ tt (said_forms (command_of line) (line_form line)))
 
-module _ (w : World) (ms : List ℕ) (form : IsWorldForm w) where
+module _ (ends : EndForms) (w : World) (ms : List ℕ) (form : IsWorldForm w) where
   -- behind a line the world has its forms again
   pub item_form : (tests : (text : List ℕ) → IsTrue (name_test text) ↔ IsName text) (item : Item) → ItemForms item → IsWorldForm (one_line w ms item).world
   item_form tests Silent forms = form
   item_form tests Quit forms = form
   item_form tests (Refused text) forms = told_form w text form
-  item_form tests (Runs command) forms = turn_form tests w (first_of ms) command form forms
+  item_form tests (Runs command) forms = turn_form ends tests w (first_of ms) command form forms
 
 -- further lines, where the script goes on
 pub further : (log : List Change) (s rest : Outcome) (b : Bool) → IsJournalAfter log s.effects s.world.log → (b ≡ true → IsJournalAfter s.world.log rest.effects rest.world.log)
@@ -57,11 +58,11 @@ further_form : (s rest : Outcome) (b : Bool) → IsWorldForm s.world → IsWorld
 further_form s rest true first second = second
 further_form s rest false first second = first
 
-module _ (tests : (text : List ℕ) → IsTrue (name_test text) ↔ IsName text) where
+module _ (ends : EndForms) (tests : (text : List ℕ) → IsTrue (name_test text) ↔ IsName text) where
   pub script_form : (w : World) (ms : List ℕ) (lines : List (List ℕ)) → IsWorldForm w → IsWorldForm (script w ms lines).world
   unfolding script
   script_form w ms [] form = form
   script_form w ms (line ∷ lines) form =
       let s = one_line w ms (item_of line) in
-      let first : IsWorldForm s.world = item_form w ms form tests (item_of line) (item_forms line) in
+      let first : IsWorldForm s.world = item_form ends w ms form tests (item_of line) (item_forms line) in
       further_form s (script s.world s.moments lines) s.goes first (script_form s.world s.moments lines first)

@@ -26,7 +26,7 @@ use Rattle.budb_fold.specs.Database.{has_port, has_dump, is_initial}
 use Rattle.budb_fold.specs.Lookups.{record_of}
 use Rattle.budb.specs.Histories.{among_ids, descending, ids_of}
 use Rattle.backup_words.specs.declared.command.DatabaseCommand.{DatabaseCommand}
-use Rattle.backup_words.specs.declared.command.DatabaseCommand.TheVariants.{Addvolset, Delvolset, Addvolentry, Delvolentry, Listvolsets, Adddump, Setexp, Deldump, Listdumps, Addhost, Delhost, Listhosts, Checkpoint, Deletedump, Dumpinfo, Volinfo}
+use Rattle.backup_words.specs.declared.command.DatabaseCommand.TheVariants.{Addvolset, Delvolset, Addvolentry, Delvolentry, Listvolsets, Adddump, Setexp, Deldump, Listdumps, Addhost, Delhost, Listhosts, Checkpoint, Deletedump, Dumpinfo, Volinfo, Dbverify}
 use Rattle.backup_session.specs.declared.verdict.Verdict.{Verdict}
 use Rattle.backup_session.specs.declared.verdict.Verdict.TheVariants.{Refuses, Makes, Shortens, Shows}
 use Rattle.backup_session.specs.Levels.{first_known, first_unfounded, first_missing}
@@ -129,6 +129,7 @@ verdict_form db all Listdumps form = tt
 verdict_form db all (Deletedump id) form = dump_form db.listed all id form (record_of db.listed id)
 verdict_form db all (Dumpinfo count id) form = dumps_form db.listed all count id
 verdict_form db all (Volinfo name) form = tt
+verdict_form db all Dbverify form = tt
 verdict_form db all Checkpoint form = tt
 
 -- ---- labels

@@ -1,6 +1,7 @@
 -- ARCHIVES THAT BRING NO DUMP: what stands behind an effect has no dump and no dump's head that wasn't there in front of it.
-use Rattle.std.proofs.Common.{◌≡◌, ◌⊎◌, ℕ, zero, suc, ◌≤◌, true, false, Some, List, [], ◌∷◌, ◌++◌, length, take, refl, sym, ap, subst, ◌∙◌, arith, inl, inr}
+use Rattle.std.proofs.Common.{◌≡◌, ◌⊎◌, ℕ, zero, suc, ◌≤◌, true, false, Some, List, [], ◌∷◌, ◌++◌, take, refl, sym, ap, subst, ◌∙◌, arith, inl, inr}
 use Rattle.std.specs.Prelude.{Contains, slice_get}
+use Rattle.std.specs.List.{flat_map}
 use Rattle.std.proofs.lemmas.Bool.{cases_Bool, eqb-true, eq-eqb}
 use Rattle.std.proofs.lemmas.List.Elements.{All-weaker, Contains-push_cases, Contains-append_left}
 use Rattle.tape_frames.specs.declared.frame.Frame.TheVariants as frames
@@ -9,7 +10,7 @@ use Rattle.budb_changes.specs.declared.records.DumpRecordFields.{DumpRecordField
 use Rattle.budb_changes.specs.declared.change.Change.{Change}
 use Rattle.budb_fold.specs.Database.{is_dump, has_dump, after}
 use Rattle.tape_text.specs.Items.{Item, Says}
-use Rattle.tape_text.specs.Texts.{Part, Tape, tape_items}
+use Rattle.tape_text.specs.Texts.{Part, Tape, part_items, tape_items}
 use Rattle.tape_text.specs.Parts.{FoundPart, parts_at, parts_of}
 use Rattle.tape_scan.specs.Slots.{Slot, Located, IsClosedAt, IsFound}
 use Rattle.archive_model.specs.Archives.{Archive, listed_of, IsDump, IsUnlisted, IsKept}
@@ -86,11 +87,10 @@ listing_brings a log d more un grown = record {
       | inr out ↦ out
     ]
 
--- ---- a tape with a label alone
+-- ---- a tape without a dump's head
 
--- a label and a mark, or less: no dump's head stands there
+-- no dump's head stands there
 pub record IsBare (items : List Item) : Type 0 where
-  pub short : length items ≤ 2
   pub no_head : (n : ℕ) (h : DumpHeadFields) → slice_get items n ≡ Some (Says (frames.DumpHead h)) → ⊥
 
 -- each slot says what it said, or it is bare
@@ -100,20 +100,22 @@ SaysOrIsBare slots slots2 = (k : ℕ) (s : Slot) → slice_get slots2 k ≡ Some
 no_part : (first marks : ℕ) (q : FoundPart) → Contains (parts_at first marks []) q → ⊥
 no_part first marks q there = absurd (omega (arith, there.1))
 
-tape_long : (t : Tape) (ps : List Part) → t.parts ≡ ps → (q : FoundPart) → Contains (parts_at 2 1 ps) q → 3 ≤ length (tape_items t)
-tape_long t [] is q there = absurd (no_part 2 1 q there)
-tape_long t (p ∷ ps) is q there = rw is (omega arith)
+-- where a tape has a part its third item is a head
+third_is_head : (t : Tape) (ps : List Part) → t.parts ≡ ps → (q : FoundPart) → Contains (parts_at 2 1 ps) q → (h : DumpHeadFields) × (slice_get (tape_items t) 2 ≡ Some (Says (frames.DumpHead h)))
+third_is_head t [] is q there = absurd (no_part 2 1 q there)
+third_is_head t (p ∷ ps) is q there = (p.head, ap (λ (l : List Part). slice_get (flat_map part_items l) 0) is)
 
-bare_short : (items : List Item) (count : ℕ) (t : Tape) (q : FoundPart) → IsBare items → take count items ≡ tape_items t → Contains (parts_of t) q → ⊥
-bare_short items count t q bare front there =
-    let long : 3 ≤ length (tape_items t) = tape_long t t.parts refl q there in
-    let few : length (take count items) ≤ length items = takes count items in
-    omega (arith, bare.short, long, few, ap length front)
-  where
-    takes : (n : ℕ) (xs : List Item) → length (take n xs) ≤ length xs
-    takes zero xs = omega arith
-    takes (suc n) [] = omega arith
-    takes (suc n) (x ∷ xs) = omega (arith, takes n xs)
+-- what stands in a front stands in the whole
+in_front : (count : ℕ) (xs : List Item) (n : ℕ) (i : Item) → slice_get (take count xs) n ≡ Some i → slice_get xs n ≡ Some i
+in_front zero xs n i at = absurd (cc)
+in_front (suc count) [] n i at = absurd (cc)
+in_front (suc count) (x ∷ xs) zero i at = at
+in_front (suc count) (x ∷ xs) (suc n) i at = in_front count xs n i at
+
+bare_without : (items : List Item) (count : ℕ) (t : Tape) (q : FoundPart) → IsBare items → take count items ≡ tape_items t → Contains (parts_of t) q → ⊥
+bare_without items count t q bare front there =
+    let third = third_is_head t t.parts refl q there in
+    bare.no_head 2 third.0 (in_front count items 2 (Says (frames.DumpHead third.0)) (ap (λ (l : List Item). slice_get l 2) front ∙ third.1))
 
 pub bare_brings : (a : Archive) (slots : List Slot) → SaysOrIsBare a.slots slots → BringsNone a (record { log = a.log; slots = slots; contents = a.contents })
 bare_brings a slots says = record {
@@ -136,5 +138,5 @@ bare_brings a slots says = record {
     closed : (l : Located) → IsClosedAt slots l → IsClosedAt a.slots l
     closed l c = elim (says l.slot c.here c.at) [
       | inl same ↦ record { here = same.0; at = same.1; closed = record { tape = c.closed.tape; is = c.closed.is; there = c.closed.there; front = ap (λ (i : List Item). take l.found.end i) same.2 ∙ c.closed.front } }
-      | inr bare ↦ absurd (bare_short c.here.items l.found.end c.closed.tape l.found bare c.closed.front c.closed.there)
+      | inr bare ↦ absurd (bare_without c.here.items l.found.end c.closed.tape l.found bare c.closed.front c.closed.there)
     ]

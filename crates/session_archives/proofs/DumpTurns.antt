@@ -1,20 +1,27 @@
--- A dump's turn keeps the archive, with what the dump has from its first effect on, and leaves a ready world in order.
+-- The turn of a dump keeps the archive, with what the dump has from its first effect on, and leaves a ready world in order; so does the turn in
+-- which a group ends.
 use Rattle.std.proofs.Common.{List, length, refl}
+use Rattle.std.specs.Prelude.{All, None}
 use Rattle.plant_core.specs.Effects.{come}
 use Rattle.budb_changes.specs.declared.records.DumpRecordFields.{DumpRecordFields}
 use Rattle.dump_forms.specs.Journals.{IsJournalAfter}
 use Rattle.dump_courses.specs.Scenes.{Scene}
 use Rattle.backup_words.specs.declared.command.DumpCommand.{DumpCommand}
 use Rattle.dump_commands.specs.Forms.{IsSceneForm, IsCommandForm, AreShort, AreVolumes}
-use Rattle.dump_commands.specs.Answers.{Contents, dump_answer}
+use Rattle.dump_commands.specs.Answers.{Contents, Answer, dump_answer}
+use Rattle.group_commands.specs.Groups.{GroupView}
+use Rattle.group_commands.specs.Answers.{GroupAnswer, group_answer}
+use Rattle.group_laws.specs.Forms.{IsGroupForm, ArePortsApart}
 use Rattle.dump_archives.specs.Asking.{AsksOfScene}
 use Rattle.dump_archives.specs.Keeping.{HoldsOnTheWay, EachKeepsListed, AsksBehind}
 use Rattle.backup_words.specs.declared.command.Command.TheVariants.{Dump}
 use Rattle.backup_session.specs.Bounded.{HasTapes}
-use Rattle.backup_session.specs.Worlds.{World, archive_of, last_cell, before_reply}
+use Rattle.backup_session.specs.declared.groups.Groups.{Groups}
+use Rattle.backup_session.specs.Worlds.{World, Turn, archive_of, last_cell, before_reply}
 use Rattle.backup_session.specs.Dumps.{scene_of, answered, dump_turn}
+use Rattle.backup_session.specs.Groups.{ended_turn}
 use Rattle.command_forms.specs.Forms.{HasForms}
-use Rattle.script_journals.specs.Worlds.{IsWorldForm}
+use Rattle.script_journals.specs.Worlds.{HasGroupForm, IsWorldForm}
 use Rattle.script_journals.proofs.TurnForms.{scene_form}
 use Rattle.session_archives.specs.Ready.{IsInOrder, IsReady}
 use Rattle.session_archives.proofs.Kept.{Finds}
@@ -30,9 +37,18 @@ pub record DumpLaws : Type 0 where
   pub listed : (s : Scene) (a : DumpCommand) (contents : Contents) (records : List DumpRecordFields) → IsCommandForm a → AsksOfScene s contents records → EachKeepsListed s (dump_answer s a).effects
   pub behind : (s : Scene) (a : DumpCommand) (contents : Contents) (records : List DumpRecordFields) → IsCommandForm a → AsksOfScene s contents records → AsksBehind s (dump_answer s a) ((dump_answer s a).contents contents)
 
--- ---- what a dump asks
+-- what is so of the end of each group: those on groups
+pub record EndLaws : Type 0 where
+  pub bytes : (s : Scene) (g : GroupView) → IsSceneForm s → All IsCommandForm g.held → IsJournalAfter s.log (group_answer s g).answer.effects (group_answer s g).answer.log
+  pub volumes : (s : Scene) (g : GroupView) (contents : Contents) → IsSceneForm s → AreVolumes contents → AreVolumes ((group_answer s g).answer.contents contents)
+  pub way : (s : Scene) (g : GroupView) (contents : Contents) (records : List DumpRecordFields) → IsGroupForm g → ArePortsApart s.config.entries → AsksOfScene s contents records → HoldsOnTheWay s (group_answer s g).answer contents
+  pub listed : (s : Scene) (g : GroupView) (contents : Contents) (records : List DumpRecordFields) → IsGroupForm g → ArePortsApart s.config.entries → AsksOfScene s contents records → EachKeepsListed s (group_answer s g).answer.effects
+  pub behind : (s : Scene) (g : GroupView) (contents : Contents) (records : List DumpRecordFields) → IsGroupForm g → ArePortsApart s.config.entries → AsksOfScene s contents records
+      → AsksBehind s (group_answer s g).answer ((group_answer s g).answer.contents contents)
 
-module _ (w : World) (has : HasTapes w) (finds : Finds w) (ready : IsReady w) where
+-- ---- what dumps ask
+
+module _ (w : World) (has : HasTapes w) (finds : Finds w) (group : HasGroupForm w.groups.open) (ready : IsReady w) where
   -- a world that is held and ready has its forms
   pub ready_form : IsWorldForm w
   ready_form = record {
@@ -43,6 +59,7 @@ module _ (w : World) (has : HasTapes w) (finds : Finds w) (ready : IsReady w) wh
     time = ready.order.four;
     name = ready.name;
     ports = ready.ports;
+    group = group;
   }
 
   asks : AsksOfScene (scene_of w) w.contents finds.holds.0
@@ -58,59 +75,98 @@ module _ (w : World) (has : HasTapes w) (finds : Finds w) (ready : IsReady w) wh
     heads = ready.order.fit.heads;
   }
 
--- ---- what a dump makes
+-- ---- what dumps make
 
-module _ (laws : DumpLaws) (w : World) (has : HasTapes w) (finds : Finds w) (ready : IsReady w) (a : DumpCommand) (form : IsCommandForm a) where
-  behind : AsksBehind (scene_of w) (dump_answer (scene_of w) a) ((dump_answer (scene_of w) a).contents w.contents)
-  behind = laws.behind (scene_of w) a w.contents finds.holds.0 form (asks w has finds ready)
+-- What is so of an answer to what a world has, be it that of a dump or of the end of a group.
+record AnswerKeeps (w : World) (answer : Answer) : Type 0 where
+  pub bytes : IsJournalAfter w.log answer.effects answer.log
+  pub volumes : AreVolumes (answer.contents w.contents)
+  pub way : HoldsOnTheWay (scene_of w) answer w.contents
+  pub listed : EachKeepsListed (scene_of w) answer.effects
+  pub behind : AsksBehind (scene_of w) answer (answer.contents w.contents)
 
-  finds_dumped : Finds (before_reply w (answered w (dump_answer (scene_of w) a)))
-  finds_dumped = record { holds = (behind.records, behind.asks.holds); settled = behind.asks.settled; within = finds.within }
+module _ (w : World) (finds : Finds w) (ready : IsReady w) (answer : Answer) (keeps : AnswerKeeps w answer) (groups : Groups) where
+  -- the answer as a turn, behind which these groups are left
+  abbrev its_turn : Turn
+  its_turn = record (answered w answer) { groups = groups }
 
-  leads_dumped : LeadsTurn w (answered w (dump_answer (scene_of w) a))
+  finds_dumped : Finds (before_reply w its_turn)
+  finds_dumped = record { holds = (keeps.behind.records, keeps.behind.asks.holds); settled = keeps.behind.asks.settled; within = finds.within }
+
+  leads_dumped : LeadsTurn w its_turn
   leads_dumped = record {
     way = λ count.
-        (let held = laws.way (scene_of w) a w.contents finds.holds.0 form (asks w has finds ready) count in
+        (let held = keeps.way count in
         record { changes = held.changes; journal = held.journal; records = held.records; holds = held.holds; ids = held.ids });
     listed = λ count e at.
-        (let keeps = laws.listed (scene_of w) a w.contents finds.holds.0 form (asks w has finds ready) count e at in
-        record { changes = keeps.changes; journal = keeps.journal; still = keeps.still });
-    journal = laws.bytes (scene_of w) a (scene_form w (ready_form w has finds ready)) form;
+        (let kept = keeps.listed count e at in
+        record { changes = kept.changes; journal = kept.journal; still = kept.still });
+    journal = keeps.bytes;
     state = refl;
     setting = refl;
     finds = finds_dumped;
     ids = λ known.
-        (let es = (dump_answer (scene_of w) a).effects in
-        let all = laws.way (scene_of w) a w.contents finds.holds.0 form (asks w has finds ready) (length es) in
-        known_whole w.setting.slots w.setting.present es w.state w.log (dump_answer (scene_of w) a).log all.changes all.journal (laws.bytes (scene_of w) a (scene_form w (ready_form w has finds ready)) form) (all.ids known));
+        (let all = keeps.way (length answer.effects) in
+        known_whole w.setting.slots w.setting.present answer.effects w.state w.log answer.log all.changes all.journal keeps.bytes (all.ids known));
   }
 
-  short_dumped : AreShort (come (dump_answer (scene_of w) a).effects w.state).tape
-  short_dumped = behind.asks.short
+  short_dumped : AreShort (come answer.effects w.state).tape
+  short_dumped = keeps.behind.asks.short
 
-  order_dumped : let t = answered w (dump_answer (scene_of w) a) in IsInOrder w.cell t.time (archive_of (before_reply w t))
+  order_dumped : IsInOrder w.cell its_turn.time (archive_of (before_reply w its_turn))
   order_dumped =
-      let then = archive_of (before_reply w (answered w (dump_answer (scene_of w) a))) in
+      let then = archive_of (before_reply w its_turn) in
       record {
         form = ready.order.form;
-        four = behind.asks.form.time;
-        made = behind.asks.made;
+        four = keeps.behind.asks.form.time;
+        made = keeps.behind.asks.made;
         fit = record {
-          fair = λ records are. fair_to_any w.cell (dump_answer (scene_of w) a).time then behind.records records behind.asks.holds.seen.kept.dumps are.sound behind.asks.fair;
-          named = behind.asks.named;
-          heads = behind.asks.heads;
-          volumes = laws.volumes (scene_of w) a w.contents (scene_form w (ready_form w has finds ready)) ready.order.fit.volumes;
+          fair = λ records are. fair_to_any w.cell answer.time then keeps.behind.records records keeps.behind.asks.holds.seen.kept.dumps are.sound keeps.behind.asks.fair;
+          named = keeps.behind.asks.named;
+          heads = keeps.behind.asks.heads;
+          volumes = keeps.volumes;
         };
       }
 
 -- ---- as a command says it
 
-module _ (laws : DumpLaws) (w : World) (has : HasTapes w) (finds : Finds w) where
-  pub dump_leads : (command : DumpCommand) → HasForms (Dump command) → IsReady w → LeadsTurn w (dump_turn w command)
-  dump_leads command form ready = leads_dumped laws w has finds ready command (record { set = form.0; level = form.1 })
+module _ (laws : DumpLaws) (w : World) (has : HasTapes w) (finds : Finds w) (group : HasGroupForm w.groups.open) (ready : IsReady w) where
+  dump_keeps : (a : DumpCommand) → IsCommandForm a → AnswerKeeps w (dump_answer (scene_of w) a)
+  dump_keeps a form = (let asked = asks w has finds group ready in record {
+    bytes = laws.bytes (scene_of w) a asked.form form;
+    volumes = laws.volumes (scene_of w) a w.contents asked.form ready.order.fit.volumes;
+    way = laws.way (scene_of w) a w.contents finds.holds.0 form asked;
+    listed = laws.listed (scene_of w) a w.contents finds.holds.0 form asked;
+    behind = laws.behind (scene_of w) a w.contents finds.holds.0 form asked;
+  })
 
-  pub dump_short : (command : DumpCommand) → HasForms (Dump command) → IsReady w → AreShort (come (dump_turn w command).effects w.state).tape
-  dump_short command form ready = short_dumped laws w has finds ready command (record { set = form.0; level = form.1 })
+  pub dump_leads : (command : DumpCommand) → HasForms (Dump command) → LeadsTurn w (dump_turn w command)
+  dump_leads command form = leads_dumped w finds ready (dump_answer (scene_of w) command) (dump_keeps command (record { set = form.0; level = form.1 })) w.groups
 
-  pub dump_order : (command : DumpCommand) → HasForms (Dump command) → IsReady w → let t = dump_turn w command in IsInOrder (last_cell w.cell t.cells) t.time (archive_of (before_reply w t))
-  dump_order command form ready = order_dumped laws w has finds ready command (record { set = form.0; level = form.1 })
+  pub dump_short : (command : DumpCommand) → HasForms (Dump command) → AreShort (come (dump_turn w command).effects w.state).tape
+  dump_short command form = short_dumped w finds ready (dump_answer (scene_of w) command) (dump_keeps command (record { set = form.0; level = form.1 })) w.groups
+
+  pub dump_order : (command : DumpCommand) → HasForms (Dump command) → let t = dump_turn w command in IsInOrder (last_cell w.cell t.cells) t.time (archive_of (before_reply w t))
+  dump_order command form = order_dumped w finds ready (dump_answer (scene_of w) command) (dump_keeps command (record { set = form.0; level = form.1 })) w.groups
+
+module _ (laws : EndLaws) (w : World) (has : HasTapes w) (finds : Finds w) (group : HasGroupForm w.groups.open) (ready : IsReady w) (g : GroupView) (form : IsGroupForm g) where
+  abbrev its_answer : GroupAnswer
+  its_answer = group_answer (scene_of w) g
+
+  end_keeps : AnswerKeeps w its_answer.answer
+  end_keeps = (let asked = asks w has finds group ready in record {
+    bytes = laws.bytes (scene_of w) g asked.form form.commands;
+    volumes = laws.volumes (scene_of w) g w.contents asked.form ready.order.fit.volumes;
+    way = laws.way (scene_of w) g w.contents finds.holds.0 form ready.apart asked;
+    listed = laws.listed (scene_of w) g w.contents finds.holds.0 form ready.apart asked;
+    behind = laws.behind (scene_of w) g w.contents finds.holds.0 form ready.apart asked;
+  })
+
+  pub end_leads : LeadsTurn w (ended_turn w (group_answer (scene_of w) g))
+  end_leads = leads_dumped w finds ready its_answer.answer end_keeps (record { «open» = None; jobs = its_answer.jobs })
+
+  pub end_short : AreShort (come (group_answer (scene_of w) g).answer.effects w.state).tape
+  end_short = short_dumped w finds ready its_answer.answer end_keeps (record { «open» = None; jobs = its_answer.jobs })
+
+  pub end_order : let t = ended_turn w (group_answer (scene_of w) g) in IsInOrder (last_cell w.cell t.cells) t.time (archive_of (before_reply w t))
+  end_order = order_dumped w finds ready its_answer.answer end_keeps (record { «open» = None; jobs = its_answer.jobs })

@@ -64,7 +64,7 @@ module _ (n : ℕ) (present : ℕ → Bool) (contents : ℕ → List ℕ → Res
 
   module _ (once : ReadOnce) where
     -- an archive over slots that are here as the plant's is that of its tapes
-    seen_at : (s : State) (log : List Change) (slots : List Slot) (old : ℕ → List Record) (records : List DumpRecordFields) → map is_here slots ≡ map is_here (slots_of n present old) → HoldsSettled s (record { log = log; slots = slots; contents = contents }) records → HoldsAt n present contents log s
+    pub seen_at : (s : State) (log : List Change) (slots : List Slot) (old : ℕ → List Record) (records : List DumpRecordFields) → map is_here slots ≡ map is_here (slots_of n present old) → HoldsSettled s (record { log = log; slots = slots; contents = contents }) records → HoldsAt n present contents log s
     seen_at s log slots old records same held =
         (records, subst (λ (x : List Slot). HoldsSettled s (record { log = log; slots = x; contents = contents }) records) (slots_again once present old s.tape n slots same held.seen.tapes) held)
 

@@ -19,6 +19,7 @@ use Rattle.archive_model.proofs.DumpLaws.{rest_holds}
 use Rattle.archive_model.proofs.HeldLaws.{blank_holds}
 use Rattle.backup_session.specs.Worlds.{World, Setting, Contents, archive_of}
 use Rattle.backup_session.specs.Bounded.{HasTapes}
+use Rattle.script_journals.specs.Worlds.{HasGroupForm}
 use Rattle.dump_archives.specs.Keeping.{KnowsIds}
 use Rattle.dump_archives.proofs.Heads.{slots_up}
 use Rattle.session_archives.specs.Held.{HoldsWorld, archive_with, HoldsAfter, HoldsOnTheWay, HoldsImage}
@@ -45,8 +46,8 @@ pub joint_holds : ReadOnce → (w : World) (contents : ℕ → Contents) (effect
 joint_holds once w contents effects old image way joint = image_holds once w (contents joint.count) (take joint.count effects) image (way joint.count) joint.left
 
 -- all is settled at the start
-pub world_at_rest : (w : World) (records : List DumpRecordFields) → Holds (seen_in w.state) (archive_of w) records → IsSettled w.state → ((k : ℕ) → IsTrue (w.setting.present k) → k < w.setting.slots) → HasTapes w → HoldsWorld w
-world_at_rest w records held settled within has = record { records = records; holds = rest_holds w.state (archive_of w) records held settled.log settled.tapes; settled = settled; within = within; tapes = has }
+pub world_at_rest : (w : World) (records : List DumpRecordFields) → Holds (seen_in w.state) (archive_of w) records → IsSettled w.state → ((k : ℕ) → IsTrue (w.setting.present k) → k < w.setting.slots) → HasTapes w → HasGroupForm w.groups.open → HoldsWorld w
+world_at_rest w records held settled within has group = record { records = records; holds = rest_holds w.state (archive_of w) records held settled.log settled.tapes; settled = settled; within = within; tapes = has; group = group }
 
 -- ---- an image that is opened again
 
@@ -71,8 +72,8 @@ module _ (w : World) (contents : Contents) (effects : List Effect) (image : Stoc
   pub known_again : KnowsIds (archive_of w) → KnowsIds (archive_of v)
   known_again known = subst KnowsIds same_archive (held.ids known)
 
-  pub opened_again : image.log ≡ Some v.state.log → ((k : ℕ) → IsTrue (w.setting.present k) → k < w.setting.slots) → IsSettled v.state → HasTapes v → HoldsWorld v
-  opened_again bytes within settled has = world_at_rest v held.records (seen_again bytes) settled (subst (λ (x : Setting). (k : ℕ) → IsTrue (x.present k) → k < x.slots) (sym setting) within) has
+  pub opened_again : image.log ≡ Some v.state.log → ((k : ℕ) → IsTrue (w.setting.present k) → k < w.setting.slots) → IsSettled v.state → HasTapes v → HasGroupForm v.groups.open → HoldsWorld v
+  opened_again bytes within settled has group = world_at_rest v held.records (seen_again bytes) settled (subst (λ (x : Setting). (k : ℕ) → IsTrue (x.present k) → k < x.slots) (sym setting) within) has group
 
 -- ---- blank tapes
 
@@ -85,8 +86,8 @@ module _ (present : ℕ → Bool) (tape : ℕ → List Record) (none : (k : ℕ)
   unfolding slots_of
   slots_blank n = from_blank 0 n
 
-pub blank_world : (w : World) → w.log ≡ [] → IsNothing (seen_in w.state) → IsSettled w.state → ((k : ℕ) → IsTrue (w.setting.present k) → k < w.setting.slots) → HasTapes w → HoldsWorld w
-blank_world w empty nothing settled within has =
+pub blank_world : (w : World) → w.log ≡ [] → IsNothing (seen_in w.state) → IsSettled w.state → ((k : ℕ) → IsTrue (w.setting.present k) → k < w.setting.slots) → HasTapes w → HasGroupForm w.groups.open → HoldsWorld w
+blank_world w empty nothing settled within has group =
     let slots = slots_of w.setting.slots w.setting.present w.state.tape in
     let held = blank_holds (seen_in w.state) slots w.contents nothing (slots_blank w.setting.present w.state.tape nothing.tapes w.setting.slots) in
-    world_at_rest w [] (subst (λ (l : List Change). Holds (seen_in w.state) (record { log = l; slots = slots; contents = w.contents }) []) (sym empty) held) settled within has
+    world_at_rest w [] (subst (λ (l : List Change). Holds (seen_in w.state) (record { log = l; slots = slots; contents = w.contents }) []) (sym empty) held) settled within has group

@@ -8,6 +8,7 @@ use Rattle.plant_core.specs.Effects.{come}
 use Rattle.tape_frames.specs.declared.frame.Frame.{Frame}
 use Rattle.tape_frames.specs.Frames.{Fits, spelling, IsSpelled}
 use Rattle.tape_answers.specs.Reading.{frame_in}
+use Rattle.backup_session.specs.declared.groups.Groups.{Groups}
 use Rattle.backup_session.specs.Worlds.{World, Turn, Contents, before_reply}
 use Rattle.backup_session.specs.Turns.{said}
 use Rattle.session_archives.proofs.Slots.{ReadOnce}
@@ -46,6 +47,10 @@ finds_behind w t finds keeps = record {
 module _ (w : World) where
   pub said_keeps : Finds w → (text : List ℕ) → TurnKeeps w (said w text)
   said_keeps finds text = record { keeps = (finds.holds, refl); settled = finds.settled; contents = refl; adds = refl }
+
+  -- and so is one that leaves other groups besides
+  pub left_keeps : Finds w → (text : List ℕ) (groups : Groups) → TurnKeeps w (record (said w text) { groups = groups })
+  left_keeps finds text groups = record { keeps = (finds.holds, refl); settled = finds.settled; contents = refl; adds = refl }
 
   pub picked : (b : Bool) (s t : Turn) → TurnKeeps w s → TurnKeeps w t → TurnKeeps w (if b then s else t)
   picked true s t is_s is_t = is_s

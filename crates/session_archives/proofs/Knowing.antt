@@ -71,6 +71,16 @@ adds_then (puts k r ∷ es) fs log mid new (none, first) second = (none, adds_th
 adds_then (settles k ∷ es) fs log mid new first second = adds_then es fs log mid new first second
 adds_then (cuts k count ∷ es) fs log mid new first second = adds_then es fs log mid new first second
 
+-- heads that stand on a tape behind them stood there
+pub heads_were : (es : List Effect) (s : State) (log new : List Change) → AddsNoHead log es new → (k : ℕ) → HasNoOther (items_of (s.tape k)) (items_of ((come es s).tape k))
+heads_were [] s log new adds k n h at = (n, at)
+heads_were (commits bytes ∷ es) s log new (changes, are, rest) k n h at = heads_were es (comes (commits bytes) s) (log ++ changes) new rest k n h at
+heads_were (replaces bytes ∷ es) s log new (changes, are, more, rest) k n h at = heads_were es (comes (replaces bytes) s) changes new rest k n h at
+heads_were (tells text ∷ es) s log new rest k n h at = heads_were es (comes (tells text) s) log new rest k n h at
+heads_were (puts j r ∷ es) s log new (none, rest) k n h at = (let was = heads_were es (comes (puts j r) s) log new rest k n h at in put_none (k == j) (s.tape k) r none was.0 h was.1)
+heads_were (settles j ∷ es) s log new rest k n h at = heads_were es (comes (settles j) s) log new rest k n h at
+heads_were (cuts j m ∷ es) s log new rest k n h at = (let was = heads_were es (comes (cuts j m) s) log new rest k n h at in cut_none (k == j) m (s.tape k) was.0 h was.1)
+
 -- effects lead to one journal
 pub journal_once : (es : List Effect) (log a b : List Change) → IsJournalAfter log es a → IsJournalAfter log es b → a ≡ b
 journal_once [] log a b is also = is ∙ sym also

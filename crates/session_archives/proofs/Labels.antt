@@ -168,7 +168,7 @@ no_head_read reads a fit h (Some f) is says =
 pub label_no_head : (reads : Reads) (a : LabelFields) → FitsLabel a → IsNoHead (item_of (block_with (spelling (Label a))))
 label_no_head reads a fit h is = no_head_read reads a fit h (frame_in (spelling (Label a))) refl is
 
-mark_no_head : IsNoHead (item_of mark)
+pub mark_no_head : IsNoHead (item_of mark)
 mark_no_head h is = (let e : Filemark ≡ Says (DumpHead h) = is in cc)
 
 -- ---- the turn

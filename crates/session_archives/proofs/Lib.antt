@@ -11,14 +11,19 @@ pub mod Verdicts
 pub mod Turns
 pub mod Scans
 pub mod Images
+pub mod DumpReads
+pub mod GroupReads
 pub mod TurnReads
 pub mod Bringing
 pub mod Orders
+pub mod BackLines
 pub mod DumpTurns
 pub mod TurnLeads
 pub mod Scripts
 pub mod Replies
 pub mod ReadyTapes
+pub mod Saved
+pub mod SavedTurns
 pub mod ReadyScans
 pub mod ReadyRestores
 pub mod ReadyCells
@@ -28,3 +33,6 @@ pub mod OnLines
 pub mod ReadyBlank
 pub mod Opened
 pub mod Present
+pub mod ReadingBack
+pub mod GroupPresent
+pub mod ScriptPresent

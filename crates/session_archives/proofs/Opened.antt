@@ -19,6 +19,7 @@ use Rattle.cell_forms.specs.Forms.{IsCellForm}
 use Rattle.tape_config.specs.declared.port.PortFields.{PortFields}
 use Rattle.tape_config.specs.Configs.{Settings, config_of, port_in, name_or_nothing}
 use Rattle.tape_config.specs.Ports.{IsWithinLimits}
+use Rattle.group_laws.specs.Forms.{ArePortsApart}
 use Rattle.budb_changes.specs.declared.records.VolRecordFields.{VolRecordFields}
 use Rattle.budb_changes.specs.declared.records.DumpRecordFields.{DumpRecordFields}
 use Rattle.budb_changes.specs.declared.change.Change.{Change}
@@ -29,7 +30,7 @@ use Rattle.dump_commands.specs.Forms.{AreVolumes}
 use Rattle.backup_session.specs.Worlds.{World}
 use Rattle.backup_session.specs.Opening.{with_clone, with_clones, database_time, with_state, with_stored, first_time}
 use Rattle.backup_session.specs.Bounded.{HasTapes}
-use Rattle.script_journals.specs.Worlds.{IsWorldForm}
+use Rattle.script_journals.specs.Worlds.{HasGroupForm, IsWorldForm}
 use Rattle.session_archives.specs.Ready.{IsFitWorld, IsReady, time_at_first, at_first}
 use Rattle.session_archives.proofs.Orders.{none_made_later}
 use Rattle.session_archives.proofs.ReadyScripts.{time_later, time_four}
@@ -113,6 +114,7 @@ name_form None host = inr refl
 pub record Configured : Type 0 where
   pub ports : (bytes : List ℕ) (settings : Settings) → config_of bytes ≡ Ok settings → (offset : ℕ) (port : PortFields) → port_in offset settings.entries ≡ Some port → IsWithinLimits port
   pub cell : (bytes : List ℕ) (settings : Settings) → config_of bytes ≡ Ok settings → IfSome settings.cell IsHost
+  pub apart : (bytes : List ℕ) (settings : Settings) → config_of bytes ≡ Ok settings → ArePortsApart settings.entries
 
 module _ (laws : Configured) (w : World) (bytes : List ℕ) (says : config_of bytes ≡ Ok w.setting.config) (changes : AreChanges w.log) (cell : IsCellForm w.cell) (begins : w.time ≡ first_time w.log w.cell) where
   opened_four : IsFour w.time
@@ -121,8 +123,8 @@ module _ (laws : Configured) (w : World) (bytes : List ℕ) (says : config_of by
   opened_made : NoneIsMadeAfter w.time w.cell
   opened_made = subst (λ (time : ℕ). NoneIsMadeAfter time w.cell) (sym begins) (none_made w.cell (database_time (after w.log)))
 
-  pub opened_formed : HasTapes w → AreVolumes w.contents → IsWorldForm w
-  opened_formed has volumes = record {
+  pub opened_formed : HasTapes w → HasGroupForm w.groups.open → AreVolumes w.contents → IsWorldForm w
+  opened_formed has group volumes = record {
     tapes = has;
     log = changes;
     cell = cell;
@@ -130,6 +132,7 @@ module _ (laws : Configured) (w : World) (bytes : List ℕ) (says : config_of by
     time = opened_four;
     name = name_form w.setting.config.cell (laws.cell bytes w.setting.config says);
     ports = λ offset port is. (laws.ports bytes w.setting.config says offset port is).capacity;
+    group = group;
   }
 
   pub opened_ready : (ms : List ℕ) (these : List (List ℕ)) → IsFitWorld (at_first w ms these) → IsReady (at_first w ms these)
@@ -142,4 +145,5 @@ module _ (laws : Configured) (w : World) (bytes : List ℕ) (says : config_of by
     };
     name = name_form w.setting.config.cell (laws.cell bytes w.setting.config says);
     ports = λ offset port is. (laws.ports bytes w.setting.config says offset port is).capacity;
+    apart = laws.apart bytes w.setting.config says;
   }

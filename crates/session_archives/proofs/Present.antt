@@ -1,8 +1,8 @@
--- The effects of a script are on tapes in slots that are here: the others stay.
+-- The effects of a dump are on tapes in slots that are here.
 use Rattle.std.proofs.Common.{◌≡◌, inl, inr, ℕ, zero, suc, Bool, true, false, IsTrue, Option, Some, None, List, [], ◌∷◌, ◌++◌, length, take, refl, sym, ap, subst, ◌∙◌, arith}
-use Rattle.std.specs.Prelude.{nat_lt, not, ◌==◌, ◌&&◌, if◌then◌else◌, slice_get, Result, Ok, Err, IfOk}
-use Rattle.std.specs.List.{fold}
+use Rattle.std.specs.Prelude.{All, not, ◌==◌, ◌&&◌, if◌then◌else◌, slice_get, Result, Ok, Err}
 use Rattle.std.proofs.lemmas.Bool.{eqb-true}
+use Rattle.std.proofs.lemmas.List.Elements.{All-nil, All-cons, All-append}
 use Rattle.vnode_model.specs.declared.listed.VolEntry.{VolEntry}
 use Rattle.plant_core.specs.Crashes.{State}
 use Rattle.plant_core.specs.Records.{Record}
@@ -17,7 +17,6 @@ use Rattle.tape_text.specs.Items.{Item as TapeItem, Says, Filemark, Nothing}
 use Rattle.tape_scan.specs.Slots.{Slot}
 use Rattle.tape_writer.specs.Puts.{put_on, puts_on}
 use Rattle.tape_answers.specs.Slots.{slots_of}
-use Rattle.tape_answers.specs.Assembling.{found_in}
 use Rattle.tape_choice.specs.declared.choosing.Chosen.{Chosen}
 use Rattle.tape_choice.specs.declared.places.Place.{Place}
 use Rattle.tape_choice.specs.declared.places.Appending.TheVariants.{Found}
@@ -26,17 +25,16 @@ use Rattle.tape_choice.specs.Choice.{is_among, is_used, tape_passes, slot_passes
 use Rattle.tape_choice.specs.Append.{is_as_told, appending}
 use Rattle.budb_changes.specs.declared.records.DumpRecordFields.{DumpRecordFields}
 use Rattle.budb_changes.specs.declared.change.Change.{Change}
-use Rattle.budb_changes.specs.declared.change.Change.TheVariants as change
 use Rattle.budb_changes.specs.Bytes.{encoded}
 use Rattle.budb_fold.specs.declared.database.Database.{Database}
-use Rattle.budb_fold.specs.Database.{after, has_dump}
-use Rattle.budb_fold.specs.Checkpoints.{checkpoint}
+use Rattle.budb_fold.specs.Database.{after}
 use Rattle.archive_model.specs.Holding.{holds}
 use Rattle.dump_job.specs.declared.answer.StepAnswer.{StepAnswer}
 use Rattle.dump_job.specs.declared.answer.StepAnswer.TheVariants as answers
 use Rattle.dump_job.specs.declared.fault.JobFault.{JobFault}
 use Rattle.dump_job.specs.declared.first_tapes.FirstTape.{FirstTape}
 use Rattle.dump_job.specs.declared.order.DumpOrder.{DumpOrder}
+use Rattle.dump_job.specs.declared.fields.Filled.{Filled}
 use Rattle.dump_job.specs.declared.fields.Hand.{Hand}
 use Rattle.dump_job.specs.declared.fields.JobFields.{JobFields}
 use Rattle.dump_job.specs.declared.fields.Phase.{Phase}
@@ -47,8 +45,8 @@ use Rattle.dump_job.specs.Beginning.{wanting_of, id_of, tape_found}
 use Rattle.dump_job.specs.Taping.{uses_for, tape_items, reel_begun}
 use Rattle.dump_job.specs.Cloning.{volumes_done}
 use Rattle.dump_job.specs.Volumes.{head_items, headed, piece_items, pieced, end_items, volume_ended, volume_cut}
-use Rattle.dump_job.specs.Ending.{part_end_items}
-use Rattle.dump_job.specs.Passing.{may_go_on, next_wanting, next_choice, next_changes, part_passed, part_refused}
+use Rattle.dump_job.specs.Ending.{part_end_items, closed_part}
+use Rattle.dump_job.specs.Passing.{may_go_on, next_wanting, next_choice, next_changes, with_filled, part_passed, part_refused}
 use Rattle.dump_job.specs.Closing.{committing, is_too_long, made_of, done_changes, dump_ended}
 use Rattle.dump_job.specs.Events.{Around, Event, putting, items_at, tape_event, clone_by, clone_from, closing, part_end_by, part_end_event, dump_end_event, head_event, piece_event, hand_event, event_by}
 use Rattle.dump_laws.proofs.ChosenLaws.{and_left, and_right, numbered_get}
@@ -61,29 +59,11 @@ use Rattle.dump_commands.specs.Orders.{asked_port, order_of}
 use Rattle.dump_commands.specs.Refusals.{fault_of, refusal_by, trial_refusal}
 use Rattle.dump_commands.specs.Trials.{trial_text}
 use Rattle.dump_commands.specs.Answers.{Answer, begun_point, begun, tape_for, said, begun_or, refused_or, trial_answer, real_answer, order_answer, port_answer, dump_answer}
-use Rattle.backup_words.specs.declared.command.Command.{Command}
-use Rattle.backup_words.specs.declared.command.Command.TheVariants as commands
-use Rattle.backup_words.specs.declared.command.TapeCommand.{TapeCommand}
-use Rattle.backup_words.specs.declared.command.TapeCommand.TheVariants.{Labeltape, Readlabel, Scantape}
-use Rattle.backup_session.specs.declared.verdict.Verdict.{Verdict}
-use Rattle.backup_session.specs.declared.verdict.Verdict.TheVariants.{Refuses, Makes, Shortens, Shows}
-use Rattle.backup_session.specs.Worlds.{Setting, World, Turn, before_reply, at_moment}
-use Rattle.backup_session.specs.Turns.{length_with}
-use Rattle.backup_session.specs.Verdicts.{verdict}
-use Rattle.backup_session.specs.Labels.{label_of}
-use Rattle.backup_session.specs.Scanning.{port_of, slots_here, scans_of, Step, says, has_wrong_parent, added, added_if, with_dump, adding, dumps_turn, slots_turn, scan_turn}
-use Rattle.backup_session.specs.Tapes.{slot_of, read_turn, new_label, taken, labeled, label_turn, tape_turn}
-use Rattle.backup_session.specs.Dumps.{scene_of}
-use Rattle.backup_session.specs.Machine.{carried, done, turn}
-use Rattle.backup_script.specs.declared.item.Item.{Item}
-use Rattle.backup_script.specs.declared.item.Item.TheVariants.{Silent, Quit, Runs, Refused}
-use Rattle.backup_script.specs.Items.{item_of}
-use Rattle.backup_script.specs.Scripts.{Outcome, first_of, one_line, then_outcome, script}
-use Rattle.session_archives.proofs.Labels.{slot_is_here}
+use Rattle.backup_session.specs.Tapes.{taken}
 use Rattle.session_archives.proofs.Slots.{slot_told}
 
 -- one of two, whichever it is
-picked : {T : Type 0} (Q : T → Type 0) (b : Bool) (x y : T) → Q x → Q y → Q (if b then x else y)
+pub picked : {T : Type 0} (Q : T → Type 0) (b : Bool) (x y : T) → Q x → Q y → Q (if b then x else y)
 picked Q true x y is_x is_y = is_x
 picked Q false x y is_x is_y = is_y
 
@@ -98,7 +78,7 @@ module _ (present : ℕ → Bool) where
   TouchesHere (settles k ∷ es) = IsTrue (present k) × TouchesHere es
   TouchesHere (cuts k n ∷ es) = IsTrue (present k) × TouchesHere es
 
-  both : (es fs : List Effect) → TouchesHere es → TouchesHere fs → TouchesHere (es ++ fs)
+  pub both : (es fs : List Effect) → TouchesHere es → TouchesHere fs → TouchesHere (es ++ fs)
   both [] fs first second = second
   both (commits bytes ∷ es) fs first second = both es fs first second
   both (replaces bytes ∷ es) fs first second = both es fs first second
@@ -118,10 +98,10 @@ module _ (present : ℕ → Bool) (k : ℕ) (absent : IsTrue (present k) → ⊥
   other j here x y = ap (λ (b : Bool). if b then x else y) (apart j here (k == j) refl)
 
   -- what is said of the slot of a state and of a later one
-  abbrev StaysAt : State → State → Type 0
+  abbrev pub StaysAt : State → State → Type 0
   StaysAt s t = (t.tape k ≡ s.tape k) × (t.settled k ≡ s.settled k)
 
-  stays : (es : List Effect) (s : State) → TouchesHere present es → StaysAt s (come es s)
+  pub stays : (es : List Effect) (s : State) → TouchesHere present es → StaysAt s (come es s)
   stays [] s here = (refl, refl)
   stays (commits bytes ∷ es) s here = stays es (comes (commits bytes) s) here
   stays (replaces bytes ∷ es) s here = stays es (comes (replaces bytes) s) here
@@ -182,7 +162,7 @@ module _ (count : ℕ) (present : ℕ → Bool) (tape : ℕ → List Record) whe
       subst (λ (y : Place). IsTrue (present y.slot)) x.is (at_here x.number x.slot x.at here)
 
 -- the tape on which a dump begins
-first_here : (s : Scene) (o : DumpOrder) (t : FirstTape) → tape_for s o ≡ Ok t → IsTrue (s.present t.reel.slot)
+pub first_here : (s : Scene) (o : DumpOrder) (t : FirstTape) → tape_for s o ≡ Ok t → IsTrue (s.present t.reel.slot)
 unfolding tape_for
 first_here s o t is =
     let db : Database = database_in s in
@@ -196,12 +176,16 @@ first_here s o t is =
 -- ---- the events of a dump
 
 module _ (present : ℕ → Bool) where
-  -- the tape in hand is in a slot that is here
-  abbrev IsHere : JobFields → Type 0
-  IsHere j = IsTrue (present j.reel.slot)
+  -- an ended part is on a tape in a slot that is here
+  abbrev pub IsFilledHere : Filled → Type 0
+  IsFilledHere f = IsTrue (present f.slot)
 
-  -- an event is on tapes in slots that are here, and the tape in hand behind it is in such a slot
-  abbrev StaysHere : Event → Type 0
+  -- the tape in hand is in such a slot, and so are those of the ended parts
+  abbrev pub IsHere : JobFields → Type 0
+  IsHere j = IsTrue (present j.reel.slot) × All IsFilledHere j.filled
+
+  -- an event is on tapes in slots that are here, and so are those of the dump behind it
+  abbrev pub StaysHere : Event → Type 0
   StaysHere e = TouchesHere present e.effects × IsHere e.job
 
   begun_reel : (label : Option LabelFields) (reel : Reel) → IsTrue (present reel.slot) → IsTrue (present (reel_begun label reel).slot)
@@ -209,10 +193,10 @@ module _ (present : ℕ → Bool) where
   begun_reel (Some a) reel here = here
 
   putting_here : (items : List TapeItem) (j next : JobFields) → IsHere j → IsHere next → StaysHere (putting items j next)
-  putting_here items j next here then_here = (puts_here present j.reel.slot here items, then_here)
+  putting_here items j next here then_here = (puts_here present j.reel.slot here.0 items, then_here)
 
   tape_here : (uses : ℕ) (j : JobFields) → IsHere j → StaysHere (tape_event uses j)
-  tape_here uses j here = ((here, puts_here present j.reel.slot here (tape_items uses j)), begun_reel j.label j.reel here)
+  tape_here uses j here = ((here.0, puts_here present j.reel.slot here.0 (tape_items uses j)), (begun_reel j.label j.reel here.0, here.1))
 
   clone_here : (e : Option VolEntry) (c : Option Taken) (j : JobFields) → IsHere j → StaysHere (clone_by e c j)
   clone_here (Some e) (Some c) j here = (tt, here)
@@ -229,13 +213,17 @@ module _ (present : ℕ → Bool) where
 
   closing_here : (items : List TapeItem) (changes : List Change) (size : ℕ) (j next : JobFields) (told : StepAnswer) (refused : JobFields) → IsHere j → IsHere next → IsHere refused → StaysHere (closing items changes size j next told refused)
   closing_here items changes size j next told refused here then_here else_here = (
-    both present (puts_on j.reel.slot items) (committing (made_of size changes)) (puts_here present j.reel.slot here items) (commit_here (made_of size changes)),
+    both present (puts_on j.reel.slot items) (committing (made_of size changes)) (puts_here present j.reel.slot here.0 items) (commit_here (made_of size changes)),
     picked IsHere (is_too_long size changes) refused next else_here then_here,
   )
 
+  -- with the part in hand among those that are ended
+  with_part : (j : JobFields) → IsHere j → All IsFilledHere (with_filled j)
+  with_part j here = (let part : Filled = record { slot = j.reel.slot; part = closed_part j } in All-append IsFilledHere j.filled (part ∷ []) here.1 (All-cons IsFilledHere part [] here.0 (All-nil IsFilledHere)))
+
   choice_here : (cut : Bool) (o : Option Chosen) (size : ℕ) (j : JobFields) → IsHere j → ((c : Chosen) → o ≡ Some c → IsTrue (present c.slot)) → StaysHere (part_end_by cut o size j)
-  choice_here cut None size j here next = (puts_here present j.reel.slot here (part_end_items 1 j), here)
-  choice_here cut (Some c) size j here next = closing_here (part_end_items 1 j) (next_changes (Some c)) size j (part_passed cut c j) answers.More (part_refused j) here (next c refl) here
+  choice_here cut None size j here next = (puts_here present j.reel.slot here.0 (part_end_items 1 j), here)
+  choice_here cut (Some c) size j here next = closing_here (part_end_items 1 j) (next_changes (Some c)) size j (part_passed cut c j) answers.More (part_refused j) here (next c refl, with_part j here) here
 
   one_event : (b : Bool) (d e : Event) → StaysHere d → StaysHere e → StaysHere (if b then d else e)
   one_event = picked StaysHere
@@ -272,7 +260,7 @@ module _ (present : ℕ → Bool) where
 -- ---- a dump
 
 module _ (s : Scene) where
-  event_here : (p : Point) → IsHere s.present p.job → StaysHere s.present (next_event s p)
+  pub event_here : (p : Point) → IsHere s.present p.job → StaysHere s.present (next_event s p)
   event_here p here = phase_here s.present (around s p) p.job here (λ c is. next_here s.slots s.present p.state.tape (after p.log).listed p.job c is) p.job.phase
 
   more_here : (more : Bool) (p : Point) (e : Event) (rest : Course) → TouchesHere s.present e.effects → TouchesHere s.present rest.effects → TouchesHere s.present (if more then event_then e rest else last_event p e).effects
@@ -292,7 +280,7 @@ module _ (s : Scene) where
 
   begun_here : (o : DumpOrder) (t : FirstTape) → tape_for s o ≡ Ok t → TouchesHere s.present (begun s o t).effects
   unfolding begun
-  begun_here o t is = course_here (begun_point s o t) (first_here s o t is)
+  begun_here o t is = course_here (begun_point s o t) (first_here s o t is, All-nil (IsFilledHere s.present))
 
   by_tape : (o : DumpOrder) (r : Result FirstTape JobFault) → tape_for s o ≡ r → TouchesHere s.present (begun_or s o r).effects
   by_tape o (Ok t) is = begun_here o t is
@@ -312,110 +300,6 @@ module _ (s : Scene) where
   by_port a (Err text) = tt
   by_port a (Ok port) = by_trial (order_of s.config (database_in s) (entries_in s) s.time a port) a.trial
 
-  answer_here : (a : DumpCommand) → TouchesHere s.present (dump_answer s a).effects
+  pub answer_here : (a : DumpCommand) → TouchesHere s.present (dump_answer s a).effects
   unfolding dump_answer
   answer_here a = by_port a (asked_port s.config (database_in s) a)
-
--- ---- the turns of the other commands
-
-module _ (present : ℕ → Bool) where
-  one_turn : (b : Bool) (s t : Turn) → TouchesHere present s.effects → TouchesHere present t.effects → TouchesHere present (if b then s else t).effects
-  one_turn = picked (λ (t : Turn). TouchesHere present t.effects)
-
-  one_step : (b : Bool) (s t : Step) → TouchesHere present s.turn.effects → TouchesHere present t.turn.effects → TouchesHere present (if b then s else t).turn.effects
-  one_step = picked (λ (s : Step). TouchesHere present s.turn.effects)
-
-  added_here : (w : World) (d : DumpRecordFields) → TouchesHere present (added w d).turn.effects
-  added_here w d = one_step (nat_lt 268435456 (length_with w (change.Found d ∷ []))) _ _ tt tt
-
-  one_here : (w : World) (full : Bool) (d : DumpRecordFields) → TouchesHere present (added_if w full d).turn.effects
-  one_here w full d = one_step (has_dump (after w.log).listed d.id) _ _ tt (one_step (has_wrong_parent d) _ _ tt (one_step full _ _ tt (added_here w d)))
-
-  steps_here : (w : World) (s : Step) (ds : List DumpRecordFields) → TouchesHere present s.turn.effects → TouchesHere present (fold (with_dump w) s ds).turn.effects
-  steps_here w s [] so_far = so_far
-  steps_here w s (d ∷ ds) so_far =
-      let now = before_reply w s.turn in
-      steps_here w (with_dump w s d) ds (both present s.turn.effects (added_if now s.full d).turn.effects so_far (one_here now s.full d))
-
-  adding_here : (w : World) (ds : List DumpRecordFields) → TouchesHere present (adding w ds).turn.effects
-  unfolding adding
-  adding_here w ds = steps_here w (says w false []) ds tt
-
-  dumps_here : (w : World) (dbadd : Bool) (ds : List DumpRecordFields) → TouchesHere present (dumps_turn w dbadd ds).effects
-  dumps_here w true ds = adding_here w ds
-  dumps_here w false ds = tt
-
-  scanned_here : (w : World) (dbadd : Bool) (slots : List ℕ) → TouchesHere present (slots_turn w dbadd slots).effects
-  unfolding slots_turn
-  scanned_here w dbadd slots = dumps_here w dbadd (found_in (scans_of w.state.tape slots)).whole
-
-  scan_here : (w : World) (dbadd : Bool) (port : Result PortFields (List ℕ)) → TouchesHere present (scan_turn w dbadd port).effects
-  scan_here w dbadd (Err text) = tt
-  scan_here w dbadd (Ok port) = scanned_here w dbadd (slots_here w.setting.present port)
-
-  labeled_here : (w : World) (slot : ℕ) → IsTrue (present slot) → (a : LabelFields) (changes : List Change) → TouchesHere present (labeled w slot a changes).effects
-  labeled_here w slot here a [] = (here, (here, (here, (here, tt))))
-  labeled_here w slot here a (c ∷ cs) = one_turn (nat_lt 268435456 (length_with w (c ∷ cs))) _ _ tt (here, (here, (here, (here, tt))))
-
-  label_here : (w : World) (name pname : Option (List ℕ)) (r : Result ℕ (List ℕ)) → IfOk r (λ k. IsTrue (present k)) → TouchesHere present (label_turn w name pname r).effects
-  label_here w name pname (Err text) here = tt
-  label_here w name pname (Ok slot) here = labeled_here w slot here (new_label (label_of (w.state.tape slot)) name pname) (taken (after w.log).listed (label_of (w.state.tape slot)))
-
-  read_here : (w : World) (r : Result ℕ (List ℕ)) → TouchesHere present (read_turn w r).effects
-  read_here w (Err text) = tt
-  read_here w (Ok slot) = tt
-
-  carried_here : (w : World) (v : Verdict) → TouchesHere present (carried w v).effects
-  carried_here w (Refuses text) = tt
-  carried_here w (Shows text) = tt
-  carried_here w (Makes changes text) = one_turn (nat_lt 268435456 (length_with w changes)) _ _ tt tt
-  carried_here w Shortens = one_turn (nat_lt 268435456 (length (encoded (checkpoint (after w.log))))) _ _ tt tt
-
--- ---- the commands
-
-module _ (w : World) where
-  tape_turn_here : (command : TapeCommand) → TouchesHere w.setting.present (tape_turn w command).effects
-  tape_turn_here (Labeltape name pname offset slot) = label_here w.setting.present w name pname (slot_of w.setting (after w.log).hosts offset slot) (slot_is_here w.setting (after w.log).hosts offset slot)
-  tape_turn_here (Readlabel offset slot) = read_here w.setting.present w (slot_of w.setting (after w.log).hosts offset slot)
-  tape_turn_here (Scantape dbadd offset) = scan_here w.setting.present w dbadd (port_of w.setting.config (after w.log).hosts offset)
-
-  done_here : (command : Command) → TouchesHere w.setting.present (done w command).effects
-  done_here (commands.Database command) = carried_here w.setting.present w (verdict (after w.log) command)
-  done_here (commands.Tape command) = tape_turn_here command
-  done_here (commands.Cell command) = tt
-  done_here (commands.Dump command) = answer_here (scene_of w) command
-  done_here (commands.Restore command) = tt
-
-turn_here : (w : World) (now : ℕ) (command : Command) → TouchesHere w.setting.present (turn w now command).effects
-unfolding turn
-turn_here w now command = done_here (at_moment w now) command
-
--- ---- scripts
-
-line_here : (w : World) (ms : List ℕ) (item : Item) → TouchesHere w.setting.present (one_line w ms item).effects
-line_here w ms Silent = tt
-line_here w ms Quit = tt
-line_here w ms (Refused text) = tt
-line_here w ms (Runs command) = both w.setting.present (turn w (first_of ms) command).effects (tells (turn w (first_of ms) command).reply ∷ []) (turn_here w (first_of ms) command) tt
-
-line_setting : (w : World) (ms : List ℕ) (item : Item) → (one_line w ms item).world.setting ≡ w.setting
-line_setting w ms Silent = refl
-line_setting w ms Quit = refl
-line_setting w ms (Refused text) = refl
-line_setting w ms (Runs command) = refl
-
-lines_here : (present : ℕ → Bool) (goes : Bool) (s t : Outcome) → TouchesHere present s.effects → TouchesHere present t.effects → TouchesHere present (if goes then then_outcome s t else s).effects
-lines_here present true s t first others = both present s.effects t.effects first others
-lines_here present false s t first others = first
-
-script_here : (w : World) (ms : List ℕ) (lines : List (List ℕ)) → TouchesHere w.setting.present (script w ms lines).effects
-unfolding script
-script_here w ms [] = tt
-script_here w ms (line ∷ lines) =
-    let s : Outcome = one_line w ms (item_of line) in
-    let rest : TouchesHere w.setting.present (script s.world s.moments lines).effects =
-    subst (λ (x : Setting). TouchesHere x.present (script s.world s.moments lines).effects) (line_setting w ms (item_of line)) (script_here s.world s.moments lines) in
-    lines_here w.setting.present s.goes s (script s.world s.moments lines) (line_here w ms (item_of line)) rest
-
-pub absent_tapes_stay : (w : World) (moments : List ℕ) (lines : List (List ℕ)) (k : ℕ) → (IsTrue (w.setting.present k) → ⊥) → let s = come (script w moments lines).effects w.state in (s.tape k ≡ w.state.tape k) × (s.settled k ≡ w.state.settled k)
-absent_tapes_stay w moments lines k absent = stays w.setting.present k absent (script w moments lines).effects w.state (script_here w moments lines)

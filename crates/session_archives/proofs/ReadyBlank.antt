@@ -25,6 +25,7 @@ use Rattle.archive_model.proofs.FairLaws.{of_flat}
 use Rattle.archive_model.proofs.HeldLaws.{blank_holds}
 use Rattle.cell_core.specs.Forms.{IsVolumeForm}
 use Rattle.backup_session.specs.Worlds.{World, archive_of}
+use Rattle.group_laws.specs.Forms.{ArePortsApart}
 use Rattle.session_archives.specs.Ready.{IsReady}
 use Rattle.session_archives.proofs.Slots.{slot_told}
 use Rattle.session_archives.proofs.Images.{slots_blank}
@@ -49,8 +50,8 @@ module _ (w : World) (empty : w.log ≡ []) (nothing : IsNothing (seen_in w.stat
 
   pub blank_ready : IsCellForm w.cell → Fair w.cell [] w.time → NoneIsMadeAfter w.time w.cell → NoSourceHasBackupName w.cell → IsFour w.time
       → ((id : ℕ) (name : List ℕ) (volume : VolumeFields) → w.contents id name ≡ Ok volume → IsVolumeForm volume) → IsMaybe IsHost (name_or_nothing w.setting.config.cell)
-      → ((offset : ℕ) (port : PortFields) → port_in offset w.setting.config.entries ≡ Some port → port.capacity ≤ 4000000000) → IsReady w
-  blank_ready form fair made named four volumes name ports = record {
+      → ((offset : ℕ) (port : PortFields) → port_in offset w.setting.config.entries ≡ Some port → port.capacity ≤ 4000000000) → ArePortsApart w.setting.config.entries → IsReady w
+  blank_ready form fair made named four volumes name ports apart = record {
     order = record {
       form = form;
       four = four;
@@ -66,4 +67,5 @@ module _ (w : World) (empty : w.log ≡ []) (nothing : IsNothing (seen_in w.stat
     };
     name = name;
     ports = ports;
+    apart = apart;
   }

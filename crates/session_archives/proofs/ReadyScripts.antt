@@ -6,7 +6,7 @@ use Rattle.backup_words.specs.declared.faults.WordFault.{WordFault}
 use Rattle.backup_words.specs.Commands.{command_of}
 use Rattle.byte_formats.specs.Forms.{IsFour}
 use Rattle.media_core.specs.Later.{later}
-use Rattle.backup_session.specs.Worlds.{World, Contents, archive_of, with_told}
+use Rattle.backup_session.specs.Worlds.{World, Contents, archive_of, at_moment, with_told}
 use Rattle.backup_session.proofs.Room.{full_true, room_false}
 use Rattle.backup_script.specs.declared.item.Item.{Item}
 use Rattle.backup_script.specs.declared.item.Item.TheVariants.{Silent, Quit, Runs, Refused}
@@ -16,12 +16,13 @@ use Rattle.backup_script.specs.Scripts.{first_of, Outcome, then_outcome, one_lin
 use Rattle.backup_script.specs.Held.{IfItGoes, IsHeldThroughout}
 use Rattle.command_forms.specs.NewNames.{NamesApart}
 use Rattle.command_forms.proofs.NewNames.{line_apart}
-use Rattle.script_journals.specs.Dumping.{dumps_among}
+use Rattle.script_journals.specs.Dumping.{item_asks_dump, dumps_among}
 use Rattle.script_journals.proofs.Scripts.{ItemForms, item_forms}
 use Rattle.script_journals.proofs.DumpingScripts.{dump_here, dump_later}
 use Rattle.session_archives.specs.Held.{HoldsWorld, contents_on, RepliesSettle}
-use Rattle.session_archives.specs.Ready.{IsReady, RestoresApartOn, RestoresApartThroughout, left_behind, time_by, time_at_first, at_first, IsReadyFor}
+use Rattle.session_archives.specs.Ready.{IsReady, RestoresApartOn, RestoresApartThroughout, FitsBackOn, FitsBackThroughout, left_behind, time_by, time_at_first, at_first, IsReadyFor}
 use Rattle.session_archives.proofs.Orders.{moment_four, order_later}
+use Rattle.session_archives.proofs.BackLines.{fits_throughout}
 use Rattle.session_archives.proofs.Leading.{Leads, leads_nowhere, leads_then}
 use Rattle.session_archives.proofs.TurnLeads.{Lower, finds_of}
 use Rattle.session_archives.proofs.Scripts.{ReadyForItem, line_leads, line_holds, line_finds}
@@ -58,6 +59,17 @@ if_it_goes : (b : Bool) (Here : Type 0) → IfItGoes b Here → b ≡ true → H
 if_it_goes true Here here is = here
 if_it_goes false Here here is = absurd cc
 
+-- what is read back on the first line fits the media, and so it does on those behind it
+first_fits : (w : World) (ms line : List ℕ) (lines : List (List ℕ)) → FitsBackThroughout w ms (line ∷ lines) → FitsBackOn (at_moment w (first_of ms)) (item_of line)
+unfolding FitsBackThroughout
+first_fits w ms line lines fits = fits.0
+
+further_fits : (w : World) (ms line : List ℕ) (lines : List (List ℕ)) → FitsBackThroughout w ms (line ∷ lines) → let s = one_line w ms (item_of line) in s.goes ≡ true → FitsBackThroughout s.world s.moments lines
+unfolding FitsBackThroughout
+further_fits w ms line lines fits goes =
+    let s = one_line w ms (item_of line) in
+    if_it_goes s.goes (FitsBackThroughout s.world s.moments lines) fits.1 goes
+
 -- ---- contents on the way
 
 -- what dumps have behind a line that goes on or not, and behind those after it
@@ -75,10 +87,10 @@ further w s rest later false first second = first
 -- ---- lines
 
 told_ready : (w : World) (text : List ℕ) (time : ℕ) → IsReady (record w { time = time }) → IsReady (record (with_told w text) { time = time })
-told_ready w text time ready = record { order = ready.order; name = ready.name; ports = ready.ports }
+told_ready w text time ready = record { order = ready.order; name = ready.name; ports = ready.ports; apart = ready.apart }
 
 ready_now : (w : World) → IsReady (record w { time = w.time }) → IsReady w
-ready_now w ready = record { order = ready.order; name = ready.name; ports = ready.ports }
+ready_now w ready = record { order = ready.order; name = ready.name; ports = ready.ports; apart = ready.apart }
 
 -- the time at the first command is no earlier, and has four bytes
 pub time_later : (time : ℕ) (ms : List ℕ) (lines : List (List ℕ)) → time ≤ time_at_first time ms lines
@@ -109,18 +121,19 @@ ready_at_first w ms lines ready = record {
   order = order_later w.cell w.time (time_at_first w.time ms lines) (archive_of w) ready.order (time_later w.time ms lines) (time_four w.time ms lines ready.order.four);
   name = ready.name;
   ports = ready.ports;
+  apart = ready.apart;
 }
 
 module _ (laws : Lower) where
   -- what stands behind a line is ready at the first command of those after it
   line_ready : (w : World) (ms : List ℕ) (lines : List (List ℕ)) → HoldsWorld w → (item : Item) → IsReady (record w { time = time_by w.time ms item (time_at_first w.time (left_behind ms item) lines) }) → ItemForms item → ItemApart item → RestoresApartOn w item
-      → let s = one_line w ms item in s.goes ≡ true → IsReady (at_first s.world s.moments lines)
-  line_ready w ms lines held Silent ready forms named apart goes = ready
-  line_ready w ms lines held Quit ready forms named apart goes = absurd cc
-  line_ready w ms lines held (Refused text) ready forms named apart goes = told_ready w text (time_at_first w.time (later ms) lines) ready
-  line_ready w ms lines held (Runs command) ready forms named apart goes =
+      → FitsBackOn (at_moment w (first_of ms)) item → let s = one_line w ms item in s.goes ≡ true → IsReady (at_first s.world s.moments lines)
+  line_ready w ms lines held Silent ready forms named apart back goes = ready
+  line_ready w ms lines held Quit ready forms named apart back goes = absurd cc
+  line_ready w ms lines held (Refused text) ready forms named apart back goes = told_ready w text (time_at_first w.time (later ms) lines) ready
+  line_ready w ms lines held (Runs command) ready forms named apart back goes =
       let s = one_line w ms (Runs command) in
-      ready_at_first s.world s.moments lines (turn_ready laws w (first_of ms) held ready command forms named apart)
+      ready_at_first s.world s.moments lines (turn_ready laws w (first_of ms) held ready command forms named apart back)
 
   -- and ready where the script ends there
   line_ends : (w : World) (ms : List ℕ) (further : ℕ) → HoldsWorld w → (item : Item) → IsReady (record w { time = time_by w.time ms item further }) → ItemForms item → ItemApart item → RestoresApartOn w item → let s = one_line w ms item in s.goes ≡ false → IsReady s.world
@@ -130,7 +143,7 @@ module _ (laws : Lower) where
   line_ends w ms further held (Runs command) ready forms named apart ends = absurd cc
 
   -- a line that dumps finds a world that is ready at its moment
-  line_finds_ready : (w : World) (ms : List ℕ) (further : ℕ) (item : Item) → IsReady (record w { time = time_by w.time ms item further }) → ReadyForItem w ms item
+  line_finds_ready : (w : World) (ms : List ℕ) (further : ℕ) (item : Item) → IsReady (record w { time = time_by w.time ms item further }) → item_asks_dump item ≡ true → IsReady (at_moment w (first_of ms))
   line_finds_ready w ms further Silent ready asks = absurd cc
   line_finds_ready w ms further Quit ready asks = absurd cc
   line_finds_ready w ms further (Refused text) ready asks = absurd cc
@@ -139,18 +152,30 @@ module _ (laws : Lower) where
   -- ---- what is asked of the world on the way
 
   module _ (w : World) (ms : List ℕ) (line : List ℕ) (lines : List (List ℕ)) (ready : IsReadyFor w ms (line ∷ lines)) where
+    fits : FitsBackThroughout w ms (line ∷ lines)
+    fits = fits_throughout w ms (line ∷ lines) ready.back
+
     -- in front of the first line
     ready_first : ReadyForItem w ms (item_of line)
     unfolding time_at_first
-    ready_first asks = line_finds_ready w ms (time_at_first w.time (left_behind ms (item_of line)) lines) (item_of line) (ready (dump_here (item_of line) (dumps_among lines) asks)).0 asks
+    ready_first = record {
+      ready = λ asks. line_finds_ready w ms (time_at_first w.time (left_behind ms (item_of line)) lines) (item_of line) (ready.dumps (dump_here (item_of line) (dumps_among lines) asks)).0 asks;
+      back = first_fits w ms line lines fits;
+    }
 
     -- and behind it
     ready_further : HoldsWorld w → let s = one_line w ms (item_of line) in s.goes ≡ true → IsReadyFor s.world s.moments lines
     unfolding RestoresApartThroughout time_at_first
-    ready_further held goes asks =
+    ready_further held goes =
         let s = one_line w ms (item_of line) in
-        let both = ready (dump_later w ms (item_of line) (dumps_among lines) goes asks) in
-        (line_ready w ms lines held (item_of line) both.0 (item_forms line) (item_apart line) both.1.0 goes, if_it_goes s.goes (RestoresApartThroughout s.world s.moments lines) both.1.1 goes)
+        record {
+          dumps = λ asks.
+              (let both = ready.dumps (dump_later w ms (item_of line) (dumps_among lines) goes asks) in (
+                line_ready w ms lines held (item_of line) both.0 (item_forms line) (item_apart line) both.1.0 (first_fits w ms line lines fits) goes,
+                if_it_goes s.goes (RestoresApartThroughout s.world s.moments lines) both.1.1 goes,
+              ));
+          back = λ reads. further_fits w ms line lines fits goes;
+        }
 
   -- ---- scripts
 
@@ -198,13 +223,15 @@ module _ (laws : Lower) where
   further_ready s rest true first second = second refl
   further_ready s rest false first second = first refl
 
-  pub script_ready : (w : World) (ms : List ℕ) (lines : List (List ℕ)) → RestoresApartThroughout w ms lines → HoldsWorld w → IsReady (at_first w ms lines) → IsReady (script w ms lines).world
+  pub script_ready : (w : World) (ms : List ℕ) (lines : List (List ℕ)) → RestoresApartThroughout w ms lines → FitsBackThroughout w ms lines → HoldsWorld w → IsReady (at_first w ms lines) → IsReady (script w ms lines).world
   unfolding script RestoresApartThroughout time_at_first
-  script_ready w ms [] apart held ready = ready_now w ready
-  script_ready w ms (line ∷ lines) apart held ready =
+  script_ready w ms [] apart back held ready = ready_now w ready
+  script_ready w ms (line ∷ lines) apart back held ready =
       let s = one_line w ms (item_of line) in
+      let here = first_fits w ms line lines back in
       let later_on = time_at_first w.time (left_behind ms (item_of line)) lines in
       further_ready s (script s.world s.moments lines) s.goes
       (λ ends. line_ends w ms later_on held (item_of line) ready (item_forms line) (item_apart line) apart.0 ends)
-      (λ goes. script_ready s.world s.moments lines (if_it_goes s.goes (RestoresApartThroughout s.world s.moments lines) apart.1 goes) (line_holds laws w ms held (item_of line) (item_forms line) (line_finds_ready w ms later_on (item_of line) ready))
-      (line_ready w ms lines held (item_of line) ready (item_forms line) (item_apart line) apart.0 goes))
+      (λ goes. script_ready s.world s.moments lines (if_it_goes s.goes (RestoresApartThroughout s.world s.moments lines) apart.1 goes) (further_fits w ms line lines back goes)
+      (line_holds laws w ms held (item_of line) (item_forms line) (record { ready = line_finds_ready w ms later_on (item_of line) ready; back = here }))
+      (line_ready w ms lines held (item_of line) ready (item_forms line) (item_apart line) apart.0 here goes))

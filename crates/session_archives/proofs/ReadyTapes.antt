@@ -97,7 +97,6 @@ relabeled b old r =
 module _ (reads : Reads) (a : LabelFields) (fit : FitsLabel a) where
   bare_label : IsBare (items_of (block_with (spelling (Label a)) ∷ mark ∷ []))
   bare_label = record {
-    short = omega arith;
     no_head = no_head;
   }
     where

@@ -63,7 +63,7 @@ line_settles laws w ms held (Refused text) forms ready = one_reply w text held.s
 line_settles laws w ms held (Runs command) forms ready =
     let t = turn w (first_of ms) command in
     settle_both w (before_reply w t) t.effects (tells t.reply ∷ []) refl (no_reply w t.effects (turn_silent w (first_of ms) command))
-    (one_reply (before_reply w t) t.reply (turn_leads laws w (first_of ms) held command forms ready).finds.settled)
+    (one_reply (before_reply w t) t.reply (turn_leads laws w (first_of ms) held command forms (record { ready = ready.ready; back = ready.back })).finds.settled)
 
 -- lines behind one that goes on
 pub further_settles : (w : World) (s rest : Outcome) (b : Bool) → s.world.state ≡ come s.effects w.state → RepliesSettle w s.effects → (b ≡ true → RepliesSettle s.world rest.effects) → RepliesSettle w (if b then then_outcome s rest else s).effects

@@ -9,9 +9,10 @@ use Rattle.budb_fold.specs.declared.database.Database.{Database}
 use Rattle.budb_fold.specs.Database.{after}
 use Rattle.budb_fold.specs.Checkpoints.{checkpoint}
 use Rattle.budb.proofs.FoldForms.{forms_after, checkpoint_form}
+use Rattle.backup_words.specs.declared.command.Command.TheVariants.{Tape}
 use Rattle.backup_words.specs.declared.command.DatabaseCommand.{DatabaseCommand}
 use Rattle.backup_words.specs.declared.command.TapeCommand.{TapeCommand}
-use Rattle.backup_words.specs.declared.command.TapeCommand.TheVariants.{Labeltape, Readlabel, Scantape}
+use Rattle.backup_words.specs.declared.command.TapeCommand.TheVariants.{Labeltape, Readlabel, Scantape, Savedb, Restoredb}
 use Rattle.backup_session.specs.declared.verdict.Verdict.{Verdict}
 use Rattle.backup_session.specs.declared.verdict.Verdict.TheVariants.{Refuses, Makes, Shortens, Shows}
 use Rattle.backup_session.specs.Worlds.{World}
@@ -35,6 +36,9 @@ use Rattle.session_archives.proofs.Kept.{Reads, TurnKeeps, Finds, said_keeps, pi
 use Rattle.session_archives.proofs.Labels.{label_keeps, slot_is_here}
 use Rattle.backup_session.proofs.FoundForms.{found_forms}
 use Rattle.session_archives.proofs.Scans.{Assembles, HaveForms, scan_keeps}
+use Rattle.session_archives.specs.Ready.{FitsBackFor}
+use Rattle.session_archives.proofs.ReadingBack.{back_keeps}
+use Rattle.session_archives.proofs.SavedTurns.{save_keeps}
 use Rattle.session_archives.proofs.Verdicts.{AreMild, IsMild, verdict_mild}
 
 -- a checkpoint makes the same database again
@@ -95,13 +99,15 @@ forms_found w has (Err text) = tt
 forms_found w has (Ok port) = found_forms w has port
 
 module _ (reads : Reads) (assembles : Assembles) (same : MakesSame) (w : World) (has : HasTapes w) (finds : Finds w) where
-  pub tape_keeps : (command : TapeCommand) → TapeForms command → TurnKeeps w (tape_turn w command)
-  tape_keeps (Labeltape name pname offset slot) form =
+  pub tape_keeps : (command : TapeCommand) → TapeForms command → FitsBackFor w (Tape command) → TurnKeeps w (tape_turn w command)
+  tape_keeps (Labeltape name pname offset slot) form back =
       label_keeps reads w finds name pname form.0 form.1 (slot_of w.setting (after w.log).hosts offset slot) (slot_is_here w.setting (after w.log).hosts offset slot)
-  tape_keeps (Readlabel offset slot) form = read_keeps w finds (slot_of w.setting (after w.log).hosts offset slot)
-  tape_keeps (Scantape dbadd offset) form =
+  tape_keeps (Readlabel offset slot) form back = read_keeps w finds (slot_of w.setting (after w.log).hosts offset slot)
+  tape_keeps (Scantape dbadd offset) form back =
       let port = port_of w.setting.config (after w.log).hosts offset in
       scan_keeps assembles w dbadd port finds (forms_found w has port)
+  tape_keeps (Savedb offset) form back = save_keeps reads w finds (port_of w.setting.config (after w.log).hosts offset)
+  tape_keeps (Restoredb offset) form back = back_keeps w finds (port_of w.setting.config (after w.log).hosts offset) back
 
   pub database_keeps : (command : DatabaseCommand) → DatabaseForms command → TurnKeeps w (carried w (verdict (after w.log) command))
   database_keeps command form =

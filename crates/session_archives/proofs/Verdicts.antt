@@ -13,7 +13,7 @@ use Rattle.budb_fold.specs.Database.{has_port, has_dump}
 use Rattle.budb_fold.specs.Lookups.{record_of}
 use Rattle.archive_model.specs.Turns.{AllUntouched}
 use Rattle.backup_words.specs.declared.command.DatabaseCommand.{DatabaseCommand}
-use Rattle.backup_words.specs.declared.command.DatabaseCommand.TheVariants.{Addvolset, Delvolset, Addvolentry, Delvolentry, Listvolsets, Adddump, Setexp, Deldump, Listdumps, Addhost, Delhost, Listhosts, Checkpoint, Deletedump, Dumpinfo, Volinfo}
+use Rattle.backup_words.specs.declared.command.DatabaseCommand.TheVariants.{Addvolset, Delvolset, Addvolentry, Delvolentry, Listvolsets, Adddump, Setexp, Deldump, Listdumps, Addhost, Delhost, Listhosts, Checkpoint, Deletedump, Dumpinfo, Volinfo, Dbverify}
 use Rattle.backup_session.specs.declared.verdict.Verdict.{Verdict}
 use Rattle.backup_session.specs.declared.verdict.Verdict.TheVariants.{Refuses, Makes, Shortens, Shows}
 use Rattle.backup_session.specs.Levels.{first_known, first_unfounded, first_missing}
@@ -93,4 +93,5 @@ verdict_mild db Listdumps = tt
 verdict_mild db (Deletedump id) = dump_mild db.listed id (record_of db.listed id)
 verdict_mild db (Dumpinfo count id) = dumps_mild db.listed count id
 verdict_mild db (Volinfo name) = tt
+verdict_mild db Dbverify = tt
 verdict_mild db Checkpoint = tt

@@ -17,15 +17,17 @@ use Rattle.backup_script.specs.Items.{item_of}
 use Rattle.backup_script.specs.Scripts.{one_line}
 use Rattle.dump_forms.specs.Journals.{IsJournalAfter}
 use Rattle.dump_archives.specs.Keeping.{KnowsIds}
+use Rattle.script_journals.specs.Worlds.{HasGroupForm}
 
 -- Between two commands: the plant holds the archive of the world; all is settled; the slots that are here are some of the plant's; and the
--- tapes are as long as a plant's are.
+-- tapes are as long as a plant's are. The dumps that an open group holds have their forms.
 pub record HoldsWorld (w : World) : Type 0 where
   pub records : List DumpRecordFields
   pub holds : HoldsSettled w.state (archive_of w) records
   pub settled : IsSettled w.state
   pub within : (k : ℕ) → IsTrue (w.setting.present k) → k < w.setting.slots
   pub tapes : HasTapes w
+  pub group : HasGroupForm w.groups.open
 
 -- The archive of changes and of tapes, in the slots of a world and with these contents.
 abbrev pub archive_with : World → Contents → List Change → (ℕ → List Record) → Archive

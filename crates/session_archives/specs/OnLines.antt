@@ -1,5 +1,5 @@
 -- COMMANDS ON THE LINES OF A SCRIPT: what restores and scans are there.
-use Rattle.std.specs.Prelude.{◌≡◌, ℕ, true, List, [], ◌∷◌, ◌++◌, Option, Ok, Result, Contains}
+use Rattle.std.specs.Prelude.{◌≡◌, ℕ, true, List, [], ◌∷◌, ◌++◌, Option, None, Ok, Result, Contains}
 use Rattle.vnode_model.specs.declared.volumes.VolumeFields.{VolumeFields}
 use Rattle.plant_core.specs.Stock.{Stock}
 use Rattle.tape_config.specs.declared.port.PortFields.{PortFields}
@@ -21,13 +21,15 @@ use Rattle.backup_script.specs.declared.item.Item.TheVariants.{Runs}
 use Rattle.backup_script.specs.Items.{item_of}
 use Rattle.backup_script.specs.Scripts.{first_of, script}
 
--- A command stands on a line of a script that is run: the script goes on behind the lines before it.
+-- A command stands on a line of a script that is run, outside of a group: the script goes on behind the lines before it, and no group is open
+-- there. In a group such a line is refused.
 pub record IsOnLine (w : World) (moments : List ℕ) (lines before : List (List ℕ)) (command : Command) : Type 0 where
   pub line : List ℕ
   pub more : List (List ℕ)
   pub are : lines ≡ before ++ line ∷ more
   pub goes : (script w moments before).goes ≡ true
   pub is : item_of line ≡ Runs command
+  pub alone : (script w moments before).world.groups.open ≡ None
 
 -- the world behind these lines, and the moment that the next command uses
 abbrev pub world_behind : World → List ℕ → List (List ℕ) → World

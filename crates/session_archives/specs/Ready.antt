@@ -1,5 +1,5 @@
--- WHAT DUMPS ASK OF A WORLD beside the archive that its plant holds.
-use Rattle.std.specs.Prelude.{◌≡◌, ℕ, ◌≤◌, Bool, true, false, List, [], ◌∷◌, map, min, max, Option, Some, None, All}
+-- WHAT DUMPS ASK OF A WORLD beside the archive that its plant holds, and what a saved database asks that is read back.
+use Rattle.std.specs.Prelude.{◌≡◌, ℕ, ◌≤◌, Bool, true, false, List, [], ◌∷◌, ◌++◌, map, min, max, Option, Some, None, All}
 use Rattle.media_core.specs.Later.{later}
 use Rattle.bk_text.specs.Alphabets.{IsHost}
 use Rattle.byte_formats.specs.Forms.{IsFour, IsMaybe}
@@ -8,12 +8,17 @@ use Rattle.cell_core.specs.Fairness.{Fair, NoneIsMadeAfter, NoSourceHasBackupNam
 use Rattle.cell_forms.specs.Forms.{IsCellForm}
 use Rattle.tape_config.specs.declared.port.PortFields.{PortFields}
 use Rattle.tape_config.specs.Configs.{port_in, name_or_nothing}
+use Rattle.plant_core.specs.Effects.{commits, come}
+use Rattle.budb_changes.specs.declared.change.Change.{Change}
 use Rattle.budb_changes.specs.declared.records.DumpRecordFields.{DumpRecordFields}
+use Rattle.budb_changes.specs.Bytes.{encoded}
 use Rattle.budb_fold.specs.Database.{after}
 use Rattle.archive_model.specs.Archives.{Archive, listed_of, AreDumps}
 use Rattle.archive_model.specs.Sources.{dumped_by}
+use Rattle.archive_model.specs.Settled.{HoldsSettled}
 use Rattle.dump_commands.specs.Forms.{AreVolumes}
 use Rattle.dump_laws.specs.Beginning.{HeadsAreBelow}
+use Rattle.group_laws.specs.Forms.{ArePortsApart}
 use Rattle.volume_sets.specs.declared.sets.SetEntry.{SetEntry}
 use Rattle.volume_sets.specs.Sets.{entries_of}
 use Rattle.restore_target.specs.Targets.{target_text}
@@ -23,14 +28,15 @@ use Rattle.backup_words.specs.declared.command.RestoredVolumes.{RestoredVolumes}
 use Rattle.backup_words.specs.declared.command.RestoredVolumes.TheVariants.{One, OfDisk, OfSet}
 use Rattle.backup_words.specs.declared.command.Wanted.{Wanted}
 use Rattle.command_forms.specs.NewNames.{IsApart}
-use Rattle.backup_session.specs.Asks.{Asks, AsksNothing, AsksArchive, AsksFitness, asks, asks_dump}
-use Rattle.backup_session.specs.Worlds.{World, archive_of}
+use Rattle.backup_session.specs.Asks.{Asks, AsksNothing, AsksArchive, AsksFitness, AsksSaved, asks, asks_dump}
+use Rattle.backup_session.specs.Worlds.{World, archive_of, at_moment}
+use Rattle.backup_session.specs.Saves.{time_back, changes_back}
 use Rattle.backup_script.specs.declared.item.Item.{Item}
 use Rattle.backup_script.specs.declared.item.Item.TheVariants.{Silent, Quit, Runs, Refused}
 use Rattle.backup_script.specs.Items.{item_of}
 use Rattle.backup_script.specs.Scripts.{first_of, one_line}
 use Rattle.backup_script.specs.Held.{IfItGoes}
-use Rattle.script_journals.specs.Dumping.{dumps_among}
+use Rattle.script_journals.specs.Dumping.{dumps_among, reads_back_among}
 
 -- A cell is fit for dumps at a time, beside an archive: it is fair to what the archive's dumps have, and no read/write volume has the name of
 -- a backup volume; each id on a tape is at most the greatest id that was begun or recorded, or before the time; and what dumps have of volumes
@@ -52,12 +58,13 @@ pub record IsInOrder (cell : List Stored) (time : ℕ) (a : Archive) : Type 0 wh
 abbrev pub IsFitWorld : World → Type 0
 IsFitWorld w = IsFit w.cell w.time (archive_of w)
 
--- A world is ready for dumps: its cell is in order beside its archive, the cell's name is one of a host or left out, and tapes of a port take
--- at most 4,000,000,000 bytes.
+-- A world is ready for dumps: its cell is in order beside its archive, the cell's name is one of a host or left out, tapes of a port take at most
+-- 4,000,000,000 bytes, and two ports have no slot in common.
 pub record IsReady (w : World) : Type 0 where
   pub order : IsInOrder w.cell w.time (archive_of w)
   pub name : IsMaybe IsHost (name_or_nothing w.setting.config.cell)
   pub ports : (offset : ℕ) (port : PortFields) → port_in offset w.setting.config.entries ≡ Some port → port.capacity ≤ 4000000000
+  pub apart : ArePortsApart w.setting.config.entries
 
 -- ---- what commands are not to do
 
@@ -86,6 +93,7 @@ abbrev pub names_put : World → Asks → List (List ℕ)
 names_put w AsksNothing = []
 names_put w (AsksArchive command) = unless_trial command.trial (volume_targets w command.extension command.volumes)
 names_put w AsksFitness = []
+names_put w (AsksSaved offset) = []
 
 -- the names under which a command restores volumes of a world
 abbrev pub restored_names : World → Command → List (List ℕ)
@@ -111,9 +119,41 @@ RestoresApartThroughout w ms (line ∷ lines) =
 
 -- ---- what is asked of a world
 
--- a dump finds a world that is ready
-abbrev pub IsReadyForCommand : World → Command → Type 0
-IsReadyForCommand w command = asks_dump command ≡ true → IsReady w
+-- A saved database that is read back fits the media: with its changes behind the journal the plant holds the archive of its tapes, and the cell is
+-- fair to what the dumps have that are listed then.
+pub record FitsBack (w : World) (changes : List Change) : Type 0 where
+  pub records : List DumpRecordFields
+  pub holds : HoldsSettled (come (commits (encoded changes) ∷ []) w.state) (record (archive_of w) { log = w.log ++ changes }) records
+  pub fair : (dumps : List DumpRecordFields) → AreDumps (after (w.log ++ changes)).listed (archive_of w).slots dumps → Fair w.cell (dumped_by w.contents dumps) (time_back w changes)
+
+-- so it is where a command reads one back
+abbrev pub FitsBackWhere : World → Asks → Type 0
+FitsBackWhere w AsksNothing = Unit {0}
+FitsBackWhere w (AsksArchive command) = Unit {0}
+FitsBackWhere w AsksFitness = Unit {0}
+FitsBackWhere w (AsksSaved offset) = (changes : List Change) → changes_back w offset ≡ Some changes → FitsBack w changes
+
+-- so it is for this command: only one that reads a saved database back asks anything
+abbrev pub FitsBackFor : World → Command → Type 0
+FitsBackFor w command = FitsBackWhere w (asks command)
+
+-- so it is on a line, and on each line of a script that is run
+abbrev pub FitsBackOn : World → Item → Type 0
+FitsBackOn w Silent = Unit {0}
+FitsBackOn w Quit = Unit {0}
+FitsBackOn w (Refused text) = Unit {0}
+FitsBackOn w (Runs command) = FitsBackFor w command
+
+unfoldable pub FitsBackThroughout : World → List ℕ → List (List ℕ) → Type 0
+FitsBackThroughout w ms [] = Unit {0}
+FitsBackThroughout w ms (line ∷ lines) =
+    let s = one_line w ms (item_of line) in
+    FitsBackOn (at_moment w (first_of ms)) (item_of line) × IfItGoes s.goes (FitsBackThroughout s.world s.moments lines)
+
+-- A dump finds a world that is ready, and a saved database that is read back fits the media.
+pub record IsReadyForCommand (w : World) (command : Command) : Type 0 where
+  pub ready : asks_dump command ≡ true → IsReady w
+  pub back : FitsBackFor w command
 
 -- the moments that are left behind a line
 abbrev pub left_behind : List ℕ → Item → List ℕ
@@ -140,13 +180,15 @@ abbrev pub at_first : World → List ℕ → List (List ℕ) → World
 at_first w ms lines = record w { time = time_at_first w.time ms lines }
 
 -- Of a script that dumps on a line that is run: at its first command the world is ready, and no line that is run restores a volume under a name
--- that ends in `.backup`. Of a script without dumps nothing is asked.
-abbrev pub IsReadyFor : World → List ℕ → List (List ℕ) → Type 0
-IsReadyFor w ms lines = dumps_among lines ≡ true → IsReady (at_first w ms lines) × RestoresApartThroughout w ms lines
+-- that ends in `.backup`. Of one that reads a saved database back: it fits the media. Of other scripts nothing is asked.
+pub record IsReadyFor (w : World) (ms : List ℕ) (lines : List (List ℕ)) : Type 0 where
+  pub dumps : dumps_among lines ≡ true → IsReady (at_first w ms lines) × RestoresApartThroughout w ms lines
+  pub back : reads_back_among lines ≡ true → FitsBackThroughout w ms lines
 
 -- The same of a world that is fit: what such a script asks beside the forms of the world, which no script asks for.
-abbrev pub IsFitFor : World → List ℕ → List (List ℕ) → Type 0
-IsFitFor w ms lines = dumps_among lines ≡ true → IsFitWorld (at_first w ms lines) × RestoresApartThroughout w ms lines
+pub record IsFitFor (w : World) (ms : List ℕ) (lines : List (List ℕ)) : Type 0 where
+  pub dumps : dumps_among lines ≡ true → IsFitWorld (at_first w ms lines) × RestoresApartThroughout w ms lines
+  pub back : reads_back_among lines ≡ true → FitsBackThroughout w ms lines
 
 -- Where one of the lines that are run dumps, what dumps have of volumes are volumes of the types.
 abbrev pub AreVolumesFor : World → List (List ℕ) → Type 0

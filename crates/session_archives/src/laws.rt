@@ -25,26 +25,31 @@ ghost use Rattle.backup_script.specs.Held.{IsHeldThroughout};
 ghost use Rattle.command_forms.specs.Forms.{HasForms};
 ghost use Rattle.command_forms.specs.NewNames.{NamesApart};
 ghost use Rattle.dump_archives.specs.Keeping.{KnowsIds};
-ghost use Rattle.script_journals.specs.Worlds.{IsWorldForm};
+ghost use Rattle.group_laws.specs.Forms.{ArePortsApart};
+ghost use Rattle.script_journals.specs.Worlds.{HasGroupForm, IsWorldForm};
 ghost use Rattle.script_journals.specs.Dumping.{IsFormedFor};
 ghost use Rattle.session_archives.specs.Held.{HoldsWorld, HoldsAfter, HoldsOnTheWay, contents_on, EachKeepsListed, RepliesSettle, HoldsImage};
 ghost use Rattle.session_archives.specs.OnLines.{RestoresLookUp, ScansListWhole};
-ghost use Rattle.session_archives.specs.Ready.{IsFitWorld, IsReady, at_first, RestoresApart, RestoresApartThroughout, IsReadyForCommand, IsReadyFor, AreVolumesFor};
+ghost use Rattle.session_archives.specs.Ready.{IsFitWorld, IsReady, at_first, RestoresApart, RestoresApartThroughout, FitsBackFor, FitsBackThroughout, IsReadyForCommand, IsReadyFor, AreVolumesFor};
 
 use bk_text::form_tests;
 use budb_fold::checkpoint_makes_the_same_database;
 use dump_archives::{a_dump_keeps_the_archive, what_a_dump_asks_is_so_behind_it};
 use dump_commands::{what_a_dump_commits_has_bytes, what_a_dump_leaves_has_forms};
+use group_laws::{
+    an_end_keeps_the_archive, what_a_dump_asks_is_so_behind_an_end, what_an_end_commits_has_bytes,
+    what_an_end_leaves_has_forms,
+};
 use tape_answers::{
     a_block_is_read, a_tape_is_read, the_slots_are_scanned, the_tapes_are_assembled,
 };
-use tape_config::a_configuration_has_its_forms;
+use tape_config::{a_configuration_has_its_forms, ports_of_a_configuration_are_apart};
 use tape_frames::one_frame;
 use tape_text::one_reading;
 
 /// A command whose fields have their forms keeps the archive that the plant holds: behind it, with its reply told, and behind each of its
 /// effects on the way, already with what the dumps have behind it. None of them takes a tape from a dump that is listed behind it. A dump finds
-/// a world that is ready at its moment; of other commands nothing is asked.
+/// a world that is ready at its moment, and a saved database that is read back fits the media; of other commands nothing is asked.
 pub fn commands_keep_the_archive()
     ensures behind { (w : World) (now : ℕ) (command : Command) → HasForms command → HoldsWorld w → IsReadyForCommand (at_moment w now) command → HoldsWorld (after_turn w (turn w now command)) }
     ensures on_the_way { (w : World) (now : ℕ) (command : Command) → HasForms command → HoldsWorld w → IsReadyForCommand (at_moment w now) command → let t = turn w now command in HoldsOnTheWay w (λ count. t.contents) (t.effects ++ tells t.reply ∷ []) }
@@ -61,12 +66,16 @@ pub fn commands_keep_the_archive()
     what_a_dump_leaves_has_forms();
     a_dump_keeps_the_archive();
     what_a_dump_asks_is_so_behind_it();
+    what_an_end_commits_has_bytes();
+    what_an_end_leaves_has_forms();
+    an_end_keeps_the_archive();
+    what_a_dump_asks_is_so_behind_an_end();
 }
 
 /// A script keeps the archive that the plant holds at its start: behind all of its lines, with what the dumps have then, and behind each effect
 /// on the way, with what they have behind its line. None of them takes a tape from a dump that is listed behind it, and where a reply is told all
-/// that was put before it is settled. So each of its commands that asks the archive finds it. A script with a dump finds a world that is ready at its first command, and restores no volume under a name that ends in `.backup`; of
-/// other scripts nothing is asked.
+/// that was put before it is settled. So each of its commands that asks the archive finds it. A script with a dump finds a world that is ready at its first command, and restores no volume under a name that ends in `.backup`; where
+/// a line reads a saved database back, this fits the media; of other scripts nothing is asked.
 pub fn scripts_keep_the_archive()
     ensures behind { (w : World) (moments : AnyList ℕ) (lines : AnyList (AnyList ℕ)) → HoldsWorld w → IsReadyFor w moments lines → HoldsWorld (script w moments lines).world }
     ensures on_the_way { (w : World) (moments : AnyList ℕ) (lines : AnyList (AnyList ℕ)) → HoldsWorld w → IsReadyFor w moments lines → HoldsOnTheWay w (contents_on w moments lines) (script w moments lines).effects }
@@ -86,6 +95,10 @@ pub fn scripts_keep_the_archive()
     what_a_dump_leaves_has_forms();
     a_dump_keeps_the_archive();
     what_a_dump_asks_is_so_behind_it();
+    what_an_end_commits_has_bytes();
+    what_an_end_leaves_has_forms();
+    an_end_keeps_the_archive();
+    what_a_dump_asks_is_so_behind_an_end();
 }
 
 /// What a crash leaves behind effects holds the archive of their changes and of the tapes that are left, with what the dumps have behind these
@@ -98,41 +111,43 @@ pub fn images_hold_the_archive()
 }
 
 /// An image that holds the archive is opened to a world that holds it: one of the same slots and contents, of the changes of the image's
-/// journal and of its tapes. So a session goes on from there as if it had never been stopped. And where the ids on tapes were known to the
-/// journal, they are known to that world's.
+/// journal and of its tapes, in which the dumps of an open group have their forms; where a session begins no group is open. So a session goes
+/// on from there as if it had never been stopped. And where the ids on tapes were known to the journal, they are known to that world's.
 pub fn images_open_to_their_archive()
     ensures holds { (w : World) (contents : Contents) (effects : AnyList Effect) (image : Stock) → HoldsWorld w → (held : HoldsImage w contents effects image) → (v : World) → v.setting ≡ w.setting → v.contents ≡ contents → v.log ≡ held.changes
-        → image.log ≡ Some v.state.log → ((k : ℕ) → v.state.tape k ≡ image.tape k) → IsSettled v.state → HasTapes v → HoldsWorld v }
+        → image.log ≡ Some v.state.log → ((k : ℕ) → v.state.tape k ≡ image.tape k) → IsSettled v.state → HasTapes v → HasGroupForm v.groups.open → HoldsWorld v }
     ensures ids { (w : World) (contents : Contents) (effects : AnyList Effect) (image : Stock) → (held : HoldsImage w contents effects image) → (v : World) → v.setting ≡ w.setting → v.contents ≡ contents → v.log ≡ held.changes
         → ((k : ℕ) → v.state.tape k ≡ image.tape k) → KnowsIds (archive_of w) → KnowsIds (archive_of v) }
 {}
 
-/// A plant on which all is settled and that holds the archive of a world holds it as a command finds it.
+/// A plant on which all is settled and that holds the archive of a world holds it as a command finds it. Where a group is open its dumps have
+/// their forms.
 pub fn worlds_at_rest_hold()
-    ensures { (w : World) (records : AnyList DumpRecordFields) → Holds (seen_in w.state) (archive_of w) records → IsSettled w.state → ((k : ℕ) → IsTrue (w.setting.present k) → k < w.setting.slots) → HasTapes w → HoldsWorld w }
+    ensures { (w : World) (records : AnyList DumpRecordFields) → Holds (seen_in w.state) (archive_of w) records → IsSettled w.state → ((k : ℕ) → IsTrue (w.setting.present k) → k < w.setting.slots) → HasTapes w → HasGroupForm w.groups.open → HoldsWorld w }
 {}
 
 /// Also where records that another caller put wait to be settled a command keeps the archive that the plant holds, as reads give it, and leaves a
-/// world ready that was: its turn doesn't ask what is settled.
+/// world ready that was: its turn doesn't ask what is settled. Where a group is open its dumps have their forms.
 pub fn commands_keep_what_reads_give()
-    ensures holds { (w : World) (now : ℕ) (command : Command) (records : AnyList DumpRecordFields) → HasForms command → Holds (seen_in w.state) (archive_of w) records → ((k : ℕ) → IsTrue (w.setting.present k) → k < w.setting.slots) → HasTapes w → IsReadyForCommand (at_moment w now) command
+    ensures holds { (w : World) (now : ℕ) (command : Command) (records : AnyList DumpRecordFields) → HasForms command → Holds (seen_in w.state) (archive_of w) records → ((k : ℕ) → IsTrue (w.setting.present k) → k < w.setting.slots) → HasTapes w → HasGroupForm w.groups.open → IsReadyForCommand (at_moment w now) command
         → let v = after_turn w (turn w now command) in (behind : AnyList DumpRecordFields) × Holds (seen_in v.state) (archive_of v) behind }
-    ensures ready { (w : World) (now : ℕ) (command : Command) (records : AnyList DumpRecordFields) → HasForms command → NamesApart command → RestoresApart w command → Holds (seen_in w.state) (archive_of w) records → ((k : ℕ) → IsTrue (w.setting.present k) → k < w.setting.slots) → HasTapes w
+    ensures ready { (w : World) (now : ℕ) (command : Command) (records : AnyList DumpRecordFields) → HasForms command → NamesApart command → RestoresApart w command → FitsBackFor (at_moment w now) command → Holds (seen_in w.state) (archive_of w) records → ((k : ℕ) → IsTrue (w.setting.present k) → k < w.setting.slots) → HasTapes w → HasGroupForm w.groups.open
         → IsReady (at_moment w now) → IsReady (after_turn w (turn w now command)) }
 {
     commands_keep_the_archive();
     commands_leave_a_ready_world_ready();
 }
 
-/// Blank tapes under an empty journal hold the archive without dumps, whatever its contents are.
+/// Blank tapes under an empty journal hold the archive without dumps, whatever its contents are. Where a group is open its dumps have their
+/// forms.
 pub fn blank_worlds_hold_no_dump()
-    ensures { (w : World) → w.log ≡ [] → IsNothing (seen_in w.state) → IsSettled w.state → ((k : ℕ) → IsTrue (w.setting.present k) → k < w.setting.slots) → HasTapes w → HoldsWorld w }
+    ensures { (w : World) → w.log ≡ [] → IsNothing (seen_in w.state) → IsSettled w.state → ((k : ℕ) → IsTrue (w.setting.present k) → k < w.setting.slots) → HasTapes w → HasGroupForm w.groups.open → HoldsWorld w }
 {}
 
 /// Each command leaves a world ready that is ready for dumps at its moment, where its fields have their forms and it makes no read/write volume
-/// whose name ends in `.backup`.
+/// whose name ends in `.backup`, and a saved database that it reads back fits the media.
 pub fn commands_leave_a_ready_world_ready()
-    ensures { (w : World) (now : ℕ) (command : Command) → HasForms command → NamesApart command → RestoresApart w command → HoldsWorld w → IsReady (at_moment w now) → IsReady (after_turn w (turn w now command)) }
+    ensures { (w : World) (now : ℕ) (command : Command) → HasForms command → NamesApart command → RestoresApart w command → FitsBackFor (at_moment w now) command → HoldsWorld w → IsReady (at_moment w now) → IsReady (after_turn w (turn w now command)) }
 {
     form_tests();
     one_frame();
@@ -145,11 +160,16 @@ pub fn commands_leave_a_ready_world_ready()
     what_a_dump_leaves_has_forms();
     a_dump_keeps_the_archive();
     what_a_dump_asks_is_so_behind_it();
+    what_an_end_commits_has_bytes();
+    what_an_end_leaves_has_forms();
+    an_end_keeps_the_archive();
+    what_a_dump_asks_is_so_behind_an_end();
 }
 
-/// So does a script of one that is ready at its first command, none of whose lines restores a volume under such a name.
+/// So does a script of one that is ready at its first command, none of whose lines restores a volume under such a name, and where what its lines
+/// read back fits the media.
 pub fn scripts_leave_a_ready_world_ready()
-    ensures { (w : World) (moments : AnyList ℕ) (lines : AnyList (AnyList ℕ)) → RestoresApartThroughout w moments lines → HoldsWorld w → IsReady (at_first w moments lines) → IsReady (script w moments lines).world }
+    ensures { (w : World) (moments : AnyList ℕ) (lines : AnyList (AnyList ℕ)) → RestoresApartThroughout w moments lines → FitsBackThroughout w moments lines → HoldsWorld w → IsReady (at_first w moments lines) → IsReady (script w moments lines).world }
 {
     form_tests();
     one_frame();
@@ -162,6 +182,10 @@ pub fn scripts_leave_a_ready_world_ready()
     what_a_dump_leaves_has_forms();
     a_dump_keeps_the_archive();
     what_a_dump_asks_is_so_behind_it();
+    what_an_end_commits_has_bytes();
+    what_an_end_leaves_has_forms();
+    an_end_keeps_the_archive();
+    what_a_dump_asks_is_so_behind_an_end();
 }
 
 /// A world that is held and ready for dumps has its forms. So the journal of each script that begins in it is one of changes.
@@ -171,21 +195,23 @@ pub fn ready_worlds_have_forms()
 {}
 
 /// A world in which a session begins has its forms, by those of its configuration, its journal and its cell, where what dumps have of volumes are
-/// volumes; and at the first command of a script it is ready where it is fit for dumps then. A world that is ready is fit.
+/// volumes, and where a group is open its dumps have theirs; and at the first command of a script it is ready where it is fit for dumps then. A
+/// world that is ready is fit.
 pub fn opened_worlds_have_their_forms()
-    ensures lines { (w : World) (bytes : AnyList ℕ) (lines : AnyList (AnyList ℕ)) → config_of bytes ≡ Ok w.setting.config → HasTapes w → AreChanges w.log → IsCellForm w.cell → w.time ≡ first_time w.log w.cell → AreVolumesFor w lines → IsFormedFor w lines }
+    ensures lines { (w : World) (bytes : AnyList ℕ) (lines : AnyList (AnyList ℕ)) → config_of bytes ≡ Ok w.setting.config → HasTapes w → AreChanges w.log → IsCellForm w.cell → w.time ≡ first_time w.log w.cell → HasGroupForm w.groups.open → AreVolumesFor w lines → IsFormedFor w lines }
     ensures ready { (w : World) (bytes moments : AnyList ℕ) (lines : AnyList (AnyList ℕ)) → config_of bytes ≡ Ok w.setting.config → AreChanges w.log → IsCellForm w.cell → w.time ≡ first_time w.log w.cell → IsFitWorld (at_first w moments lines) → IsReady (at_first w moments lines) }
     ensures fit { (w : World) → IsReady w → IsFitWorld w }
 {
     a_configuration_has_its_forms();
+    ports_of_a_configuration_are_apart();
 }
 
 /// Beside blank tapes under an empty journal a world is ready whose cell has its form and is in order by itself, at a time of four bytes, in a
-/// setting whose ports take no more than they may.
+/// setting whose ports take no more than they may and have no slot in common.
 pub fn blank_worlds_are_ready()
     ensures { (w : World) → w.log ≡ [] → IsNothing (seen_in w.state) → IsCellForm w.cell → Fair w.cell [] w.time → NoneIsMadeAfter w.time w.cell → NoSourceHasBackupName w.cell → IsFour w.time
         → ((id : ℕ) (name : AnyList ℕ) (volume : VolumeFields) → w.contents id name ≡ Ok volume → IsVolumeForm volume) → IsMaybe IsHost (name_or_nothing w.setting.config.cell)
-        → ((offset : ℕ) (port : PortFields) → port_in offset w.setting.config.entries ≡ Some port → port.capacity ≤ 4000000000) → IsReady w }
+        → ((offset : ℕ) (port : PortFields) → port_in offset w.setting.config.entries ≡ Some port → port.capacity ≤ 4000000000) → ArePortsApart w.setting.config.entries → IsReady w }
 {}
 
 /// On each line of a script that is run a restore answers each volume by one look-up in the archive that it finds there.

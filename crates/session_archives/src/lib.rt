@@ -1,7 +1,7 @@
 //! Laws: a session keeps the archive that its plant holds, after each command and each script, on the way of it, and in what a crash
 //! leaves. No effect of a command takes a tape from a dump that is listed after it. What a dump asks of the world is `IsReady` in
 //! `specs/Ready.antt`. No code here runs: each law is the contract of a function without a body. Enter at `commands_keep_the_archive`,
-//! `scripts_keep_the_archive` and `images_hold_the_archive`. `lost_journals` and `backup_top` stand above; `dump_archives` and
+//! `scripts_keep_the_archive` and `images_hold_the_archive`. `lost_journals` and `backup_top` stand above; `dump_archives`, `save_laws` and
 //! `script_journals` stand below.
 #![tactic(auto)]
 

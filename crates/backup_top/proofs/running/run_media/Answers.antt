@@ -15,7 +15,7 @@ use Rattle.backup_script.specs.Scripts.{between, script, IsStage}
 use Rattle.backup_script.specs.Held.{IsHeldThroughout}
 use Rattle.backup_script.proofs.StageLaws.{stage_front}
 use Rattle.session_archives.specs.Held.{HoldsWorld, HoldsAfter}
-use Rattle.session_archives.specs.Ready.{IsReady, RestoresApartThroughout, at_first, IsReadyFor}
+use Rattle.session_archives.specs.Ready.{IsReady, RestoresApartThroughout, FitsBackThroughout, at_first, IsReadyFor}
 use Rattle.backup_top.specs.declared.status.Status.{Status}
 use Rattle.backup_top.specs.declared.status.Status.TheVariants.{MediaFault}
 use Rattle.backup_top.specs.Courses.{Course, course, outcome, at_rest, Runs, TellsLines, TakesBy, RefusesJournal, HasCauseAs}
@@ -40,7 +40,7 @@ returns-in-Ok-clause-runs g c = λ told tells_cell tells_clock source named says
     let k : Course = course M.seen M.count M.present c.args.config journal.log contents media c.into_media.result (g.C.Cell.list c.args.cell.now) (g.C.Cell.list n.cell) (g.K.Clock.moments c.args.clock.now) (g.K.Clock.moments n.clock) (g.S.Source.left c.args.source.now) (g.S.Source.left n.source) in
     let has = has_tapes k.world (M.present media) (M.seen media) (M.count media) refl refl (g.met.M.Media.here_below media) (g.met.M.Media.few_files media) in
     let laws : OpenedForms = record { lines = c.opened_worlds_have_their_forms.ensures.lines; ready = c.opened_worlds_have_their_forms.ensures.ready; fit = c.opened_worlds_have_their_forms.ensures.fit } in
-    let forms = has_forms laws k named says has journal.form (g.met.C.Cell.is_cell c.args.cell.now tells_cell) (c.listed_is_allowed.ensures tells_cell) refl in
+    let forms = has_forms laws k named says has journal.form (g.met.C.Cell.is_cell c.args.cell.now tells_cell) (c.listed_is_allowed.ensures tells_cell) refl tt in
     let same : opened (record { config = c.args.config; slots = M.count plant.media - 1; present = slots_here (M.present plant.media) }) journal.log (g.C.Cell.list c.args.cell.now) contents shown ≡ k.world
     = λ i. opened (record { config = c.args.config; slots = e.count i - 1; present = slots_here (e.present i) }) journal.log (g.C.Cell.list c.args.cell.now) contents (sym rests i) in
     let found = subst (λ (w : World). IsHeldThroughout w k.moments (lines k.input)) (sym same) held in
@@ -52,7 +52,7 @@ returns-in-Ok-clause-runs g c = λ told tells_cell tells_clock source named says
     (λ at_entry asked. subst (λ (w : World). HoldsAfter w (script first k.moments these).world.contents (script first k.moments these).effects) same
     (c.scripts_keep_the_archive.ensures.whole first k.moments these (subst HoldsWorld (sym same) at_entry) (subst (λ (w : World). IsReadyFor w k.moments these) (sym same) (ready_for k forms these asked))))
     (λ at_entry asked. c.scripts_keep_the_archive.ensures.behind first k.moments these (subst HoldsWorld (sym same) at_entry) (subst (λ (w : World). IsReadyFor w k.moments these) (sym same) (ready_for k forms these asked)))
-    (λ at_entry fit apart. laws.fit (script first k.moments these).world (c.scripts_leave_a_ready_world_ready.ensures first k.moments these (subst (λ (w : World). RestoresApartThroughout w k.moments these) (sym same) apart) (subst HoldsWorld (sym same) at_entry) (subst (λ (w : World). IsReady (at_first w k.moments these)) (sym same) (forms.ready these fit)))))
+    (λ at_entry fit apart back. laws.fit (script first k.moments these).world (c.scripts_leave_a_ready_world_ready.ensures first k.moments these (subst (λ (w : World). RestoresApartThroughout w k.moments these) (sym same) apart) (subst (λ (w : World). FitsBackThroughout w k.moments these) (sym same) back) (subst HoldsWorld (sym same) at_entry) (subst (λ (w : World). IsReady (at_first w k.moments these)) (sym same) (forms.ready these fit)))))
     c.run_on-answer.result (r.ran told tells_cell tells_clock source (e.settled told) journal.log journal.form log_is contents found) (r.read_short told tells_cell tells_clock source (e.settled told) journal.log journal.form log_is contents found) (r.long_short told tells_cell tells_clock source (e.settled told) journal.log journal.form log_is contents found)
     (λ at bad. (r.bad_log told at bad).not_whole (journal.log, journal.form, log_is)))
 
@@ -72,7 +72,7 @@ returns-in-Ok-clause-images g c = λ told tells_cell tells_clock source still na
     let k : Course = course M.seen M.count M.present c.args.config journal.log contents media c.into_media.result (g.C.Cell.list c.args.cell.now) (g.C.Cell.list n.cell) (g.K.Clock.moments c.args.clock.now) (g.K.Clock.moments n.clock) (g.S.Source.left c.args.source.now) (g.S.Source.left n.source) in
     let has = has_tapes k.world (M.present media) (M.seen media) (M.count media) refl refl (g.met.M.Media.here_below media) (g.met.M.Media.few_files media) in
     let laws : OpenedForms = record { lines = c.opened_worlds_have_their_forms.ensures.lines; ready = c.opened_worlds_have_their_forms.ensures.ready; fit = c.opened_worlds_have_their_forms.ensures.fit } in
-    let forms = has_forms laws k named says has journal.form (g.met.C.Cell.is_cell c.args.cell.now tells_cell) (c.listed_is_allowed.ensures tells_cell) refl in
+    let forms = has_forms laws k named says has journal.form (g.met.C.Cell.is_cell c.args.cell.now tells_cell) (c.listed_is_allowed.ensures tells_cell) refl tt in
     let same : opened (record { config = c.args.config; slots = M.count plant.media - 1; present = slots_here (M.present plant.media) }) journal.log (g.C.Cell.list c.args.cell.now) contents shown ≡ k.world
     = λ i. opened (record { config = c.args.config; slots = e.count i - 1; present = slots_here (e.present i) }) journal.log (g.C.Cell.list c.args.cell.now) contents (sym rests i) in
     let found = subst (λ (w : World). IsHeldThroughout w k.moments (lines k.input)) (sym same) held in
@@ -99,7 +99,7 @@ returns-in-Ok-clause-ends g c = λ told tells_cell tells_clock source still name
     let k : Course = course M.seen M.count M.present c.args.config journal.log contents media back (g.C.Cell.list c.args.cell.now) (g.C.Cell.list n.cell) (g.K.Clock.moments c.args.clock.now) (g.K.Clock.moments n.clock) (g.S.Source.left c.args.source.now) (g.S.Source.left n.source) in
     let has = has_tapes k.world (M.present media) (M.seen media) (M.count media) refl refl (g.met.M.Media.here_below media) (g.met.M.Media.few_files media) in
     let laws : OpenedForms = record { lines = c.opened_worlds_have_their_forms.ensures.lines; ready = c.opened_worlds_have_their_forms.ensures.ready; fit = c.opened_worlds_have_their_forms.ensures.fit } in
-    let forms = has_forms laws k named says has journal.form (g.met.C.Cell.is_cell c.args.cell.now tells_cell) (c.listed_is_allowed.ensures tells_cell) refl in
+    let forms = has_forms laws k named says has journal.form (g.met.C.Cell.is_cell c.args.cell.now tells_cell) (c.listed_is_allowed.ensures tells_cell) refl tt in
     let same : opened (record { config = c.args.config; slots = M.count plant.media - 1; present = slots_here (M.present plant.media) }) journal.log (g.C.Cell.list c.args.cell.now) contents shown ≡ k.world
     = λ i. opened (record { config = c.args.config; slots = e.count i - 1; present = slots_here (e.present i) }) journal.log (g.C.Cell.list c.args.cell.now) contents (sym rests i) in
     let found = subst (λ (w : World). IsHeldThroughout w k.moments (lines k.input)) (sym same) held in
@@ -222,7 +222,7 @@ returns-in-Err-clause-images g c = λ told tells_cell tells_clock source still n
     let k : Course = course M.seen M.count M.present c.args.config journal.log contents media c.in-Err.unopened.media (g.C.Cell.list c.args.cell.now) (g.C.Cell.list c.args.cell.now) (g.K.Clock.moments c.args.clock.now) (g.K.Clock.moments c.args.clock.now) (g.S.Source.left c.args.source.now) (g.S.Source.left c.args.source.now) in
     let has = has_tapes k.world (M.present media) (M.seen media) (M.count media) refl refl (g.met.M.Media.here_below media) (g.met.M.Media.few_files media) in
     let laws : OpenedForms = record { lines = c.opened_worlds_have_their_forms.ensures.lines; ready = c.opened_worlds_have_their_forms.ensures.ready; fit = c.opened_worlds_have_their_forms.ensures.fit } in
-    let forms = has_forms laws k named says has journal.form (g.met.C.Cell.is_cell c.args.cell.now tells_cell) (c.listed_is_allowed.ensures tells_cell) refl in
+    let forms = has_forms laws k named says has journal.form (g.met.C.Cell.is_cell c.args.cell.now tells_cell) (c.listed_is_allowed.ensures tells_cell) refl tt in
     images_of M.time media c.in-Err.unopened.media k (outcome k).effects (journaled c.journals_of_scripts.ensures c.scripts_keep_the_archive.ensures.on_the_way c.scripts_keep_the_archive.ensures.listed c.scripts_keep_the_archive.ensures.settled c.images_hold_the_archive.ensures.behind k forms has refl journal.form refl)
     (nothing_since M.time M.seen media bytes c.in-Err.unopened.media (outcome k).effects (still_left M.time M.seen media bytes still (λ image was. g.met.M.Media.told_left media image told was) journal.is) (c.in-Err.ensures.crash told))
 
@@ -235,7 +235,7 @@ returns-in-Err-clause-ends g c = λ told tells_cell tells_clock source still nam
     let k : Course = course M.seen M.count M.present c.args.config journal.log contents media back (g.C.Cell.list c.args.cell.now) (g.C.Cell.list c.args.cell.now) (g.K.Clock.moments c.args.clock.now) (g.K.Clock.moments c.args.clock.now) (g.S.Source.left c.args.source.now) (g.S.Source.left c.args.source.now) in
     let has = has_tapes k.world (M.present media) (M.seen media) (M.count media) refl refl (g.met.M.Media.here_below media) (g.met.M.Media.few_files media) in
     let laws : OpenedForms = record { lines = c.opened_worlds_have_their_forms.ensures.lines; ready = c.opened_worlds_have_their_forms.ensures.ready; fit = c.opened_worlds_have_their_forms.ensures.fit } in
-    let forms = has_forms laws k named says has journal.form (g.met.C.Cell.is_cell c.args.cell.now tells_cell) (c.listed_is_allowed.ensures tells_cell) refl in
+    let forms = has_forms laws k named says has journal.form (g.met.C.Cell.is_cell c.args.cell.now tells_cell) (c.listed_is_allowed.ensures tells_cell) refl tt in
     ends_front M.time M.seen media back k refl refl refl (journaled c.journals_of_scripts.ensures c.scripts_keep_the_archive.ensures.on_the_way c.scripts_keep_the_archive.ensures.listed c.scripts_keep_the_archive.ensures.settled c.images_hold_the_archive.ensures.behind k forms has refl journal.form refl) (c.in-Err.ensures.crash told).later (g.met.M.Media.seen_may_be_left back told)
     (nothing_since M.time M.seen media bytes back [] (still_left M.time M.seen media bytes still (λ image was. g.met.M.Media.told_left media image told was) journal.is) (c.in-Err.ensures.crash told))
 

@@ -23,7 +23,7 @@ returns-in-Err-clause-images g c = λ runs told tells_cell tells_clock source st
     let k : Course = course_of M.seen M.count M.present contents media entry media (g.C.Cell.list c.args.cell.now) (g.C.Cell.list c.args.cell.now) (g.K.Clock.moments c.args.clock.now) (g.K.Clock.moments c.args.clock.now) (g.S.Source.left c.args.source.now) (g.S.Source.left c.args.source.now) in
     let has = has_tapes k.world (M.present media) (M.seen media) (M.count media) refl refl (g.met.M.Media.here_below media) (g.met.M.Media.few_files media) in
     let laws : OpenedForms = record { lines = c.opened_worlds_have_their_forms.ensures.lines; ready = c.opened_worlds_have_their_forms.ensures.ready; fit = c.opened_worlds_have_their_forms.ensures.fit } in
-    let forms = has_forms laws k c.args.config.now entry.says has entry.journal.form (g.met.C.Cell.is_cell c.args.cell.now tells_cell) (c.listed_is_allowed.ensures tells_cell) refl in
+    let forms = has_forms laws k c.args.config.now entry.says has entry.journal.form (g.met.C.Cell.is_cell c.args.cell.now tells_cell) (c.listed_is_allowed.ensures tells_cell) refl tt in
     images_of M.time media media k (outcome k).effects (journaled c.journals_of_scripts.ensures c.scripts_keep_the_archive.ensures.on_the_way c.scripts_keep_the_archive.ensures.listed c.scripts_keep_the_archive.ensures.settled c.images_hold_the_archive.ensures.behind k forms has refl entry.journal.form refl)
     (nothing_since M.time M.seen media bytes media (outcome k).effects (still_left M.time M.seen media bytes still (λ image was. g.met.M.Media.told_left media image told was) entry.journal.is) (stays M.time media))
 
@@ -35,7 +35,7 @@ returns-in-Err-clause-ends g c = λ runs told tells_cell tells_clock source stil
     let k : Course = course_of M.seen M.count M.present contents media entry media (g.C.Cell.list c.args.cell.now) (g.C.Cell.list c.args.cell.now) (g.K.Clock.moments c.args.clock.now) (g.K.Clock.moments c.args.clock.now) (g.S.Source.left c.args.source.now) (g.S.Source.left c.args.source.now) in
     let has = has_tapes k.world (M.present media) (M.seen media) (M.count media) refl refl (g.met.M.Media.here_below media) (g.met.M.Media.few_files media) in
     let laws : OpenedForms = record { lines = c.opened_worlds_have_their_forms.ensures.lines; ready = c.opened_worlds_have_their_forms.ensures.ready; fit = c.opened_worlds_have_their_forms.ensures.fit } in
-    let forms = has_forms laws k c.args.config.now entry.says has entry.journal.form (g.met.C.Cell.is_cell c.args.cell.now tells_cell) (c.listed_is_allowed.ensures tells_cell) refl in
+    let forms = has_forms laws k c.args.config.now entry.says has entry.journal.form (g.met.C.Cell.is_cell c.args.cell.now tells_cell) (c.listed_is_allowed.ensures tells_cell) refl tt in
     ends_front M.time M.seen media media k refl refl refl (journaled c.journals_of_scripts.ensures c.scripts_keep_the_archive.ensures.on_the_way c.scripts_keep_the_archive.ensures.listed c.scripts_keep_the_archive.ensures.settled c.images_hold_the_archive.ensures.behind k forms has refl entry.journal.form refl) (stays M.time media).later (g.met.M.Media.seen_may_be_left media told)
     (nothing_since M.time M.seen media bytes media [] (still_left M.time M.seen media bytes still (λ image was. g.met.M.Media.told_left media image told was) entry.journal.is) (stays M.time media))
 
@@ -46,9 +46,9 @@ returns-in-Err-clause-finds g c = λ runs tells_cell entry contents held asked.
     let k : Course = course_of M.seen M.count M.present contents media entry media (g.C.Cell.list c.args.cell.now) (g.C.Cell.list c.args.cell.now) (g.K.Clock.moments c.args.clock.now) (g.K.Clock.moments c.args.clock.now) (g.S.Source.left c.args.source.now) (g.S.Source.left c.args.source.now) in
     let has = has_tapes k.world (M.present media) (M.seen media) (M.count media) refl refl (g.met.M.Media.here_below media) (g.met.M.Media.few_files media) in
     let laws : OpenedForms = record { lines = c.opened_worlds_have_their_forms.ensures.lines; ready = c.opened_worlds_have_their_forms.ensures.ready; fit = c.opened_worlds_have_their_forms.ensures.fit } in
-    let forms = has_forms laws k c.args.config.now entry.says has entry.journal.form (g.met.C.Cell.is_cell c.args.cell.now tells_cell) (c.listed_is_allowed.ensures tells_cell) refl in
-    let holds = holds_world k.world has (λ s is. below (M.present media) (M.count media) s (g.met.M.Media.here_below media) is) (record { log = refl; tapes = λ s. refl }) held in
-    (holds, c.scripts_keep_the_archive.ensures.throughout k.world k.moments (lines k.input) holds (ready_for k forms (lines k.input) asked), λ dumps. (asked dumps).0.volumes)
+    let forms = has_forms laws k c.args.config.now entry.says has entry.journal.form (g.met.C.Cell.is_cell c.args.cell.now tells_cell) (c.listed_is_allowed.ensures tells_cell) refl tt in
+    let holds = holds_world k.world has (λ s is. below (M.present media) (M.count media) s (g.met.M.Media.here_below media) is) (record { log = refl; tapes = λ s. refl }) tt held in
+    (holds, c.scripts_keep_the_archive.ensures.throughout k.world k.moments (lines k.input) holds (ready_for k forms (lines k.input) asked), λ dumps. (asked.dumps dumps).0.volumes)
 
 pub returns-in-Ok-Run-clause-finds : goal.returns-in-Ok-Run-clause-finds
 returns-in-Ok-Run-clause-finds g c = λ runs tells_cell entry contents held asked.
@@ -58,9 +58,9 @@ returns-in-Ok-Run-clause-finds g c = λ runs tells_cell entry contents held aske
     let k : Course = course_of M.seen M.count M.present contents media entry c.run_mode.result.1 (g.C.Cell.list c.args.cell.now) (g.C.Cell.list n.cell) (g.K.Clock.moments c.args.clock.now) (g.K.Clock.moments n.clock) (g.S.Source.left c.args.source.now) (g.S.Source.left n.source) in
     let has = has_tapes k.world (M.present media) (M.seen media) (M.count media) refl refl (g.met.M.Media.here_below media) (g.met.M.Media.few_files media) in
     let laws : OpenedForms = record { lines = c.opened_worlds_have_their_forms.ensures.lines; ready = c.opened_worlds_have_their_forms.ensures.ready; fit = c.opened_worlds_have_their_forms.ensures.fit } in
-    let forms = has_forms laws k c.args.config.now entry.says has entry.journal.form (g.met.C.Cell.is_cell c.args.cell.now tells_cell) (c.listed_is_allowed.ensures tells_cell) refl in
-    let holds = holds_world k.world has (λ s is. below (M.present media) (M.count media) s (g.met.M.Media.here_below media) is) (record { log = refl; tapes = λ s. refl }) held in
-    (holds, c.scripts_keep_the_archive.ensures.throughout k.world k.moments (lines k.input) holds (ready_for k forms (lines k.input) asked), λ dumps. (asked dumps).0.volumes)
+    let forms = has_forms laws k c.args.config.now entry.says has entry.journal.form (g.met.C.Cell.is_cell c.args.cell.now tells_cell) (c.listed_is_allowed.ensures tells_cell) refl tt in
+    let holds = holds_world k.world has (λ s is. below (M.present media) (M.count media) s (g.met.M.Media.here_below media) is) (record { log = refl; tapes = λ s. refl }) tt held in
+    (holds, c.scripts_keep_the_archive.ensures.throughout k.world k.moments (lines k.input) holds (ready_for k forms (lines k.input) asked), λ dumps. (asked.dumps dumps).0.volumes)
 
 pub returns-in-Ok-Run-clause-complete : goal.returns-in-Ok-Run-clause-complete
 returns-in-Ok-Run-clause-complete g c = λ runs told tells_cell tells_clock source entry within media_rose cell_rose output_rose read_rose.

@@ -7,7 +7,7 @@ pub returns-clause-listed : goal.returns-clause-listed
 returns-clause-listed c = λ w v now offset port held has lost is. listed_again w v held has now offset port is lost.none c.recorded_dumps_are_listed_again.ensures
 
 pub returns-clause-own : goal.returns-clause-own
-returns-clause-own c = λ w v now offset port held has lost is. was_dump w v held has now offset port is lost.none (c.a_scan_lists_what_is_whole.ensures v now offset port is)
+returns-clause-own c = λ w v now offset port held has lost is. was_dump w v held has now offset port is lost.none (c.a_scan_lists_what_is_whole.ensures v has.alone now offset port is)
 
 pub returns-clause-throughout : goal.returns-clause-throughout
 returns-clause-throughout c = λ w v moments lines held has lost ready. c.scripts_keep_the_archive.ensures.throughout v moments lines (under_no_dump w v held has lost.changes lost.log lost.none) ready

@@ -15,7 +15,7 @@ returns-clause-told g c = λ told tells_cell w begins stands files finds.
     let opened = files_opened w (M.seen c.args.media) cell (shown_of M.seen plant) (M.count plant.media) (M.present plant.media) stands here (e.stock told) (e.settled told) in
     c.in_ok-told.ensures.told told tells_cell w
     (record { form = stands.form; journal = stands.journal; state = opened.alike; settled = stands.settled; slots = opened.slots_are; present = opened.here_are; cell = stands.cell })
-    (c.in_ok-config.ensures ∙ sym begins.config) begins.time finds
+    (c.in_ok-config.ensures ∙ sym begins.config) begins.time begins.groups finds
 
 pub returns-clause-stands : goal.returns-clause-stands
 returns-clause-stands g c = λ told tells_cell w begins stands files finds.
@@ -27,7 +27,7 @@ returns-clause-stands g c = λ told tells_cell w begins stands files finds.
     let opened = files_opened w (M.seen c.args.media) cell (shown_of M.seen plant) (M.count plant.media) (M.present plant.media) stands here (e.stock told) (e.settled told) in
     let left = c.in_ok-told.ensures.stands told tells_cell w
     (record { form = stands.form; journal = stands.journal; state = opened.alike; settled = stands.settled; slots = opened.slots_are; present = opened.here_are; cell = stands.cell })
-    (c.in_ok-config.ensures ∙ sym begins.config) begins.time finds in
+    (c.in_ok-config.ensures ∙ sym begins.config) begins.time begins.groups finds in
     back_stands (played (start w) c.args.batches.now).world (M.seen c.into_media.result) (g.C.Cell.list c.play_on.new.cell) (shown_of M.seen c.play_on.new.plant) left.form left.journal left.settled left.state left.cell
     (c.into_media.ensures.stock told c.in_ok-told.ensures.sound)
 
@@ -41,6 +41,6 @@ returns-clause-files g c = λ told tells_cell w begins stands files finds.
     let opened = files_opened w (M.seen c.args.media) cell (shown_of M.seen plant) (M.count plant.media) (M.present plant.media) stands here (e.stock told) (e.settled told) in
     let left = c.in_ok-told.ensures.stands told tells_cell w
     (record { form = stands.form; journal = stands.journal; state = opened.alike; settled = stands.settled; slots = opened.slots_are; present = opened.here_are; cell = stands.cell })
-    (c.in_ok-config.ensures ∙ sym begins.config) begins.time finds in
+    (c.in_ok-config.ensures ∙ sym begins.config) begins.time begins.groups finds in
     let media = c.play_on.new.plant.media in
     subst (λ m. HasFiles (played (start w) c.args.batches.now).world (M.count m) (M.present m)) (sym c.into_media.ensures.media) (files_left (played (start w) c.args.batches.now).world (M.count media) (M.present media) left.slots left.present)

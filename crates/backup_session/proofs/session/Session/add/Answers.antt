@@ -80,10 +80,10 @@ returns-in-Err-LogFull-clause-stepped g c = λ told w fits.
     let is : c.as_slice.result.now ≡ change.Found c.args.dump.now ∷ [] = c.as_slice.ensures ∙ c.in_ok-changes.ensures in
     let full = arm.ensures.full arm.length (ap (λ (f : CommitFault). Err f) arm.field-0-is) in
     let over : 268435456 < (P.view old).log_size + length (encoded c.as_slice.result.now) = omega (arith, full.0, full.1) in
-    let later : SessionView = record { config = c.self.inside.config; budb = c.commit.new.self; time = c.self.inside.time } in
+    let later : SessionView = record { config = c.self.inside.config; budb = c.commit.new.self; time = c.self.inside.time; groups = c.self.inside.groups } in
     full_stepped P w old c.args.self.now fits (g.met.P.Plant.log_told old told c.requires) c.args.dump.now c.commit.new.plant later c.args.lines.now c.put_refused_number.new.line c.requires
     (subst (λ (l : List Change). 268435456 < (P.view old).log_size + length (encoded l)) is over) (c.commit.ensures.over_same over)
-    (ap (λ (b : BudbView). record { config = c.self.inside.config; budb = b; time = c.self.inside.time }) arm.ensures.same ∙ c.self.view_is)
+    (ap (λ (b : BudbView). record { config = c.self.inside.config; budb = b; time = c.self.inside.time; groups = c.self.inside.groups }) arm.ensures.same ∙ c.self.view_is)
     (c.in_ok-put_refused_number-in-Err-LogFull.ensures ∙ ap (λ (n : ℕ). c.args.lines.now ++ refused_number LogFull n) (full.1 ∙ ap (λ (l : List Change). (P.view old).log_size + length (encoded l)) is))
 
 pub returns-in-Ok-clause-full : goal.returns-in-Ok-clause-full
@@ -104,14 +104,14 @@ returns-in-Ok-clause-stepped g c = λ told w fits.
     let e = c.in-Ok.ensures in
     let is : c.as_slice.result.now ≡ change.Found c.args.dump.now ∷ [] = c.as_slice.ensures ∙ c.in_ok-changes.ensures in
     let never : 268435456 < (P.view old).log_size + length (encoded (change.Found c.args.dump.now ∷ [])) → ⊥ = subst (λ (l : List Change). 268435456 < (P.view old).log_size + length (encoded l) → ⊥) is (λ over. ⊎_elim (λ f. cc) (λ f. cc) (e.only_full over)) in
-    let later : SessionView = record { config = c.self.inside.config; budb = c.commit.new.self; time = c.time_with-time.result } in
+    let later : SessionView = record { config = c.self.inside.config; budb = c.commit.new.self; time = c.time_with-time.result; groups = c.self.inside.groups } in
     let kept : Keeps w.log (state_of P old).log c.self.inside.budb = record { form = fits.keeps.form; is = fits.state.log ∙ fits.keeps.is; fold = ap (λ (s : SessionView). s.budb.database) c.self.view_is ∙ fits.keeps.fold } in
     added_stepped P w old c.args.self.now fits (g.met.P.Plant.log_told old told c.requires) c.args.dump.now mid later c.args.lines.now c.put_added.new.line told never
     (subst (λ (l : List Change). Done P (commits (encoded l) ∷ []) old mid) is e.done)
     c.commit.ensures.stays.stays
     (subst (λ (l : List Change). Keeps (w.log ++ l) (state_of P mid).log c.commit.new.self) is (e.keeps told w.log kept))
     (c.time_with-time.ensures ∙ ap (λ (s : SessionView). time_with s.time c.args.dump.now) c.self.view_is)
-    (ap (λ (s : SessionView). s.config) c.self.view_is) (c.in_ok-put_added-in-Ok.ensures ∙ ap (λ (x : DumpRecordFields). c.args.lines.now ++ added_line x.id) c.fields.ensures.value)
+    (ap (λ (s : SessionView). s.config) c.self.view_is) (ap (λ (s : SessionView). s.groups) c.self.view_is) (c.in_ok-put_added-in-Ok.ensures ∙ ap (λ (x : DumpRecordFields). c.args.lines.now ++ added_line x.id) c.fields.ensures.value)
 
 pub returns-in_err-changes-clause-leaves : goal.returns-in_err-changes-clause-leaves
 returns-in_err-changes-clause-leaves g c = λ told w fits. nothing_left g.P.Plant _ c.args.plant.now (λ told survives image left. g.met.P.Plant.left c.args.plant.now image told c.requires survives left)

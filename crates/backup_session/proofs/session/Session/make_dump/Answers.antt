@@ -16,10 +16,10 @@ returns-in-Ok-clause-turned g c = λ told seen w fits.
     let C = g.C.Cell in
     let old = c.args.plant.now in
     let site = c.args.cell.now in
-    let here : SessionView = record { config = c.self.inside.config; budb = c.self.inside.budb; time = c.self.inside.time } in
+    let here : SessionView = record { config = c.self.inside.config; budb = c.self.inside.budb; time = c.self.inside.time; groups = c.self.inside.groups } in
     let there : Stands P C w old site here = subst (λ (s : SessionView). Stands P C w old site s) (sym c.self.view_is) fits in
-    dump_turned P C w old site here there (dump_answer (scene_of w) c.args.asked.now) c.dump.new.budb c.dump.new.plant c.dump.new.cell c.in-Ok.dumped _ c.new.result
-    (c.in-Ok.ensures.answered told seen (scene_of w) (dump_finds P C w old site here there)) c.dump.ensures.stays.stays (c.dump.ensures.list seen) refl refl refl c.new.ensures
+    dump_turned P C w old site here there (dump_answer (scene_of w) c.args.asked.now) w.groups c.dump.new.budb c.dump.new.plant c.dump.new.cell c.in-Ok.dumped _ c.new.result
+    (c.in-Ok.ensures.answered told seen (scene_of w) (dump_finds P C w old site here there)) c.dump.ensures.stays.stays (c.dump.ensures.list seen) refl refl refl there.groups c.new.ensures
 
 pub returns-in-Ok-clause-leaves : goal.returns-in-Ok-clause-leaves
 returns-in-Ok-clause-leaves g c = λ told seen w fits.
@@ -27,7 +27,7 @@ returns-in-Ok-clause-leaves g c = λ told seen w fits.
     let C = g.C.Cell in
     let old = c.args.plant.now in
     let site = c.args.cell.now in
-    let here : SessionView = record { config = c.self.inside.config; budb = c.self.inside.budb; time = c.self.inside.time } in
+    let here : SessionView = record { config = c.self.inside.config; budb = c.self.inside.budb; time = c.self.inside.time; groups = c.self.inside.groups } in
     let there : Stands P C w old site here = subst (λ (s : SessionView). Stands P C w old site s) (sym c.self.view_is) fits in
     c.dump.ensures.leaves told seen (scene_of w) (dump_finds P C w old site here there)
 
@@ -37,7 +37,7 @@ returns-in-Err-clause-leaves g c = λ told seen w fits.
     let C = g.C.Cell in
     let old = c.args.plant.now in
     let site = c.args.cell.now in
-    let here : SessionView = record { config = c.self.inside.config; budb = c.self.inside.budb; time = c.self.inside.time } in
+    let here : SessionView = record { config = c.self.inside.config; budb = c.self.inside.budb; time = c.self.inside.time; groups = c.self.inside.groups } in
     let there : Stands P C w old site here = subst (λ (s : SessionView). Stands P C w old site s) (sym c.self.view_is) fits in
     c.dump.ensures.leaves told seen (scene_of w) (dump_finds P C w old site here there)
 
@@ -51,7 +51,7 @@ returns-in-Err-clause-stopped g c = λ told seen w fits other.
     let C = g.C.Cell in
     let old = c.args.plant.now in
     let site = c.args.cell.now in
-    let here : SessionView = record { config = c.self.inside.config; budb = c.self.inside.budb; time = c.self.inside.time } in
+    let here : SessionView = record { config = c.self.inside.config; budb = c.self.inside.budb; time = c.self.inside.time; groups = c.self.inside.groups } in
     let there : Stands P C w old site here = subst (λ (s : SessionView). Stands P C w old site s) (sym c.self.view_is) fits in
     handed_as dump_stops.Plant c.in-Err.stop stops.Plant c.stop_of.result (LeftAhead P (dump_answer (scene_of w) c.args.asked.now).effects old c.dump.new.plant) c.stop_of.ensures.only_plant
     (c.in-Err.ensures.stopped told seen (scene_of w) (dump_finds P C w old site here there)) other

@@ -2,6 +2,8 @@ use Rattle.std.proofs.Common.{ap, []}
 use Rattle.backup_session.specs.Views.{SessionView}
 use Rattle.backup_session.specs.Worlds.{archive_of}
 use Rattle.backup_session.proofs.RestoreLaws.{restore_leaves, some_restore, restored_somehow, archive_stands, restore_turned, may_here, restore_way}
+use Rattle.backup_session.proofs.LoadLaws.{slots_stand, parents_below, loads_here}
+use Rattle.tape_answers.specs.Slots.{slots_of}
 use Rattle.backup_session.specs.declared.stops.Stop.TheVariants as stops
 use Rattle.restore_commands.specs.declared.stops.RestoreStop.TheVariants as restore_stops
 use Rattle.tape_scan.specs.Looking.{Loads}
@@ -80,3 +82,31 @@ pub returns-in-Err-clause-stopped : goal.returns-in-Err-clause-stopped
 returns-in-Err-clause-stopped g c = λ told ctold w fits other.
     left_loads g.P.Plant [] c.args.plant.now c.restored.new.plant w.state (λ _. fits.state)
     (handed_as restore_stops.Plant c.in-Err.stop stops.Plant c.stop_of.result (Loads g.P.Plant c.args.plant.now c.restored.new.plant) c.stop_of.ensures.only_plant c.in-Err.ensures.done other)
+
+pub returns-in-Ok-clause-loads : goal.returns-in-Ok-clause-loads
+returns-in-Ok-clause-loads g c = λ told w fits.
+    let P = g.P.Plant in
+    let C = g.C.Cell in
+    let old = c.args.plant.now in
+    let site = c.args.cell.now in
+    let s = c.args.self.now in
+    let budb = ap (λ (x : SessionView). x.budb) c.self.view_is in
+    let slots = slots_of w.setting.slots w.setting.present w.state.tape in
+    let read = c.the_slots_are_read.ensures in
+    let has = slots_stand P C w old site s fits (read.count w.setting.slots w.setting.present w.state.tape) (read.here w.setting.slots w.setting.present w.state.tape) (read.items w.setting.slots w.setting.present w.state.tape) in
+    loads_here P C w old site s fits c.self.inside.budb budb c.args.command.now (P.view old).loads (P.view c.restored.new.plant).loads
+    (c.restored.ensures.loads told (parents_below P C w old site s fits c.self.inside.budb budb) slots has)
+
+pub returns-in-Err-clause-loads : goal.returns-in-Err-clause-loads
+returns-in-Err-clause-loads g c = λ told w fits.
+    let P = g.P.Plant in
+    let C = g.C.Cell in
+    let old = c.args.plant.now in
+    let site = c.args.cell.now in
+    let s = c.args.self.now in
+    let budb = ap (λ (x : SessionView). x.budb) c.self.view_is in
+    let slots = slots_of w.setting.slots w.setting.present w.state.tape in
+    let read = c.the_slots_are_read.ensures in
+    let has = slots_stand P C w old site s fits (read.count w.setting.slots w.setting.present w.state.tape) (read.here w.setting.slots w.setting.present w.state.tape) (read.items w.setting.slots w.setting.present w.state.tape) in
+    loads_here P C w old site s fits c.self.inside.budb budb c.args.command.now (P.view old).loads (P.view c.restored.new.plant).loads
+    (c.restored.ensures.loads told (parents_below P C w old site s fits c.self.inside.budb budb) slots has)

@@ -13,7 +13,7 @@ pub returns-in_err-refused_number-in-Err-LogFull-clause-leaves : goal.returns-in
 returns-in_err-refused_number-in-Err-LogFull-clause-leaves g c = λ told w fits.
     let P = g.P.Plant in
     let old = c.args.plant.now in
-    let here : SessionView = record { config = c.self.inside.config; budb = c.self.inside.budb; time = c.self.inside.time } in
+    let here : SessionView = record { config = c.self.inside.config; budb = c.self.inside.budb; time = c.self.inside.time; groups = c.self.inside.groups } in
     let there : FitsPlant P w old here = subst (λ (s : SessionView). FitsPlant P w old s) (sym c.self.view_is) fits in
     short_leaves P w old here there c.checkpoint.new.plant (λ told survives image left. g.met.P.Plant.left old image told c.requires survives left) c.checkpoint.ensures.over_same c.checkpoint.ensures.leaves
 
@@ -21,7 +21,7 @@ pub returns-in-Err-LogFull-clause-leaves : goal.returns-in-Err-LogFull-clause-le
 returns-in-Err-LogFull-clause-leaves g c = λ told w fits.
     let P = g.P.Plant in
     let old = c.args.plant.now in
-    let here : SessionView = record { config = c.self.inside.config; budb = c.self.inside.budb; time = c.self.inside.time } in
+    let here : SessionView = record { config = c.self.inside.config; budb = c.self.inside.budb; time = c.self.inside.time; groups = c.self.inside.groups } in
     let there : FitsPlant P w old here = subst (λ (s : SessionView). FitsPlant P w old s) (sym c.self.view_is) fits in
     short_leaves P w old here there c.checkpoint.new.plant (λ told survives image left. g.met.P.Plant.left old image told c.requires survives left) c.checkpoint.ensures.over_same c.checkpoint.ensures.leaves
 
@@ -29,7 +29,7 @@ pub returns-clause-leaves : goal.returns-clause-leaves
 returns-clause-leaves g c = λ told w fits.
     let P = g.P.Plant in
     let old = c.args.plant.now in
-    let here : SessionView = record { config = c.self.inside.config; budb = c.self.inside.budb; time = c.self.inside.time } in
+    let here : SessionView = record { config = c.self.inside.config; budb = c.self.inside.budb; time = c.self.inside.time; groups = c.self.inside.groups } in
     let there : FitsPlant P w old here = subst (λ (s : SessionView). FitsPlant P w old s) (sym c.self.view_is) fits in
     short_leaves P w old here there c.checkpoint.new.plant (λ told survives image left. g.met.P.Plant.left old image told c.requires survives left) c.checkpoint.ensures.over_same c.checkpoint.ensures.leaves
 

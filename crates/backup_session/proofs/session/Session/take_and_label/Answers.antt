@@ -68,10 +68,10 @@ returns-in-Err-LogFull-clause-turned g c = λ told w fits.
     let is : c.as_slice.result.now ≡ Take c.args.initial ∷ [] = c.as_slice.ensures ∙ c.in_ok-changes.ensures in
     let full = arm.ensures.full arm.length (ap (λ (f : CommitFault). Err f) arm.field-0-is) in
     let over : 268435456 < (P.view old).log_size + length (encoded c.as_slice.result.now) = omega (arith, full.0, full.1) in
-    let later : SessionView = record { config = c.self.inside.config; budb = c.commit.new.self; time = c.self.inside.time } in
+    let later : SessionView = record { config = c.self.inside.config; budb = c.commit.new.self; time = c.self.inside.time; groups = c.self.inside.groups } in
     full_turned P w old c.args.self.now fits (g.met.P.Plant.log_told old told c.requires.sound) c.args.slot c.args.label.now (Take c.args.initial) mid later c.new-in-Err-LogFull.result c.requires.sound
     (subst (λ (l : List Change). 268435456 < (P.view old).log_size + length (encoded l)) is over) (c.commit.ensures.over_same over)
-    (ap (λ (b : BudbView). record { config = c.self.inside.config; budb = b; time = c.self.inside.time }) arm.ensures.same ∙ c.self.view_is)
+    (ap (λ (b : BudbView). record { config = c.self.inside.config; budb = b; time = c.self.inside.time; groups = c.self.inside.groups }) arm.ensures.same ∙ c.self.view_is)
     (c.new-in-Err-LogFull.ensures ∙ c.in_ok-refused_number-in-Err-LogFull.ensures ∙ ap (refused_number LogFull) (full.1 ∙ ap (λ (l : List Change). (P.view old).log_size + length (encoded l)) is))
 
 pub returns-in_err-write_label-in-Ok-clause-leaves : goal.returns-in_err-write_label-in-Ok-clause-leaves
@@ -110,13 +110,13 @@ returns-in-Ok-clause-turned g c = λ told w fits.
     let f = c.in_ok-write_label-in-Ok.ensures in
     let is : c.as_slice.result.now ≡ Take c.args.initial ∷ [] = c.as_slice.ensures ∙ c.in_ok-changes.ensures in
     let never : 268435456 < (P.view old).log_size + length (encoded (Take c.args.initial ∷ [])) → ⊥ = subst (λ (l : List Change). 268435456 < (P.view old).log_size + length (encoded l) → ⊥) is (λ over. ⊎_elim (λ f. cc) (λ f. cc) (e.only_full over)) in
-    let later : SessionView = record { config = c.self.inside.config; budb = c.commit.new.self; time = c.self.inside.time } in
+    let later : SessionView = record { config = c.self.inside.config; budb = c.commit.new.self; time = c.self.inside.time; groups = c.self.inside.groups } in
     let kept : Keeps w.log (state_of P old).log c.self.inside.budb = record { form = fits.keeps.form; is = fits.state.log ∙ fits.keeps.is; fold = ap (λ (s : SessionView). s.budb.database) c.self.view_is ∙ fits.keeps.fold } in
     both_turned P w old c.args.self.now fits (g.met.P.Plant.log_told old told c.requires.sound) c.args.slot c.args.label.now (Take c.args.initial) mid new never
     (subst (λ (l : List Change). Done P (commits (encoded l) ∷ []) old mid) is e.done) later c.new.result told f.done
     (stays_both P old mid new c.commit.ensures.stays.stays c.write_label.ensures.stays.stays)
     (subst (λ (l : List Change). Keeps (w.log ++ l) (state_of P mid).log c.commit.new.self) is (e.keeps told w.log kept))
-    (ap (λ (s : SessionView). s.time) c.self.view_is) (ap (λ (s : SessionView). s.config) c.self.view_is) (c.new.ensures ∙ c.requires.reply)
+    (ap (λ (s : SessionView). s.time) c.self.view_is) (ap (λ (s : SessionView). s.config) c.self.view_is) (ap (λ (s : SessionView). s.groups) c.self.view_is) (c.new.ensures ∙ c.requires.reply)
 
 pub returns-in_err-changes-clause-leaves : goal.returns-in_err-changes-clause-leaves
 returns-in_err-changes-clause-leaves g c = λ told w fits.

@@ -1,0 +1,10 @@
+pub mod Starts
+pub mod HeldStarts
+pub mod PoolTurns
+pub mod PoolForms
+pub mod TapeEvents
+pub mod PoolTapes
+pub mod LeftForms
+pub mod GroupContents
+pub mod MayStarts
+pub mod GroupKept

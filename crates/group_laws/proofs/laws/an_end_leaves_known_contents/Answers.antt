@@ -1,0 +1,5 @@
+use Rattle.group_laws.proofs.GroupKept.{end_kept}
+use Rattle.group_laws.proofs.laws.an_end_leaves_known_contents.Goals as goal
+
+pub returns : goal.returns
+returns c = λ s g contents records form apart asks. (end_kept c.a_tape_is_read.ensures.one s contents records asks g form apart).others
