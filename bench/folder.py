@@ -1,5 +1,5 @@
-"""Folders in which `afsbackup run` works, for the benches of dumps, restores and scans: volumes of files of 4 MiB, runs with
-their time and peak memory, and copies with syncs."""
+"""Folders in which `afsbackup run` works, for the benches: volumes of files of 4 MiB, databases of many dumps, runs with their time
+and peak memory, and copies with syncs."""
 import os
 import struct
 import subprocess
@@ -54,6 +54,57 @@ def run(program, path, lines):
     child.returncode = os.waitstatus_to_exitcode(status)
     assert b"refused" not in told and child.returncode == 0, (child.returncode, told[-400:])
     return taken, told.decode(), used.ru_maxrss * 1024
+
+
+def answer(child, lines):
+    """Gives a run these lines, and waits for the last reply; the answer is the line in front of its `ok`."""
+    child.stdin.write("".join(line + "\n" for line in lines).encode())
+    child.stdin.flush()
+    count, last = len(lines), b""
+    while count > 0:
+        told = child.stdout.readline()
+        assert told != b"" and not told.startswith(b"refused"), told
+        if told == b"ok\n":
+            count -= 1
+        else:
+            last = told
+    return last.decode()
+
+
+# ---- databases
+
+START = 8192
+
+
+def text1(text):
+    return bytes([len(text)]) + text
+
+
+def text2(text):
+    return struct.pack(">H", len(text)) + text
+
+
+def found(ident, name, parent=0):
+    """The change that lists a dump of one volume on a tape of its own: a full one, or one since this parent."""
+    volume = text1(name) + number(ident) + text1(b"fs2") + text1(b"vicepb") + number(ident) + number(parent)
+    fragment = struct.pack(">H", 1) + number(1) + number(1)
+    tape = number(1) + number(1) + number(9) + number(4) + number(1) + text1(b"")
+    head = number(ident) + number(ident) + number(parent) + number(0xFFFFFFFF)
+    names = text1(b"other") + text2(b"/full") + text1(b"other.full")
+    return b"\x10" + head + names + struct.pack(">H", 1) + tape + number(1) + volume + fragment + text1(b"")
+
+
+def log_of(path):
+    """The log of a journal that was never replaced."""
+    with open(os.path.join(path, "media", "journal"), "rb") as source:
+        return source.read()[START:]
+
+
+def write_log(path, log):
+    """Gives a folder a journal of this log."""
+    slot = b"\x01\x00" + bytes(6) + START.to_bytes(8, "big") + len(log).to_bytes(8, "big")
+    with open(os.path.join(path, "media", "journal"), "wb") as out:
+        out.write(slot + bytes(START - len(slot)) + log)
 
 
 def sync(path):

@@ -6,21 +6,12 @@
 # day. The first argument is the program. The folders are made in the one that TMPDIR names.
 . "$(dirname "$0")/in_folder.sh"
 measure <<'P'
-import os, re, struct, subprocess, sys, time
-from folder import image, new_folder, number, run, write_volume
+import os, re, subprocess, sys, time
+from folder import answer, found, image, log_of, new_folder, run, write_log, write_volume
 
 program, place = sys.argv[1:]
 BATCH = 50
-START = 8192
 GROWN = (1000, 10000, 100000)
-
-
-def text1(text):
-    return bytes([len(text)]) + text
-
-
-def text2(text):
-    return struct.pack(">H", len(text)) + text
 
 
 def each_its_own(ident):
@@ -29,21 +20,6 @@ def each_its_own(ident):
 
 def one_for_all(ident):
     return b"v"
-
-
-def found(ident, named):
-    """The change that lists a full dump of one volume on a tape of its own."""
-    volume = text1(named(ident)) + number(ident) + text1(b"fs2") + text1(b"vicepb") + number(ident) + number(0)
-    fragment = struct.pack(">H", 1) + number(1) + number(1)
-    tape = number(1) + number(1) + number(9) + number(4) + number(1) + text1(b"")
-    head = number(ident) + number(ident) + number(0) + number(0xFFFFFFFF)
-    names = text1(b"other") + text2(b"/full") + text1(b"other.full")
-    return b"\x10" + head + names + struct.pack(">H", 1) + tape + number(1) + volume + fragment + text1(b"")
-
-
-def log_of(path):
-    with open(os.path.join(path, "media", "journal"), "rb") as source:
-        return source.read()[START:]
 
 
 def database(name, idents, named):
@@ -55,26 +31,13 @@ def database(name, idents, named):
                 "addvolentry -name users -server .* -partition .* -volumes b.*", "adddump -dump /full /full/mon"]
     told = run(program, path, prepared + ["dump -volumeset users -dump /full", "dump -volumeset users -dump /full/mon"])[1]
     last = max(int(ident) for ident in re.findall(r"^dump (\d+) ", told, re.M))
-    log = b"".join(found(ident, named) for ident in idents) + log_of(path)
-    slot = b"\x01\x00" + bytes(6) + START.to_bytes(8, "big") + len(log).to_bytes(8, "big")
-    with open(os.path.join(path, "media", "journal"), "wb") as out:
-        out.write(slot + bytes(START - len(slot)) + log)
+    log = b"".join(found(ident, named(ident)) for ident in idents) + log_of(path)
+    write_log(path, log)
     return path, last, len(log)
 
 
 def opening(path):
     return min(run(program, path, ["listhosts"])[0] for _ in range(3))
-
-
-def answer(child, lines):
-    """Gives these lines, and waits for the last reply."""
-    child.stdin.write("".join(line + "\n" for line in lines).encode())
-    child.stdin.flush()
-    count = len(lines)
-    while count > 0:
-        told = child.stdout.readline()
-        assert told != b"" and not told.startswith(b"refused"), told
-        count -= told == b"ok\n"
 
 
 def microseconds(path, batches):

@@ -1,8 +1,9 @@
 #!/usr/bin/env python3
 """Tests of `afsbackup run` in a real folder: scripts after one another, standard streams that are closed or full, what can't be
 opened, links, files that somebody else changes, rights, calls that are interrupted, a full device, a damaged journal, a
-journal and a volume that are lost and got back, also with a tape out, a journal of the first version, many images, and a
-program that is killed in the midst of its scripts.
+journal and a volume that are lost and got back, also with a tape out, a journal of the first version, many images, dumps
+made together, a database that is saved, verified and read back, and a program that is killed in the midst of its scripts, of its
+groups, of its saves and of reading them back.
 
 The first argument is the program. It works in folders of its own below the second one (else a new one)."""
 import os
@@ -478,6 +479,247 @@ def kills(runs):
     print("killed %d times: %d replies told, %d entries in the journal" % (runs, told_in_all, len(kept)))
 
 
+# ---- kills in the midst of a group
+
+
+PORTS = (0, 1, 2)
+
+
+def grouped():
+    """A folder with three tape coordinators, two volumes in a set each, and levels whose dumps never expire."""
+    place = folder()
+    os.mkdir(path(place, "media"))
+    for slot in range(24):
+        open(path(place, "media", "slot%d" % slot), "wb").close()
+    with open(path(place, "tapeconfig"), "w") as file:
+        file.write("".join("slots:%d-%d %d\n" % (8 * port, 8 * port + 7, port) for port in PORTS))
+    told("three ports", place, *("addhost -tapehost th -portoffset %d" % port for port in PORTS),
+         *(line for name in "ab" for line in ("addvolset -name s" + name, "addvolentry -name s" + name + " -server .* -partition .* -volumes user\\." + name,
+           "vos create -server fs1 -partition vicepa -name user." + name, "vos write -volume user." + name + " -vnode 2 -size 700000")),
+         "adddump -dump /full -expires at NEVER")
+    return place
+
+
+def group(schedule):
+    return ["together -schedule %d" % schedule, "dump -volumeset sa -dump /full", "dump -volumeset sb -dump /full -portoffset 1",
+            "dump -volumeset sa -dump /full -portoffset 2", "kill -job 3 -after 20", "end"]
+
+
+def made(text):
+    """The ids of the dumps that whole replies to `end` tell as made, and of those that they tell as killed."""
+    whole = text[: text.rfind("ok\n") + 3]
+    return re.findall(r"^dump (\d+) ", whole, re.M), re.findall(r"^killed 3 (\d+)$", whole, re.M)
+
+
+def groups():
+    place = grouped()
+    text = told("a group", place, *group(7), "jobs")
+    ids, killed = made(text)
+    check("two are made and one is killed", len(ids) == 2 and len(killed) == 1 and text.count("held ") == 3, text)
+    check("all three are told later", ["job %d" % n for n in (1, 2, 3)] == re.findall(r"^job \d", text, re.M) and text.endswith(" killed\nok\n"), text)
+    check("the killed one isn't listed", killed[0] not in told("its dumps", place, "dumpinfo"))
+    done = run(place, "scantape -portoffset 2")
+    check("a scan finds no dump there", b"found " not in done.stdout and b"refused 7" in done.stdout, done)
+    check("an open group is dropped", run(place, *group(7)[:2]).stdout == b"ok\nheld 1\n" and told("behind it", place, "jobs") == "ok\n")
+
+
+def killed(base, lines, wait, replied=False):
+    """A folder like this one, in which a run of these lines was killed so many seconds behind its start, or behind its first reply."""
+    place = folder()
+    shutil.copytree(base, place, dirs_exist_ok=True)
+    program = subprocess.Popen([PROGRAM, "run"], cwd=place, stdin=subprocess.PIPE, stdout=open(path(place, "told"), "wb"))
+    try:
+        program.stdin.write(text(lines))
+        program.stdin.flush()
+    except BrokenPipeError:
+        pass
+    while replied and program.poll() is None and os.path.getsize(path(place, "told")) == 0:
+        time.sleep(0.005)
+    time.sleep(wait)
+    program.kill()
+    program.wait()
+    try:
+        program.stdin.close()
+    except BrokenPipeError:
+        pass
+    return place
+
+
+def with_journal(place, log):
+    """Makes these bytes the journal's, as its file has them."""
+    with open(path(place, "media", "journal"), "wb") as file:
+        slot = b"\1" + bytes(7) + (8192).to_bytes(8, "big") + len(log).to_bytes(8, "big")
+        file.write(slot + bytes(8192 - len(slot)) + log)
+
+
+def group_kills(runs):
+    base, whole = grouped(), None
+    told_in_all = 0
+    for number in range(runs):
+        place = killed(base, group(number) + group(number + 1) + group(number + 2), 0.02 + random.random() * 0.3)
+        ids, _ = made(open(path(place, "told")).read())
+        told_in_all += len(ids)
+        listed = re.findall(r"^dump (\d+) ", told("kill %d: the journal opens" % number, place, "dumpinfo -ndumps 99"), re.M)
+        check("kill %d: each told dump is listed" % number, set(ids) <= set(listed), (ids, listed))
+        os.remove(path(place, "media", "journal"))
+        done = run(place, *("addhost -tapehost th -portoffset %d" % port for port in PORTS), *("scantape -dbadd -portoffset %d" % port for port in PORTS), "dumpinfo -ndumps 99")
+        found = re.findall(r"^dump (\d+) ", done.stdout.decode(), re.M)
+        check("kill %d: each listed dump is on its tapes" % number, set(listed) <= set(found), (listed, found, done))
+        if ids:
+            whole = whole or holds(place, "user.b")
+            told("kill %d: it is restored" % number, place, "volrestore -server fs1 -partition vicepa -volume user.b -extension .r")
+            check("kill %d: as it was" % number, holds(place, "user.b.r") == whole)
+        shutil.rmtree(place)
+    print("killed %d times in groups: %d dumps told" % (runs, told_in_all))
+
+
+# ---- a saved database, and kills in the midst of saves
+
+
+def log_in(place, name):
+    """The log in a file, by its two slots."""
+    file, good = contents(place, name), []
+    for at in (0, 4096) if len(file) >= 8192 else ():
+        start, length = (int.from_bytes(file[at + k : at + k + 8], "big") for k in (8, 16))
+        if file[at] == 1 and file[at + 1] < 3 and 8192 <= start and start + length <= len(file):
+            good.append((file[at + 1], file[start : start + length]))
+    return b"" if not good else good[-1][1] if len(good) == 1 or good[1][0] == (good[0][0] + 1) % 3 else good[0][1]
+
+
+def record(kind, front=b""):
+    return bytes([kind]) + front + bytes(16384 - len(front))
+
+
+def save_of(log):
+    """The records of a tape on which this log is saved, and which had no permanent name."""
+    save = b"Ubik_db_dump.1"
+    records = [record(0, b"AFST\1\1\0\0" + bytes(8) + bytes([len(save)]) + save), record(1), record(0, b"AFSB\1\1\0\0" + len(log).to_bytes(8, "big"))]
+    for at in range(0, len(log), 16352):
+        piece = log[at : at + 16352]
+        records.append(record(0, b"AFSB\1\2\0\0" + len(piece).to_bytes(4, "big") + bytes(20) + piece))
+    return b"".join(records) + record(1)
+
+
+def shortest(place):
+    """The log that a checkpoint leaves, which is made of a copy."""
+    copy = folder()
+    shutil.copytree(place, copy, dirs_exist_ok=True)
+    told("a checkpoint", copy, "checkpoint")
+    log = log_in(copy, "journal")
+    shutil.rmtree(copy)
+    return log
+
+
+def saves():
+    place = dumped()
+    told("more changes", place, "addvolset -name x", "delvolset -name x")
+    journal, log = contents(place, "journal"), shortest(place)
+    text = told("it is saved", place, "savedb")
+    check("its length and slot are told", text == "saved %d bytes slot 2\nok\n" % len(log), (text, len(log)))
+    check("the tape has it", log_in(place, "slot2") == save_of(log))
+    check("the journal is as it was", contents(place, "journal") == journal)
+    full, mon = sorted(re.findall(r"^dump (\d+) ", told("its dumps", place, "dumpinfo"), re.M))
+    groups = "dumpset %s dumps 1\n" % full, "dumpset %s dumps 1\n" % mon
+    check("no chain is broken", told("it is verified", place, "dbverify") == "".join(groups) + "verified 2 broken 0\nok\n")
+    told("the full dump is forgotten", place, "deletedump -dumpid " + full)
+    text = told("it is verified again", place, "dbverify")
+    check("a chain is broken", text == groups[1] + "broken %s user.a at %s\nverified 1 broken 1\nok\n" % (mon, full), text)
+    log = shortest(place)
+    text = told("it is saved again", place, "savedb", "readlabel -slot 2")
+    check("the tape has the later one", log_in(place, "slot2") == save_of(log) and text.startswith("saved %d bytes slot 2\n" % len(log)), text)
+    done = run(place, "scantape -dbadd")
+    check("a scan passes it over", b"refused 70 BadTape 2 2\n" in done.stdout and ("added %s\n" % full).encode() in done.stdout and done.returncode == 1, done)
+    check("no chain is broken then", told("it is verified behind a scan", place, "dbverify").endswith("verified 2 broken 0\nok\n"))
+
+
+def entry(pattern):
+    return b"\3\1s\0\0" + len(pattern).to_bytes(2, "big") + pattern
+
+
+def save_kills(runs):
+    base = tapes(1)
+    first = b"\1\1s" + b"".join(entry(b"%0100d" % number) for number in range(4000))
+    host = log_in(base, "journal")
+    log = first + host
+    with_journal(base, log)
+    saved_after = lambda count: save_of(first + b"".join(b"\1\5t%04d" % k for k in range(count)) + host)
+    told_in_all = fronts = 0
+    for number in range(runs):
+        place = killed(base, ["listhosts"] + [line for k in range(400) for line in ("addvolset -name t%04d" % k, "savedb")], random.random() * 0.4, replied=True)
+        done = open(path(place, "told"), "rb").read().count(b" bytes slot 0\nok\n")
+        there = sum(line.startswith("set t") for line in sets(place))
+        tape = log_in(place, "slot0")
+        whole = tape == (saved_after(done) if done else b"")
+        front = there == done + 1 and saved_after(there).startswith(tape)
+        check("kill %d: the tape has the last save, or a front of the next one" % number, there in (done, done + 1) and (whole or front), (done, there, len(tape)))
+        told_in_all, fronts = told_in_all + done, fronts + (not whole)
+        told("kill %d: it is saved again" % number, place, "savedb")
+        check("kill %d: whole" % number, log_in(place, "slot0") == saved_after(there))
+        shutil.rmtree(place)
+    print("killed %d times in saves: %d saves told, %d fronts of saves left" % (runs, told_in_all, fronts))
+
+
+# ---- a saved database is read back, and kills in the midst of that
+
+
+LOOKS = ("listvolsets", "listdumps", "listhosts", "dumpinfo")
+
+
+def read_back():
+    place = dumped()
+    whole, log = holds(place), shortest(place)
+    told("it is saved", place, "savedb")
+    tape, seen = contents(place, "slot2"), told("what is saved", place, *LOOKS)
+    lose(place)
+    check("its host comes first", run(place, "restoredb").stdout == b"refused 31 NoSuchPort 0\n")
+    text = told("it is read back", place, HOST, "restoredb", RESTORE)
+    check("both dumps are there", re.fullmatch("ok\ndatabase dumps 2\nok\nrestored user.a from [0-9]+ chain 2\nok\n", text), text)
+    check("the volume is as it was", holds(place) == whole)
+    check("sets, levels, hosts and dumps are as they were", told("what is read", place, *LOOKS) == seen)
+    check("the tape is as it was", contents(place, "slot2") == tape)
+    check("the journal has the host and the saved changes", log_in(place, "journal") == b"\x08\2th\0\0" + log)
+    check("once is enough", run(place, "restoredb").stdout == b"refused 46 DatabaseInUse\n")
+    time.sleep(1.1)
+    told("a dump behind the save", place, "vos write -volume user.a -vnode 6 -size 5000", "dump -volumeset users -dump /full/mon")
+    later = holds(place)
+    lose(place)
+    text = told("it is read back again", place, HOST, "restoredb")
+    check("the later dump isn't there", text == "ok\ndatabase dumps 2\nok\n", text)
+    done = run(place, "scantape -dbadd", RESTORE)
+    check("a scan adds it", done.returncode == 1 and done.stdout.count(b"added ") == 1 and done.stdout.endswith(b" chain 1\nok\n"), done)
+    check("the volume is as it was then", holds(place) == later)
+    lose(place)
+    with open(path(place, "media", "slot2"), "r+b") as file:
+        file.seek(8192 + 2 * 16385 + 2)
+        file.write(b"X")
+    done = run(place, HOST, "restoredb", "listvolsets")
+    check("a bad save is refused", done.stdout == b"ok\nrefused 48 BadSave 2 2\nok\n", done)
+    check("and changes nothing", log_in(place, "journal") == b"\x08\2th\0\0")
+
+
+def read_back_kills(runs):
+    base = tapes(1)
+    host = log_in(base, "journal")
+    log = host + b"".join(b"\x08\x1e%030d" % port + port.to_bytes(2, "big") for port in range(1, 500))
+    with_journal(base, log)
+    told("many hosts are saved", base, "savedb")
+    check("they are on the tape", log_in(base, "slot0") == save_of(log))
+    with_journal(base, host)
+    tape, told_in_all = contents(base, "slot0"), 0
+    for number in range(runs):
+        place = killed(base, ["listhosts"] + ["restoredb"] * 1000, random.random() * 0.4, replied=True)
+        done = open(path(place, "told"), "rb").read().count(b"database dumps 0\nok\n")
+        journal = log_in(place, "journal")
+        there = (len(journal) - len(host)) // len(log)
+        check("kill %d: each save that was read back is in the journal whole" % number, there in (done, done + 1) and journal == host + there * log, (done, there, len(journal)))
+        check("kill %d: the tape is as it was" % number, contents(place, "slot0") == tape)
+        again = told("kill %d: it is read back again" % number, place, "restoredb", "listhosts")
+        check("kill %d: all hosts are there" % number, again.count("host ") == 500, again[-80:])
+        told_in_all += done
+        shutil.rmtree(place)
+    print("killed %d times in reading back: %d told" % (runs, told_in_all))
+
+
 scripts()
 streams()
 opening()
@@ -492,4 +734,10 @@ many_images()
 lost()
 first_version()
 kills(int(os.environ.get("KILLS", "200")))
+groups()
+group_kills(int(os.environ.get("KILLS", "200")) // 2)
+saves()
+save_kills(int(os.environ.get("KILLS", "200")) // 2)
+read_back()
+read_back_kills(int(os.environ.get("KILLS", "200")) // 5)
 finish()

@@ -12,7 +12,8 @@
 //! - `media N`, `cell N` and `read N` make the call of that number fail.
 //! - `preamble N` adds the first N of five common lines to the script, `@MOMENT LINE` a line that is answered at that moment,
 //!   `- LINE` one that isn't answered, `long N` a line of N bytes. `unended` takes the last line feed away. `each FIRST LAST MOMENT
-//!   LINE` adds a line for each number, which stands in place of `%`. `bytes BYTES` adds bytes as they are (in hexadecimal).
+//!   LINE` adds a line, or lines that are parted by `;`, for each number, which stands in place of a `%` in each. `bytes BYTES` adds bytes as
+//!   they are (in hexadecimal).
 //! - `run` runs the script and begins a new one: what it told is printed, and its status; `count` prints how many lines it told, how
 //!   many of them are refusals, and the last one. `journal` prints the journal's log,
 //!   `shape SLOT` the records of a tape, `show NAME` the vnodes of a volume.
@@ -44,7 +45,7 @@ use crate::tries::try_by;
 use crate::volumes::print_volume;
 use crate::world::World;
 use backup_top::Status;
-use std::alloc::Global;
+use std::alloc::{AllocError, Global};
 
 /// Fills a file by the words of a step.
 fn fill_by(alloc: Global, world: &mut World, rest: &str) -> anyhow::Result<()> {
@@ -159,18 +160,37 @@ fn add_line(world: &mut World, step: &str) -> anyhow::Result<bool> {
     Ok(true)
 }
 
-/// Adds a line for each number.
+/// A line with a number in place of its `%`, where it has one.
+fn with_number(alloc: Global, line: &str, count: u32) -> Result<String, AllocError> {
+    match line.split_once('%') {
+        Some((front, back)) => format!(in alloc; "{front}{count}{back}"),
+        None => String::from_str(alloc, line),
+    }
+}
+
+/// Adds lines with this number.
+fn add_numbered(
+    alloc: Global,
+    world: &mut World,
+    moment: u64,
+    lines: &str,
+    count: u32,
+) -> Result<(), AllocError> {
+    for line in lines.split(';') {
+        let line = with_number(alloc, line, count)?;
+        world.script.add(moment, line.as_str())?;
+    }
+    Ok(())
+}
+
+/// Adds lines for each number.
 fn add_each(alloc: Global, world: &mut World, rest: &str) -> anyhow::Result<()> {
     let (first, more) = two_words(rest)?;
     let (last, more) = two_words(more)?;
-    let (moment, line) = two_words(more)?;
-    let Some((front, back)) = line.split_once('%') else {
-        anyhow::bail!("{line} has no place for a number");
-    };
+    let (moment, lines) = two_words(more)?;
     let moment = number(moment)?;
     for count in small_number(first)?..small_number(last)?.saturating_add(1) {
-        let line = format!(in alloc; "{front}{count}{back}")?;
-        world.script.add(moment, line.as_str())?;
+        add_numbered(alloc, world, moment, lines, count)?;
     }
     Ok(())
 }
