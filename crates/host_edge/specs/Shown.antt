@@ -1,8 +1,9 @@
 -- What files in a folder show.
-use Rattle.std.specs.Prelude.{◌≡◌, ℕ, Bool, List, Option, Some, slice_get}
+use Rattle.std.specs.Prelude.{◌≡◌, ℕ, Bool, List, Option, Some}
 use Rattle.std.specs.String.{string_bytes}
 use Rattle.std.specs.declared.io.Error.{Error}
 use Rattle.host_edge.specs.Slots.{file_among, is_here}
+use Rattle.host_edge.specs.Waits.{IsAsLong}
 use Rattle.host_edge.specs.declared.dir_media.DirMedia.{DirMedia}
 use Rattle.host_edge.specs.declared.refusal.Refusal.{Refusal}
 use Rattle.host_edge.specs.declared.waiting.Waiting.{Waiting}
@@ -33,7 +34,7 @@ folder_of media = string_bytes media.folder
 
 -- A file was told to have the length that the opening found or this program left.
 abbrev pub HasLength : {R F W : Type 0} → (F → ℕ → Type 0) → DirMedia R F W → ℕ → F → Type 0
-HasLength measured media f file = (length : ℕ) × (slice_get media.lengths.items f ≡ Some length) × measured file length
+HasLength measured media f file = IsAsLong measured media.lengths.items f file
 
 -- what waits to be written
 abbrev pub waiting_of : {R F W : Type 0} → DirMedia R F W → Waiting

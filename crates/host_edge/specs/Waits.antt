@@ -1,5 +1,5 @@
 -- Bytes that wait to be written to a file.
-use Rattle.std.specs.Prelude.{◌≡◌, ◌≢◌, ◌⊎◌, ℕ, ◌+◌, List, [], ◌++◌, length, Option, IfSome}
+use Rattle.std.specs.Prelude.{◌≡◌, ◌≢◌, ◌⊎◌, ℕ, ◌+◌, List, [], ◌++◌, length, Option, Some, IfSome, slice_get}
 use Rattle.host_edge.specs.declared.waiting.Waiting.{Waiting}
 
 -- some wait for this file
@@ -36,3 +36,7 @@ pub record HasPassed {F : Type 0} (took : F → ℕ → List ℕ → Type 0) (fi
   pub took_them : IfSome file (λ it. took it at bytes)
   pub kept : IsKept took file f old new
   pub none : NoneFor f new
+
+-- The file was told to have the length that stands for it among these.
+abbrev pub IsAsLong : {F : Type 0} → (F → ℕ → Type 0) → List ℕ → ℕ → F → Type 0
+IsAsLong measured lengths f file = (length : ℕ) × (slice_get lengths f ≡ Some length) × measured file length

@@ -15,8 +15,8 @@ use crate::fault::{EdgeFault, at_path};
 use crate::files::{make_folder, sync_folder};
 use crate::refusal::{Explains, ExplainsMedia, Refusal};
 use crate::slots::{
-    Journal, changed, file_among, lengths_of, note_length, open_journal, open_slots, path_of,
-    same_length, slot_at,
+    Journal, changed, file_among, lengths_of, open_journal, open_slots, path_of, same_length,
+    slot_at,
 };
 use crate::waiting::Waiting;
 use crash_moments::raised;
@@ -25,11 +25,12 @@ use std::alloc::AllocError;
 use std::io::{self, ErrorKind, Write};
 use std::rt::Files;
 
-/// The files `journal` and `slot0` to `slot255` of a folder, and an output. File 0 is the journal; a slot is here where its
-/// file is there at the opening. `lengths` are the lengths that the opening found and the writes of this program left: a file
-/// of another length is a fault. Before each wait until a file is on the disk its length is asked, and whether its path leads to it
-/// still. Small writes behind one another wait, and go to their file as one, at the latest when it is synced or read. The refusals
-/// are the last ones.
+/// The files `journal` and `slot0` to `slot255` of a folder, and an output. File 0 is the journal; a slot is here
+/// where its file is there at the opening. `lengths` are the lengths that the opening found and the writes of this
+/// program left: a file of another length is a fault. Before each write to a file, and before each wait until it is
+/// on the disk, its length is asked, and before the wait also whether its path leads to it still. Small writes behind
+/// one another wait, and go to their file as one, at the latest when it is synced or read. The refusals are the last
+/// ones.
 #[derive(Drop)]
 pub struct DirMedia<R: Drop, F: Drop, W: Drop> {
     rt: R,
@@ -67,9 +68,9 @@ impl<R: Files<File = F> + AllocGlobal + Clone + Drop, F: DiskFile + Drop, W: Wri
     ghost use Rattle.host_edge.specs.Shown.{file_of, folder_of, output_of, present_of, waiting_of, faults_of, tell_faults_of, HasLength};
     ghost use Rattle.host_edge.specs.Waits.{NoneFor};
 
-    /// Opens a folder, which is made where it is absent, as is an empty `journal`; the folder that it stands in is there. What
-    /// the files have, and their names, is on the disk then. No file gets the number of a standard stream. Two names of one file are
-    /// refused, and so is what is no regular file.
+    /// Opens a folder, which is made where it is absent, as is an empty `journal`; the folder that it stands in is
+    /// there. What the files have, and their names, is on the disk then. No file gets the number of a standard
+    /// stream. Two names of one file are refused, and so is what is no regular file.
     pub fn open(rt: &R, folder: &str, output: W) -> Result<Self, EdgeFault>
         ensures output { IfOk result (λ media. output_of media ≡ output) }
         ensures faults { IfOk result (λ media. (faults_of media ≡ 0) × (tell_faults_of media ≡ 0)) }
@@ -209,7 +210,7 @@ impl<R: Files<File = F> + AllocGlobal + Clone + Drop, F: DiskFile + Drop, W: Wri
         ensures refused { OnErr result (IsRefusalAt f (refused_of self.new)) }
     {
         let file = file_among(&self.journal, self.slots.as_slice(), f);
-        let given = self.waiting.give(f, file);
+        let given = self.waiting.give(f, file, &mut self.lengths);
         counted(&mut self.faults, &mut self.refused, f, given)?;
         let answer = self.len_of(f);
         counted(&mut self.faults, &mut self.refused, f, answer)
@@ -226,13 +227,14 @@ impl<R: Files<File = F> + AllocGlobal + Clone + Drop, F: DiskFile + Drop, W: Wri
         ensures refused { OnErr result (IsRefusalAt f (refused_of self.new)) }
     {
         let file = file_among(&self.journal, self.slots.as_slice(), f);
-        let given = self.waiting.give(f, file);
+        let given = self.waiting.give(f, file, &mut self.lengths);
         counted(&mut self.faults, &mut self.refused, f, given)?;
         let answer = self.read_from(f, at, into);
         counted(&mut self.faults, &mut self.refused, f, answer)
     }
 
     fn write(&mut self, f: u32, at: u64, from: &[u8]) -> Result<(), Failed>
+        ensures measured { OnOk result (HasJoined f at from.now (waiting_of self.old) (waiting_of self.new) ⊎ IfSome (file_of self.old f) (HasLength F.measured self.old f)) }
         ensures taken { OnOk result (HasJoined f at from.now (waiting_of self.old) (waiting_of self.new) ⊎ HasPassed F.took (file_of self.old f) f at from.now (waiting_of self.old) (waiting_of self.new)) }
         ensures kept { OnErr result (IsKept F.took (file_of self.old f) f (waiting_of self.old) (waiting_of self.new)) }
         ensures files { file_of self.new ≡ file_of self.old }
@@ -242,14 +244,14 @@ impl<R: Files<File = F> + AllocGlobal + Clone + Drop, F: DiskFile + Drop, W: Wri
         ensures refused { OnErr result (IsRefusalAt f (refused_of self.new)) }
     {
         let file = file_among(&self.journal, self.slots.as_slice(), f);
-        let answer = self.waiting.take(f, at, from, file);
+        let answer = self.waiting.take(f, at, from, file, &mut self.lengths);
         counted(&mut self.faults, &mut self.refused, f, answer)?;
-        note_length(&mut self.lengths, f, at.saturating_add(from.len() as u64));
         Ok(())
     }
 
     fn sync(&mut self, f: u32) -> Result<(), Failed>
         ensures measured { OnOk result (IfSome (file_of self.old f) (HasLength F.measured self.old f)) }
+        ensures left { OnOk result (IfSome (file_of self.old f) (HasLength F.measured self.new f)) }
         ensures placed { OnOk result (IfSome (file_of self.old f) (λ file. F.is_under file (path_of (folder_of self.old) f))) }
         ensures settled { OnOk result (IfSome (file_of self.old f) (λ file. F.settled file)) }
         ensures none { OnOk result (NoneFor f (waiting_of self.new)) }
@@ -261,7 +263,7 @@ impl<R: Files<File = F> + AllocGlobal + Clone + Drop, F: DiskFile + Drop, W: Wri
         ensures refused { OnErr result (IsRefusalAt f (refused_of self.new)) }
     {
         let file = file_among(&self.journal, self.slots.as_slice(), f);
-        let given = self.waiting.give(f, file);
+        let given = self.waiting.give(f, file, &mut self.lengths);
         counted(&mut self.faults, &mut self.refused, f, given)?;
         let answer = self.sync_of(f);
         counted(&mut self.faults, &mut self.refused, f, answer)

@@ -2,10 +2,10 @@
 
 ghost use Rattle.std.specs.Prelude.{◌≡◌, ◌↔◌, ◌≤◌, ◌+◌, ◌⊎◌, [], IfOk, OnOk, OnErr, IfSome, IsTrue, Option as Maybe, length, vec_len, vec_capacity};
 ghost use Rattle.std.specs.Option.{option_copied};
-ghost use Rattle.host_edge.specs.Waits.{IsFor, GoOn, NoneFor, HasJoined, HasPassed, IsKept};
+ghost use Rattle.host_edge.specs.Waits.{IsFor, GoOn, NoneFor, HasJoined, HasPassed, IsKept, IsAsLong};
 
 use crate::disk_file::DiskFile;
-use crate::slots::changed;
+use crate::slots::{changed, note_length, same_length};
 use std::alloc::{AllocError, Global};
 use std::io;
 
@@ -75,41 +75,51 @@ impl Waiting {
     }
 
     /// Writes what waits for a file, so that nothing waits for it any more. Where that is refused all waits still.
-    pub(crate) fn give<F: DiskFile>(&mut self, f: u32, file: Option<&F>) -> io::Result<()>
+    pub(crate) fn give<F: DiskFile + Drop>(
+        &mut self,
+        f: u32,
+        file: Option<&F>,
+        lengths: &mut Vec<u64>,
+    ) -> io::Result<()>
         ensures none { OnOk result (NoneFor f self.new) }
         ensures kept { (it : Maybe F) → option_copied file.entry ≡ it → IsKept F.took it f self.old self.new }
+        ensures long { (it : Maybe F) → option_copied file.entry ≡ it → OnOk result (IfSome it (IsAsLong F.measured lengths.old.items f) ⊎ (lengths.new ≡ lengths.old)) }
     {
         if !self.is_for(f) {
             return Ok(());
         }
-        write_whole(file, self.at, self.bytes.as_slice())?;
+        write_whole(f, file, lengths, self.at, self.bytes.as_slice())?;
         self.clear();
         Ok(())
     }
 
     /// Hands bytes to a file, behind what waited for it.
-    fn pass<F: DiskFile>(
+    fn pass<F: DiskFile + Drop>(
         &mut self,
         f: u32,
         at: u64,
         from: &[u8],
         file: Option<&F>,
+        lengths: &mut Vec<u64>,
     ) -> io::Result<()>
+        ensures long { (it : Maybe F) → option_copied file.entry ≡ it → OnOk result (IfSome it (IsAsLong F.measured lengths.old.items f)) }
         ensures passed { (it : Maybe F) → option_copied file.entry ≡ it → OnOk result (HasPassed F.took it f at from.now self.old self.new) }
         ensures kept { (it : Maybe F) → option_copied file.entry ≡ it → OnErr result (IsKept F.took it f self.old self.new) }
     {
-        self.give(f, file)?;
-        write_whole(file, at, from)
+        self.give(f, file, lengths)?;
+        write_whole(f, file, lengths, at, from)
     }
 
     /// Takes bytes of a file: they wait, or the file takes them.
-    pub(crate) fn take<F: DiskFile>(
+    pub(crate) fn take<F: DiskFile + Drop>(
         &mut self,
         f: u32,
         at: u64,
         from: &[u8],
         file: Option<&F>,
+        lengths: &mut Vec<u64>,
     ) -> io::Result<()>
+        ensures long { (it : Maybe F) → option_copied file.entry ≡ it → OnOk result (HasJoined f at from.now self.old self.new ⊎ IfSome it (IsAsLong F.measured lengths.old.items f)) }
         ensures taken { (it : Maybe F) → option_copied file.entry ≡ it → OnOk result (HasJoined f at from.now self.old self.new ⊎ HasPassed F.took it f at from.now self.old self.new) }
         ensures kept { (it : Maybe F) → option_copied file.entry ≡ it → OnErr result (IsKept F.took it f self.old self.new) }
     {
@@ -117,17 +127,27 @@ impl Waiting {
             self.join(f, at, from);
             return Ok(());
         }
-        self.pass(f, at, from, file)?;
+        self.pass(f, at, from, file, lengths)?;
         Ok(())
     }
 }
 
-/// Writes bytes to a file that is here.
-fn write_whole<F: DiskFile>(file: Option<&F>, at: u64, from: &[u8]) -> io::Result<()>
-    ensures { OnOk result (IfSome (option_copied file.entry) (λ it. F.took it at from.now)) }
+/// Writes bytes to a file that is here and has the length that it was left with, and notes how far it was written.
+fn write_whole<F: DiskFile + Drop>(
+    f: u32,
+    file: Option<&F>,
+    lengths: &mut Vec<u64>,
+    at: u64,
+    from: &[u8],
+) -> io::Result<()>
+    ensures took { OnOk result (IfSome (option_copied file.entry) (λ it. F.took it at from.now)) }
+    ensures long { OnOk result (IfSome (option_copied file.entry) (IsAsLong F.measured lengths.old.items f)) }
 {
-    match file {
-        Some(file) => file.write_whole_at(from, at),
-        None => Err(changed()),
-    }
+    let Some(file) = file else {
+        return Err(changed());
+    };
+    same_length(file, lengths.as_slice(), f)?;
+    file.write_whole_at(from, at)?;
+    note_length(lengths, f, at.saturating_add(from.len() as u64));
+    Ok(())
 }

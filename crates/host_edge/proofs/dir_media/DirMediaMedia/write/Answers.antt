@@ -22,3 +22,7 @@ returns-in_err-counted-clause-kept g c =
 pub returns-clause-taken : goal.returns-clause-taken
 returns-clause-taken g c =
     at_ok c.take-answer.result c.in_ok-counted.field-0 c.in_ok-counted.ensures.given (c.take-answer.ensures.taken (file_of c.args.self.now c.args.f) (c.file_among-file.ensures ∙ ap (λ slots. file_among c.args.self.now.journal slots c.args.f) c.as_slice.ensures.value))
+
+pub returns-clause-measured : goal.returns-clause-measured
+returns-clause-measured g c =
+    at_ok c.take-answer.result c.in_ok-counted.field-0 c.in_ok-counted.ensures.given (c.take-answer.ensures.long (file_of c.args.self.now c.args.f) (c.file_among-file.ensures ∙ ap (λ slots. file_among c.args.self.now.journal slots c.args.f) c.as_slice.ensures.value))
