@@ -243,7 +243,7 @@ module _ (s : State) (a : Archive) (records : List DumpRecordFields) (j : JobFie
     | inr last ↦ absurd (other (ap (λ (x : Located). x.slot) (sym last)))
   ]
 
-  gives_there : (name : List ℕ) (v : VolRecordFields) → volume_of (record_done j all_volumes) name ≡ Some v → GivesNext slots_marked (with_dump a.contents (basis_of j) m.clones) (record_done j all_volumes) name v
+  pub gives_there : (name : List ℕ) (v : VolRecordFields) → volume_of (record_done j all_volumes) name ≡ Some v → GivesNext slots_marked (with_dump a.contents (basis_of j) m.clones) (record_done j all_volumes) name v
   gives_there name v is =
       let d : DumpRecordFields = record_done j all_volumes in
       let place = recorded_as_dumped slots_marked all_located d found_there name v is in

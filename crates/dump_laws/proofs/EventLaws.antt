@@ -1,13 +1,14 @@
 -- Each event of a dump keeps the archive.
 use Rattle.std.proofs.Common.{◌≡◌, ℕ, zero, suc, Bool, true, false, Option, Some, None, List, [], ◌∷◌, ◌++◌, refl, sym, ap, subst, ◌∙◌, arith, inl, inr, append-nil}
 use Rattle.std.specs.Prelude.{if◌then◌else◌, IfSome, Result, All, Contains, slice_get}
-use Rattle.std.proofs.lemmas.List.Elements.{All-nil, All-head, All-tail}
+use Rattle.std.proofs.lemmas.List.Elements.{All-nil, All-head, All-tail, Contains-push_cases}
 use Rattle.vnode_model.specs.declared.volumes.VolumeFields.{VolumeFields}
 use Rattle.cell_core.specs.declared.stored.Taken.{Taken}
 use Rattle.tape_frames.specs.declared.frame.Frame.TheVariants as frames
 use Rattle.budb_changes.specs.declared.change.Change.{Change}
 use Rattle.budb_changes.specs.declared.change.Change.TheVariants.{Done}
 use Rattle.budb_changes.specs.declared.records.VolRecordFields.{VolRecordFields}
+use Rattle.budb_fold.specs.Lookups.{volume_of}
 use Rattle.budb_changes.specs.declared.records.DumpRecordFields.{DumpRecordFields}
 use Rattle.budb_changes.specs.Forms.{AreChanges}
 use Rattle.plant_core.specs.Crashes.{State}
@@ -17,7 +18,7 @@ use Rattle.tape_text.specs.Items.{Item, Says, Filemark, IsFitItem}
 use Rattle.tape_writer.specs.Puts.{puts_on}
 use Rattle.archive_model.specs.Archives.{Archive, Refusal, listed_of}
 use Rattle.archive_model.specs.Settled.{Kept}
-use Rattle.archive_model.specs.Turns.{with_items, with_log, with_slot, with_contents, StillHeld}
+use Rattle.archive_model.specs.Turns.{with_items, with_log, with_slot, with_contents, GivesNext, StillHeld}
 use Rattle.dump_job.specs.declared.fields.Hand.{Hand}
 use Rattle.dump_job.specs.declared.fields.JobFields.{JobFields}
 use Rattle.dump_job.specs.declared.fields.Phase.{Phase}
@@ -38,8 +39,11 @@ use Rattle.tape_scan.specs.Slots.{Slot}
 use Rattle.archive_model.proofs.JobLaws.{slot_with}
 use Rattle.dump_laws.proofs.StayingLaws.{still_self, still_then, still_put, still_whole}
 use Rattle.dump_laws.proofs.PutLaws.{same_put, twice_put}
+use Rattle.dump_laws.proofs.OpenSince.{twice_since}
+use Rattle.saved_archives.specs.Since.{OtherThan}
+use Rattle.saved_archives.proofs.SinceLaws.{all_same}
 use Rattle.dump_laws.proofs.FormLaws.{end_fits}
-use Rattle.dump_laws.proofs.DumpEnds.{ended_done, ended_unlisted}
+use Rattle.dump_laws.proofs.DumpEnds.{gives_there, ended_done, ended_unlisted}
 use Rattle.dump_laws.proofs.Stepping.{runs_over, here_same, first_on, put_on_way, on_three, on_four, clone_keeps, tape_keeps, head_keeps, piece_keeps, volume_end_keeps, part_end_keeps}
 
 module _ (s : State) (a : Archive) (records : List DumpRecordFields) (around : Around) (j : JobFields) (m : Made) where
@@ -107,6 +111,11 @@ module _ (s : State) (a : Archive) (records : List DumpRecordFields) (around : A
         clones_are = refl;
         dumps_are = one_joins (j.volumes ++ record_with j.head.tape h ∷ []) none;
         put = twice_put s a records g.held j.head.id k b.open_part.slot (Says (frames.DumpEnd (part_end 0 j)) ∷ []) (Filemark ∷ []) b.open_part.at (λ other no. tt);
+        since = twice_since a j m [] b.open_part j.head.id refl (λ other. tt) (Says (frames.DumpEnd (part_end 0 j)) ∷ []) (Filemark ∷ []) (λ other no. tt);
+        gives = λ e there. elim (Contains-push_cases records d e there) [
+          | inl old ↦ inl old
+          | inr same ↦ inr (subst (λ (x : DumpRecordFields). (name : List ℕ) (v : VolRecordFields) → volume_of x name ≡ Some v → GivesNext z.slots z.contents x name v) same (gives_there s a records j m g h b fit))
+        ];
       }
 
   dump_unlisted : (g : Goes s a records j m) (h : Hand) (b : BeforeDumpEnd a j h m) → volumes_done j ≡ j.volumes ++ record_with j.head.tape h ∷ [] → IsFitItem (Says (frames.DumpEnd (part_end 0 j))) → Keeps s a records grown m.clones with_done (puts_on j.reel.slot (part_end_items 0 j)) [] (dump_ended j)
@@ -133,6 +142,11 @@ module _ (s : State) (a : Archive) (records : List DumpRecordFields) (around : A
         clones_are = refl;
         dumps_are = one_joins (j.volumes ++ record_with j.head.tape h ∷ []) none;
         put = twice_put s a records g.held j.head.id k b.open_part.slot (Says (frames.DumpEnd (part_end 0 j)) ∷ []) (Filemark ∷ []) b.open_part.at (λ other no. tt);
+        since = twice_since a j m [] b.open_part j.head.id refl (λ other. tt) (Says (frames.DumpEnd (part_end 0 j)) ∷ []) (Filemark ∷ []) (λ other no. tt);
+        gives = λ e there. elim (Contains-push_cases records d e there) [
+          | inl old ↦ inl old
+          | inr same ↦ inr (subst (λ (x : DumpRecordFields). (name : List ℕ) (v : VolRecordFields) → volume_of x name ≡ Some v → GivesNext z.slots z.contents x name v) same (gives_there s a records j m g h b fit))
+        ];
       }
 
   dump_closed : (g : Goes s a records j m) (h : Hand) (b : BeforeDumpEnd a j h m) → volumes_done j ≡ j.volumes ++ record_with j.head.tape h ∷ [] → IsFitItem (Says (frames.DumpEnd (part_end 0 j))) → (t : Bool) → AreChanges (if t then [] else Done (record_done j (j.volumes ++ record_with j.head.tape h ∷ [])) ∷ [])
@@ -197,6 +211,8 @@ module _ (s : State) (a : Archive) (records : List DumpRecordFields) (around : A
     clones_are = refl;
     dumps_are = λ d there. there;
     put = same_put s a records r.held j.head.id;
+    since = all_same (OtherThan j.head.id) a.slots;
+    gives = λ d there. inl there;
   }
 
   -- Each event keeps the archive: what it puts and commits is held settled, step by step, and the dump runs on.

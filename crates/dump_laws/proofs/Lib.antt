@@ -18,6 +18,7 @@ pub mod TapeSteps
 pub mod PartPasses
 pub mod FormLaws
 pub mod PutLaws
+pub mod OpenSince
 pub mod Stepping
 pub mod EventLaws
 pub mod LoadLaws

@@ -115,6 +115,8 @@ behind_loads (n ∷ away) s a records contents clones dumps effects changes next
       clones_are = r.clones_are;
       dumps_are = r.dumps_are;
       put = r.put;
+      since = r.since;
+      gives = r.gives;
     }
 
 -- A step, which is an event behind loads, keeps the archive.

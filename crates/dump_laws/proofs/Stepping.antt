@@ -47,11 +47,15 @@ use Rattle.dump_job.specs.Ending.{part_end, part_end_items}
 use Rattle.dump_job.specs.Closing.{committing, is_too_long}
 use Rattle.dump_job.specs.Passing.{may_go_on, next_wanting, next_choice, next_hand, part_passed, part_refused}
 use Rattle.dump_job.specs.Events.{Around, Event, clone_by, clone_from, head_event, piece_event, part_end_event, part_end_by, event_by, items_of, items_at}
-use Rattle.dump_laws.specs.Made.{Made, MayCome}
+use Rattle.dump_laws.specs.Made.{Made, opening_items, MayCome}
 use Rattle.dump_laws.specs.Running.{basis_of, Goes, IsOpen, IsChosen, Comes, BeforeTape, CloneGoes, BeforeClone, BeforeHead, HasOpenFragment, BeforePiece, BeforeVolumeEnd, BeforePartEnd, BeforeDumpEnd, WithHand, Before, UnlessOver, RunsIn}
 use Rattle.dump_laws.specs.Keeping.{IsFormedHand, IsFormed, HasRoomBefore, CloneIsFair, one_more, clone_for, IsOnTheWay, Keeps}
 use Rattle.dump_laws.proofs.NeighbourLaws.{ends_so, get_within}
 use Rattle.dump_laws.proofs.PutLaws.{AreOwn, same_put, more_put, front_put}
+use Rattle.dump_laws.proofs.OpenSince.{only_pieces_none, open_since}
+use Rattle.saved_archives.specs.Since.{AreSince, OtherThan}
+use Rattle.saved_archives.proofs.SinceLaws.{all_same}
+use Rattle.saved_archives.proofs.CutLaws.{cut_all_since, anew_since}
 use Rattle.dump_laws.proofs.StreamLaws.{with_fragment}
 use Rattle.dump_laws.proofs.StayingLaws.{still_self, still_then, still_put, still_free}
 use Rattle.dump_laws.proofs.FormLaws.{end_fits, fragment_end_fits, piece_fits, head_fits}
@@ -157,6 +161,8 @@ module _ (s : State) (a : Archive) (records : List DumpRecordFields) (around : A
     clones_are = refl;
     dumps_are = λ d there. there;
     put = same_put s a records g.held next.head.id;
+    since = all_same (OtherThan next.head.id) a.slots;
+    gives = λ d there. inl there;
   }
 
   parent_known : (known : List DumpRecordFields) → CloneIsFair a known around j → (p : DumpRecordFields) → j.parent ≡ Some p → Contains known p × (p.id ≡ j.head.parent)
@@ -231,6 +237,8 @@ module _ (s : State) (a : Archive) (records : List DumpRecordFields) (around : A
         clones_are = refl;
         dumps_are = among;
         put = front_put s a records g.held j.head.id k b.slot 0 all b.at (λ other no. ((λ same. no (sym same)), tt)) (λ d tape p there place holds_it. absurd (t.free d tape there holds_it));
+        since = anew_since (OtherThan j.head.id) a.slots k b.slot b.at all (λ other no. ((λ same. no (sym same)), tt));
+        gives = λ d there. inl (among d there);
       }
   tape_by b None is t fit_label enough uses fit known =
       let k : ℕ = j.reel.slot in
@@ -261,6 +269,8 @@ module _ (s : State) (a : Archive) (records : List DumpRecordFields) (around : A
         clones_are = refl;
         dumps_are = among;
         put = front_put s a records g.held j.head.id k b.slot (records_on j.reel) (Says (frames.DumpHead (head_with uses j.head)) ∷ []) b.at (λ other no. ((λ same. no (sym same)), tt)) t.behind;
+        since = cut_all_since (OtherThan j.head.id) a.slots k b.slot b.at (records_on j.reel) m.front (Says (frames.DumpHead (head_with uses j.head)) ∷ []) t.stands (λ other no. ((λ same. no (sym same)), tt));
+        gives = λ d there. inl (among d there);
       }
 
   pub tape_keeps : (b : BeforeTape a j m) → IsFormed j → HasRoomBefore j → around.slots ≡ a.slots → KeepsBy (event_by phase.Tape around j)
@@ -273,9 +283,9 @@ module _ (s : State) (a : Archive) (records : List DumpRecordFields) (around : A
   -- ---- the steps of the volume in hand
 
   -- one frame was put on the tape in hand
-  one_put : (t : Slot) (items : List Item) → slice_get a.slots j.reel.slot ≡ Some t → (next : JobFields) (m2 : Made) → m2.clones ≡ m.clones → AreOwn next.head.id items → AreHeld s (puts_on j.reel.slot items) (record { archive = a; records = records } ∷ record { archive = with_slot a j.reel.slot (t.items ++ items); records = records } ∷ [])
+  one_put : (t : Slot) (items : List Item) → slice_get a.slots j.reel.slot ≡ Some t → (next : JobFields) (m2 : Made) → m2.clones ≡ m.clones → AreOwn next.head.id items → AreSince (OtherThan next.head.id) a.slots (with_items j.reel.slot (t.items ++ items) a.slots) → AreHeld s (puts_on j.reel.slot items) (record { archive = a; records = records } ∷ record { archive = with_slot a j.reel.slot (t.items ++ items); records = records } ∷ [])
       → RunsIn (come (puts_on j.reel.slot items) s) (with_slot a j.reel.slot (t.items ++ items)) records next m2 → Keeps s a records a.contents m.clones records (puts_on j.reel.slot items) [] next
-  one_put t items at next m2 clones own held runs =
+  one_put t items at next m2 clones own since held runs =
       let z : Archive = with_slot a j.reel.slot (t.items ++ items) in
       record {
         before = record { archive = a; records = records } ∷ [];
@@ -292,11 +302,13 @@ module _ (s : State) (a : Archive) (records : List DumpRecordFields) (around : A
         clones_are = clones;
         dumps_are = λ d there. there;
         put = more_put s a records g.held next.head.id j.reel.slot t items at own;
+        since = since;
+        gives = λ d there. inl there;
       }
 
-  end_put : (h : Hand) (x : HasOpenFragment a j h m) (last : ℕ) (next : JobFields) (m2 : Made) → m2.clones ≡ m.clones → IsFitItem (Says (frames.VolEnd (fragment_end last h)))
+  end_put : (h : Hand) (x : HasOpenFragment a j h m) (last : ℕ) (next : JobFields) (m2 : Made) → m2.clones ≡ m.clones → next.head.id ≡ j.head.id → IsFitItem (Says (frames.VolEnd (fragment_end last h)))
       → RunsIn (come (puts_on j.reel.slot (end_items last h)) s) (with_slot a j.reel.slot (x.open_part.slot.items ++ end_items last h)) records next m2 → Keeps s a records a.contents m.clones records (puts_on j.reel.slot (end_items last h)) [] next
-  end_put h x last next m2 clones fit runs =
+  end_put h x last next m2 clones id fit runs =
       let k : ℕ = j.reel.slot in
       let one : List Item = x.open_part.slot.items ++ Says (frames.VolEnd (fragment_end last h)) ∷ [] in
       let all : List Item = x.open_part.slot.items ++ end_items last h in
@@ -316,6 +328,8 @@ module _ (s : State) (a : Archive) (records : List DumpRecordFields) (around : A
         clones_are = clones;
         dumps_are = λ d there. there;
         put = more_put s a records g.held next.head.id k x.open_part.slot (end_items last h) x.open_part.at (λ other no. tt);
+        since = open_since a j m (opening_items h.head m.pieces) x.open_part next.head.id id (λ other. only_pieces_none other m.pieces) (end_items last h) (λ other no. tt);
+        gives = λ d there. inl there;
       }
 
   nothing_or : (xs : List ℕ) → (xs ≡ []) ⊎ (xs ≡ [] → ⊥)
@@ -329,7 +343,7 @@ module _ (s : State) (a : Archive) (records : List DumpRecordFields) (around : A
       let m2 : Made = record m { pieces = m.pieces ++ next_piece h ∷ [] } in
       let goes = piece_goes s a records j m g h b fit in
       let z : Archive = with_slot a j.reel.slot (t.items ++ piece_items h) in
-      one_put t (piece_items h) b.fragment.open_part.at (pieced h j) m2 refl (λ other no. tt) (piece_held s a records j m g h b fit)
+      one_put t (piece_items h) b.fragment.open_part.at (pieced h j) m2 refl (λ other no. tt) (open_since a j m (opening_items h.head m.pieces) b.fragment.open_part j.head.id refl (λ other. only_pieces_none other m.pieces) (piece_items h) (λ other no. tt)) (piece_held s a records j m g h b fit)
       (elim (nothing_or (drop (next_used h) h.stream)) [
         | inl none ↦ runs_by (come (puts_on j.reel.slot (piece_items h)) s) z records (pieced h j) m2 phase.VolumeEnd (phase_over (drop (next_used h) h.stream) none) goes (piece_last s a records j m g h b none)
         | inr some ↦ runs_by (come (puts_on j.reel.slot (piece_items h)) s) z records (pieced h j) m2 phase.Piece (phase_left (drop (next_used h) h.stream) some) goes (piece_before s a records j m g h b some)
@@ -341,7 +355,7 @@ module _ (s : State) (a : Archive) (records : List DumpRecordFields) (around : A
       let fit : IsFitItem (Says (frames.VolEnd (fragment_end 0 h))) = fragment_end_fits h 0 form (omega arith) in
       let f : Fragment = record { head = h.head; pieces = m.pieces; end = fragment_end 0 h } in
       let z : Archive = with_slot a j.reel.slot (x.open_part.slot.items ++ end_items 0 h) in
-      end_put h x 0 (volume_cut j) (with_fragment m f) refl fit
+      end_put h x 0 (volume_cut j) (with_fragment m f) refl refl fit
       (runs_by (come (puts_on j.reel.slot (end_items 0 h)) s) z records (volume_cut j) (with_fragment m f) phase.PartEnd refl (end_goes s a records j m g h x 0 phase.PartEnd fit)
       (subst (λ (o : Option Hand). WithHand (λ (y : Hand). BeforePartEnd z (volume_cut j) y (with_fragment m f)) o) (sym is) (cut_behind s a records j m g h b some)))
 
@@ -360,7 +374,7 @@ module _ (s : State) (a : Archive) (records : List DumpRecordFields) (around : A
       let z : Archive = with_slot a j.reel.slot (x.open_part.slot.items ++ end_items 1 h) in
       let last : JobFields = record j { reel = with_more 1 1 j.reel; phase = phase.DumpEnd } in
       let more : JobFields = record j { reel = with_more 1 1 j.reel; phase = phase.Clone } in
-      end_put h x 1 (volume_ended h j) m2 refl fit
+      end_put h x 1 (volume_ended h j) m2 refl refl fit
       (elim (cases_Bool (nat_lt (h.head.index + 1) (length j.places))) [
         | inl hit ↦
             rw hit
@@ -404,13 +418,15 @@ module _ (s : State) (a : Archive) (records : List DumpRecordFields) (around : A
         clones_are = refl;
         dumps_are = λ d there. there;
         put = more_put s a records g.held j.head.id j.reel.slot o.slot (part_end_items 1 j) o.at (λ other no. tt);
+        since = open_since a j m [] o j.head.id refl (λ other. tt) (part_end_items 1 j) (λ other no. tt);
+        gives = λ d there. inl there;
       }
 
   -- the next tape's dump set is forgotten, where one is
-  took : (o : IsOpen a j m []) → EndsEarly j.head.volumes m.fragments → IsFitItem (Says (frames.DumpEnd (part_end 1 j))) → (take : Option ℕ) → AreChanges (takes take) → (next : JobFields) (m2 : Made) → m2.clones ≡ m.clones
+  took : (o : IsOpen a j m []) → EndsEarly j.head.volumes m.fragments → IsFitItem (Says (frames.DumpEnd (part_end 1 j))) → (take : Option ℕ) → AreChanges (takes take) → (next : JobFields) (m2 : Made) → m2.clones ≡ m.clones → next.head.id ≡ j.head.id
       → RunsIn (come (committing (takes take)) (come (puts_on j.reel.slot (part_end_items 1 j)) s)) (passed_archive take (with_slot a j.reel.slot (o.slot.items ++ part_end_items 1 j))) (passed_records take (with_slot a j.reel.slot (o.slot.items ++ part_end_items 1 j)) records) next m2
       → Keeps s a records a.contents m.clones records (puts_on j.reel.slot (part_end_items 1 j) ++ committing (takes take)) (takes take) next
-  took o early fit None forms next m2 clones runs =
+  took o early fit None forms next m2 clones id runs =
       let k : ℕ = j.reel.slot in
       let y : Archive = with_slot a k (o.slot.items ++ part_end_items 1 j) in
       let z : Archive = passed_archive None y in
@@ -433,8 +449,10 @@ module _ (s : State) (a : Archive) (records : List DumpRecordFields) (around : A
         clones_are = clones;
         dumps_are = λ d there. there;
         put = more_put s a records g.held next.head.id k o.slot (part_end_items 1 j) o.at (λ other no. tt);
+        since = open_since a j m [] o next.head.id id (λ other. tt) (part_end_items 1 j) (λ other no. tt);
+        gives = λ d there. inl there;
       }
-  took o early fit (Some initial) forms next m2 clones runs =
+  took o early fit (Some initial) forms next m2 clones id runs =
       let k : ℕ = j.reel.slot in
       let y : Archive = with_slot a k (o.slot.items ++ part_end_items 1 j) in
       let z : Archive = passed_archive (Some initial) y in
@@ -457,6 +475,8 @@ module _ (s : State) (a : Archive) (records : List DumpRecordFields) (around : A
         clones_are = clones;
         dumps_are = λ d there. among_passed (Some initial) y records d there;
         put = more_put s a records g.held next.head.id k o.slot (part_end_items 1 j) o.at (λ other no. tt);
+        since = open_since a j m [] o next.head.id id (λ other. tt) (part_end_items 1 j) (λ other no. tt);
+        gives = λ d there. inl (among_passed (Some initial) y records d there);
       }
 
   choice_is : (c : Chosen) (b : Bool) (o : Option Chosen) → (if b then o else None) ≡ Some c → o ≡ Some c
@@ -471,7 +491,7 @@ module _ (s : State) (a : Archive) (records : List DumpRecordFields) (around : A
   closed_by cut o early fit c is false forms before =
       let chosen_is : IsChosenOf (listed_of a) (next_wanting (listed_of a) j) a.slots c = chosen_of (listed_of a) (next_wanting (listed_of a) j) j.port a.slots c (choice_is c (may_go_on j) (choice_of (listed_of a) (chosen (listed_of a) (next_wanting (listed_of a) j) j.port a.slots)) is) in
       let y : Archive = with_slot a j.reel.slot (o.slot.items ++ part_end_items 1 j) in
-      took o early fit c.take forms (part_passed cut c j) (passed_made j m) refl
+      took o early fit c.take forms (part_passed cut c j) (passed_made j m) refl refl
       (runs_by (come (committing (takes c.take)) (come (puts_on j.reel.slot (part_end_items 1 j)) s)) (passed_archive c.take y) (passed_records c.take y records) (part_passed cut c j) (passed_made j m) phase.Tape refl
       (passed_goes s a records j m g o early fit c chosen_is forms cut) (before chosen_is forms))
 
@@ -501,7 +521,7 @@ module _ (s : State) (a : Archive) (records : List DumpRecordFields) (around : A
   head_put h is b enough form =
       let t : Slot = b.open_part.slot in
       let z : Archive = with_slot a j.reel.slot (t.items ++ head_items h) in
-      one_put t (head_items h) b.open_part.at (headed h j) m refl (λ other no. tt) (head_held s a records j m g h b form.head)
+      one_put t (head_items h) b.open_part.at (headed h j) m refl (λ other no. tt) (open_since a j m [] b.open_part j.head.id refl (λ other. tt) (head_items h) (λ other no. tt)) (head_held s a records j m g h b form.head)
       (runs_by (come (puts_on j.reel.slot (head_items h)) s) z records (headed h j) m phase.Piece (phase_left h.stream b.left) (head_goes s a records j m g h b form.head) (head_before s a records j m g h b enough))
 
   come_ends : (h : Hand) (fs : List Fragment) → MayCome m.ended fs h.head → (fs ≡ [] → ⊥) → Ends (λ f. (f.end.last ≡ 1) × NextVolume f.head h.head) fs

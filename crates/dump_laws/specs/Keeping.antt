@@ -14,6 +14,8 @@ use Rattle.cell_core.specs.Fairness.{Fair}
 use Rattle.budb_changes.specs.declared.change.Change.{Change}
 use Rattle.budb_changes.specs.declared.records.TapePart.{TapePart}
 use Rattle.budb_changes.specs.declared.records.DumpRecordFields.{DumpRecordFields}
+use Rattle.budb_fold.specs.Lookups.{volume_of}
+use Rattle.budb_changes.specs.declared.records.VolRecordFields.{VolRecordFields}
 use Rattle.budb_changes.specs.Forms.{AreChanges}
 use Rattle.plant_core.specs.Crashes.{State}
 use Rattle.plant_core.specs.Effects.{Effect, come}
@@ -25,8 +27,9 @@ use Rattle.tape_writer.specs.Room.{HasRoom, with_label}
 use Rattle.archive_model.specs.Holding.{place_of, holds, HasNoHead}
 use Rattle.archive_model.specs.Archives.{Archive, Refusal, listed_of, IsHeld, Holds}
 use Rattle.archive_model.specs.Settled.{Kept, AreHeld}
+use Rattle.saved_archives.specs.Since.{AreSince, OtherThan}
 use Rattle.archive_model.specs.Sources.{dumped_by}
-use Rattle.archive_model.specs.Turns.{is_here, StillHeld, remaining}
+use Rattle.archive_model.specs.Turns.{GivesNext, is_here, StillHeld, remaining}
 use Rattle.dump_job.specs.declared.fields.Hand.{Hand}
 use Rattle.dump_job.specs.declared.fields.JobFields.{JobFields}
 use Rattle.dump_job.specs.declared.fields.Phase.{Phase}
@@ -176,7 +179,8 @@ pub record IsOnTheWay (a z : Archive) (records dumps : List DumpRecordFields) (x
 
 -- These effects, by which these changes are committed, lead from an archive to one with these contents; archives on the way are held settled, one
 -- behind each effect; and the dump, as it is then, runs in the last of them, over these clones. That archive has no other dumps than these, and on
--- its tapes stands nothing new but what the dump has put.
+-- its tapes stands nothing new but what the dump has put: of other dumps, listed or not, they are since what they were.
+-- A dump that joins the dumps gives what it has of a volume over what its parent has.
 pub record Keeps (s : State) (a : Archive) (records : List DumpRecordFields) (contents : ℕ → List ℕ → Result VolumeFields Refusal) (clones : List Taken) (dumps : List DumpRecordFields) (effects : List Effect) (changes : List Change) (next : JobFields) : Type 0 where
   pub before : List Kept
   pub last : Kept
@@ -192,6 +196,8 @@ pub record Keeps (s : State) (a : Archive) (records : List DumpRecordFields) (co
   pub clones_are : made.clones ≡ clones
   pub dumps_are : (d : DumpRecordFields) → Contains last.records d → Contains dumps d
   pub put : HavePut next.head.id (listed_of a) a.slots last.archive.slots
+  pub since : AreSince (OtherThan next.head.id) a.slots last.archive.slots
+  pub gives : (d : DumpRecordFields) → Contains last.records d → Contains records d ⊎ ((name : List ℕ) (v : VolRecordFields) → volume_of d name ≡ Some v → GivesNext last.archive.slots last.archive.contents d name v)
 
 -- ---- what each image holds
 
