@@ -75,13 +75,14 @@ bench: afsbackup
 
 # Tests the files in a real folder by a small program: closed standard streams, refused opens, kills, what is on the disk when
 # a line is told, and images of volumes against a model. Then the program itself: scripts after one another, closed and full outputs,
-# refused opens, a full device, lost journals, saved databases, 400 kills, each told reply's change in the journal, and less memory than a
-# script needs, in steps of a page.
+# refused opens, a full device, lost journals, saved databases, 400 kills, each told reply's change in the journal, less memory than a
+# script needs, in steps of a page, and groups of dumps whose journal is at its limit.
 edge-tests: afsbackup
 	cd crates/bench_tools && rt run -- probe < stdin > /dev/null && rm -r media cell
 	bench/edge/tests.py crates/bench_tools/out/bench_tools
 	bench/edge/program.py ./afsbackup
 	bench/edge/memory.py ./afsbackup
+	bench/edge/full.py ./afsbackup
 
 # ---- documents, installation and the bridge to a real cell
 
