@@ -6,7 +6,7 @@ for are reckoned from the definitions, and so is each byte of the journals. A re
 written here. The time and the peak memory of each run are told, and not judged.
 
 The first argument is the program. It works in folders of its own below the second one (else a new one), which need
-1 GB."""
+300 MB."""
 import os
 import re
 import shutil
@@ -278,21 +278,23 @@ def found_line(which, ident):
 # ---- runs
 
 
+# Runs a command and tells its peak memory behind what it told on standard error. This test itself has much more.
+MEASURED = """import resource, subprocess, sys
+status = subprocess.call(sys.argv[1:])
+print(resource.getrusage(resource.RUSAGE_CHILDREN).ru_maxrss, file=sys.stderr)
+sys.exit(status)"""
+
+
 def run(name, place, *lines):
     """Runs a script, and tells its time and peak memory; the answer is its status and what it told."""
+    script = "".join(line + "\n" for line in lines)
     start = time.monotonic()
-    child = subprocess.Popen([PROGRAM, "run"], cwd=place, stdin=subprocess.PIPE, stdout=subprocess.PIPE)
-    try:
-        child.stdin.write("".join(line + "\n" for line in lines).encode())
-        child.stdin.close()
-    except BrokenPipeError:
-        pass
-    told = child.stdout.read().decode()
-    child.stdout.close()
-    _, status, used = os.wait4(child.pid, 0)
-    child.returncode = os.waitstatus_to_exitcode(status)
-    print("%-46s %7.2f s  peak %6.0f MB" % (name, time.monotonic() - start, used.ru_maxrss * 1024 / 1e6))
-    return child.returncode, told
+    command = [sys.executable, "-c", MEASURED, PROGRAM, "run"]
+    done = subprocess.run(command, cwd=place, input=script.encode(), capture_output=True)
+    taken = time.monotonic() - start
+    *errors, peak = done.stderr.decode().splitlines()
+    print("%-46s %7.2f s  peak %6.0f MB" % (name, taken, int(peak) * 1024 / 1e6), *errors, flush=True)
+    return done.returncode, done.stdout.decode()
 
 
 def tells(name, place, lines, due):
