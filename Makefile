@@ -59,8 +59,8 @@ try:
 	cd crates/backup_cli && rt try -- examine < ../../$(SAMPLE)
 
 # Times examine on a stream of 256 MiB beside cat, lines of a script beside the writes and syncs of their commits, reading and writing a
-# stream, a tape and whole dumps and restores beside cp, and scans beside cat, look-ups over 100 and over 100,000 dumps, and a saved
-# database beside cp. They need some 8 GB in the folder that TMPDIR names.
+# stream, a tape and whole dumps and restores beside cp, dumps in a group beside the same ones apart, scans beside cat, look-ups over 100
+# and over 100,000 dumps, and a saved database beside cp. They need some 8 GB in the folder that TMPDIR names.
 bench: afsbackup
 	bench/examine.sh ./afsbackup
 	bench/run.sh ./afsbackup
@@ -69,14 +69,15 @@ bench: afsbackup
 	bench/tape.sh crates/bench_tools/out/bench_tools
 	bench/dump.sh ./afsbackup
 	bench/restore.sh ./afsbackup
+	bench/together.sh ./afsbackup
 	bench/scan.sh ./afsbackup
 	bench/lookups.sh ./afsbackup
 	bench/save.sh ./afsbackup
 
 # Tests the files in a real folder by a small program: closed standard streams, refused opens, kills, what is on the disk when
 # a line is told, and images of volumes against a model. Then the program itself: scripts after one another, closed and full outputs,
-# refused opens, a full device, lost journals, saved databases, 400 kills, each told reply's change in the journal, less memory than a
-# script needs, in steps of a page, and groups of dumps whose journal is at its limit.
+# refused opens, a full device, lost journals, groups, saved databases, 440 kills, each told reply's change in the journal, less memory
+# than a script needs, in steps of a page, and groups of dumps whose journal is at its limit.
 edge-tests: afsbackup
 	cd crates/bench_tools && rt run -- probe < stdin > /dev/null && rm -r media cell
 	bench/edge/tests.py crates/bench_tools/out/bench_tools
