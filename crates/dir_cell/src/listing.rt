@@ -13,7 +13,7 @@ use cell_core::{Image, Standing};
 use host_edge::{EdgeFault, add, again, at_path, not_regular, path_in};
 use std::alloc::{AllocError, Global};
 use std::cmp::Ordering;
-use std::fs::{self, Metadata};
+use std::fs::{self, Metadata, ReadDir};
 use std::io::{self, ErrorKind};
 use std::rt::Files;
 
@@ -62,10 +62,25 @@ fn image_name(alloc: Global, file: &str) -> Result<Option<Name>, AllocError> {
     }
 }
 
+/// Opens a folder for its names, again where a signal interrupts that.
+fn open_names<R: Files + AllocGlobal + Clone + Drop>(rt: &R, path: &str) -> io::Result<ReadDir<R>> {
+    for _ in 0..u64::MAX {
+        match fs::read_dir(rt, path) {
+            Ok(entries) => return Ok(entries),
+            Err(cause) => {
+                if cause.kind() != ErrorKind::Interrupted {
+                    return Err(cause);
+                }
+            }
+        }
+    }
+    Err(io::Error::from(ErrorKind::Interrupted))
+}
+
 /// The names in a folder that are text.
 fn names_in<R: Files + AllocGlobal + Clone + Drop>(rt: &R, path: &str) -> io::Result<Vec<String>> {
     let mut names = Vec::new(rt.alloc());
-    for entry in fs::read_dir(rt, path)? {
+    for entry in open_names(rt, path)? {
         match entry {
             Ok(entry) => add(&mut names, String::from_str(rt.alloc(), entry.file_name())?)?,
             Err(error) if error.kind() == ErrorKind::InvalidFilename => {}
