@@ -1,9 +1,9 @@
 #!/usr/bin/env python3
-"""Tests of `afsbackup run` in a real folder: scripts after one another, standard streams that are closed or full, what can't be
-opened, links, files that somebody else changes, rights, calls that are interrupted, a full device, a damaged journal, a
-journal and a volume that are lost and got back, also with a tape out, a journal of the first version, many images, dumps
-made together, a database that is saved, verified and read back, and a program that is killed in the midst of its scripts, of its
-groups, of its saves and of reading them back.
+"""Tests of `afsbackup run` in a real folder: scripts after one another, standard streams that are closed, full or a terminal,
+what can't be opened, words on standard error, scripts that are read in pieces, links, files that somebody else changes, rights,
+calls that are interrupted, a full device, a damaged journal, a journal and a volume that are lost and got back, also with a
+tape out, a journal of the first version, many images, dumps made together, a database that is saved, verified and read back,
+and a program that is killed in the midst of its scripts, of its groups, of its saves and of reading them back.
 
 The first argument is the program. It works in folders of its own below the second one (else a new one)."""
 import os
@@ -20,6 +20,7 @@ from checks import PROGRAM, check, finish, folder, shell
 
 random.seed(17)
 
+MADE = "media: made a new, empty database"
 ENTRY = "addvolentry -name users -server .* -partition .* -volumes "
 
 
@@ -57,7 +58,8 @@ def says(name, done, status, *lines):
 
 def scripts():
     place = folder()
-    check("an empty script", run(place).returncode == 0)
+    says("an empty script in an empty folder", run(place), 0, MADE)
+    says("an empty script in a folder with a database", run(place), 0)
     check("a first script", run(place, "addvolset -name users", ENTRY + "user\\.a").stdout == b"ok\nok\n")
     check("a second one finds what it left", entries(place) == ["user\\.a"], sets(place))
     check("a refused line", run(place, "addvolset -name users").returncode == 1)
@@ -76,7 +78,7 @@ def streams():
     ]:
         place = folder()
         done = shell(place, '"$P" run ' + closed, text(add))
-        says("streams " + closed, done, status, line, cause)
+        says("streams " + closed, done, status, line, cause, MADE)
         check("what was done stays " + closed, has_set(place, "one") == kept and not has_set(place, "two"), sets(place))
     place = folder()
     done = shell(place, '"$P" run 2>&-', text(add))
@@ -102,7 +104,9 @@ def opening():
     place = folder()
     with open(os.path.join(place, "tapeconfig"), "w") as file:
         file.write("slots:0-1 0\ntape 0\n")
-    says("tapeconfig has no known form", run(place), 7, "the configuration has no known form", "tapeconfig: refused at line 2")
+    refused = "the configuration has no known form"
+    says("tapeconfig has no known form", run(place), 7, refused, "tapeconfig: refused at line 2: tape", MADE)
+    says("a folder whose database was made", run(place), 7, refused, "tapeconfig: refused at line 2: tape")
     place = folder()
     os.mkdir(os.path.join(place, "media"))
     with open(os.path.join(place, "media", "journal"), "wb") as file:
@@ -118,6 +122,84 @@ def opening():
     check("the first program ends", first.wait() == 0)
 
 
+# ---- words of the configuration
+
+
+def words():
+    for line, word in [("tape", "tape"), ("slots:3-0 0", "slots:3-0"), ("slots:0-3 58511", "58511"), ("0 2x slots:0-0 0", "2x"),
+                       ("name_check maybe 0", "maybe"), ("cell -a", "-a"), ("0 0 slots:0-0 0 more", "more"), ("\x1b[2J 0", "?[2J"),
+                       ("slots:8-9 0", "an earlier line has its port, its slots or the cell"), ("x" * 65, "x" * 64 + "..")]:
+        place = folder()
+        with open(path(place, "tapeconfig"), "w") as file:
+            file.write("# one\nslots:8-9 0\n%s\nslots:4-5 x\n" % line)
+        done = run(place)
+        says("a word that isn't understood: %r" % line, done, 7, "the configuration has no known form", "tapeconfig: refused at line 3: " + word, MADE)
+        check("the whole line is that: %r" % line, done.stderr.split(b"\n")[1].decode() == "tapeconfig: refused at line 3: " + word, done)
+
+
+# ---- a person at a terminal
+
+
+def at_terminal(word, *given):
+    """Gives pieces to the program at a terminal, and says how it ended, what it told and what stood on its errors, which are none."""
+    place = folder()
+    ours, theirs = pty.openpty()
+    program = subprocess.Popen([PROGRAM, word], cwd=place, stdin=theirs, stdout=subprocess.PIPE, stderr=subprocess.PIPE)
+    os.close(theirs)
+    for piece in given:
+        os.write(ours, piece)
+        time.sleep(0.3)
+    out, errors = program.communicate(timeout=120)
+    os.close(ours)
+    return program.returncode, out, errors.decode().split("\n")
+
+
+def terminals():
+    commands, stream = "reading commands from the terminal", "reading a volume dump stream from the terminal"
+    for end in [b"\x04", b"quit\n"]:
+        status, out, errors = at_terminal("run", b"addvolset -name one\n", b"listvolsets\n", end)
+        fits = (status, out) == (0, b"ok\nset one\nok\n") and errors[0].startswith(commands) and errors[1:] == [MADE, ""]
+        check("commands from a terminal, ended by %r" % end, fits, (status, out, errors))
+    status, out, errors = at_terminal("examine", b"\x04")
+    fits = (status, out) == (1, b"refused 86 CutStream 0\n") and errors[0].startswith(stream) and errors[1:] == [""]
+    check("a stream from a terminal", fits, (status, out, errors))
+    status, out, errors = at_terminal("rehearse")
+    check("nothing is waited for", status == 2 and errors == [""], (status, out, errors))
+
+
+# ---- scripts in pieces
+
+
+def pieces():
+    place = folder()
+    comment = "# " + "x" * 61
+    done = run(place, *[comment] * 16384, "addvolset -name one", "quit", "addvolset -name two")
+    check("a long script", done.returncode == 0 and done.stdout == b"ok\n", done)
+    check("nothing is run behind quit", has_set(place, "one") and not has_set(place, "two"))
+    size = 250000
+    start = time.monotonic()
+    done = run(place, *[comment] * size)
+    took = time.monotonic() - start
+    check("a script of comments", done.returncode == 0 and done.stdout == b"", done)
+    print("a script of %d MB: %.1f MB/s" % (size * 64 // 1000000, size * 64 / 1000000 / took))
+    done = run(place, "addvolset -name three", "# " + "x" * (1 << 24))
+    says("a script that is too long", done, 10, "the input is longer than it may be")
+    check("its first line is run", done.stdout == b"ok\n", done)
+    program = subprocess.Popen([PROGRAM, "run"], cwd=place, stdin=subprocess.PIPE, stdout=subprocess.PIPE)
+    for piece, reply in [(b"addvolset -name", b""), (b" four\naddvolset", b"ok\n"), (b" -name five\n\n", b"ok\n")]:
+        program.stdin.write(piece)
+        program.stdin.flush()
+        check("a line is run once it is whole", not reply or program.stdout.readline() == reply)
+    program.stdin.close()
+    check("it ends with its input", program.wait() == 0 and program.stdout.read() == b"")
+    if shutil.which("strace") is None:
+        print("not tried: how many reads a script takes (no strace)")
+        return
+    done, trace = traced(place, ["-e", "trace=read"], *[comment] * 16384)
+    reads = sum(" read(0," in line for line in trace)
+    check("a script of a MiB takes few reads", done.returncode == 0 and 0 < reads <= 300, reads)
+
+
 # ---- faults on the way
 
 
@@ -130,7 +212,7 @@ def full():
     try:
         names = ["x" * 100 + "%04d" % number for number in range(2000)]
         done = run(place, "addvolset -name users", *[ENTRY + name for name in names])
-        says("a full device", done, 4, "a call on the journal or a tape failed", "media/journal: ")
+        says("a full device", done, 4, "a call on the journal or a tape failed", "media/journal: ", MADE)
         told = done.stdout.count(b"ok\n") - 1
         subprocess.run(["mount", "-o", "remount,size=1m", place], check=True)
         kept = entries(place)
@@ -166,7 +248,7 @@ def cell():
         return
     try:
         done = run(place, create, "vos write -volume user.a -vnode 2 -size 100000")
-        says("a full device for an image", done, 5, failed, "cell/fs1/vicepa/user.a.vol: ")
+        says("a full device for an image", done, 5, failed, "cell/fs1/vicepa/user.a.vol: ", MADE)
     finally:
         subprocess.run(["umount", place])
 
@@ -245,10 +327,18 @@ def longer(at):
         file.write(b"x")
 
 
+def shorter(at):
+    os.truncate(at, os.path.getsize(at) - 1)
+
+
+def emptied(at):
+    os.truncate(at, 0)
+
+
 def changed():
     lines = {"journal": "addvolset -name two", "slot0": "labeltape -name users.full.2 -slot 0"}
     for name, line in lines.items():
-        for change in [replaced, longer, os.remove]:
+        for change in [replaced, longer, shorter, emptied, os.remove]:
             place = tapes(1)
             told("a label", place, "labeltape -name users.full.1 -slot 0")
             program = subprocess.Popen([PROGRAM, "run"], cwd=place, stdin=subprocess.PIPE, stdout=subprocess.PIPE, stderr=subprocess.PIPE)
@@ -265,7 +355,7 @@ def changed():
 def rights():
     place = folder()
     done = shell(place, 'umask 0; "$P" run', text([HOST, "vos create -server fs1 -partition vicepa -name user.a"]))
-    says("a run that makes all", done, 0)
+    says("a run that makes all", done, 0, MADE)
     mode = lambda *names: stat.S_IMODE(os.stat(path(place, *names)).st_mode)
     folders = [("media",), ("cell",), ("cell", "fs1"), ("cell", "fs1", "vicepa")]
     check("folders are their owner's", all(mode(*names) == 0o700 for names in folders), [oct(mode(*names)) for names in folders])
@@ -723,6 +813,9 @@ def read_back_kills(runs):
 scripts()
 streams()
 opening()
+words()
+terminals()
+pieces()
 full()
 cell()
 links()

@@ -17,7 +17,7 @@ pub struct Disk {
     pub config: &'static [u8],
     /// What `media/journal` has.
     pub journal: &'static [u8],
-    /// Opening this path is refused so.
+    /// Opening this path is refused so. Where it isn't found it can be made.
     pub shut: &'static str,
     pub kind: ErrorKind,
     /// Reads and writes of this path are refused, and taking it for one program, so too.
@@ -195,8 +195,9 @@ impl Files for Disk {
 
     type Dir = Kept;
 
-    fn open_file(&self, _how: &OpenOptions, path: &str) -> io::Result<Kept> {
-        if path == self.shut {
+    fn open_file(&self, how: &OpenOptions, path: &str) -> io::Result<Kept> {
+        let is_made = how.asks_create() && self.kind == ErrorKind::NotFound;
+        if path == self.shut && !is_made {
             return Err(io::Error::from(self.kind));
         }
         if path.starts_with("media/slot") && path != "media/slot0" {

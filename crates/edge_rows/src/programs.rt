@@ -18,6 +18,8 @@ struct Case {
     /// What the input gives, and what comes behind it.
     input: &'static [u8],
     behind: Behind,
+    /// Whether the input is a terminal.
+    is_terminal: bool,
     /// What `tapeconfig` and `media/journal` have.
     config: &'static [u8],
     journal: &'static [u8],
@@ -56,6 +58,7 @@ const RUN: Case = Case {
     words: &[b"run"],
     input: HOST,
     behind: Behind::End,
+    is_terminal: false,
     config: b"slots:0-3 0\n",
     journal: b"",
     shut: "",
@@ -104,6 +107,7 @@ fn ends(alloc: Global, case: Case, number: u8, told: &[u8], explained: &[u8]) ->
         at: 0,
         behind: case.behind,
         interrupted: false,
+        is_terminal: case.is_terminal,
     };
     let Ok(mut clock) = ClockMem::new(alloc, &[1_000_000]) else {
         return false;
@@ -348,7 +352,7 @@ fn a_configuration_that_is_refused_or_absent(rt: HostRuntime) {
         kind: ErrorKind::NotFound,
         ..shut
     };
-    let cause = b"the configuration has no known form\ntapeconfig: refused at line 2\n";
+    let cause = b"the configuration has no known form\ntapeconfig: refused at line 2: tape\n";
     assert!(&rt; ends(alloc, line, 7, b"", cause));
     assert!(&rt;
         ends(
@@ -360,6 +364,74 @@ fn a_configuration_that_is_refused_or_absent(rt: HostRuntime) {
         )
     );
     assert!(&rt; ends(alloc, absent, 0, HOST_TOLD, b""));
+}
+
+/// Whether a configuration is refused at its second line so.
+fn is_refused(alloc: Global, config: &'static [u8], explained: &[u8]) -> bool {
+    ends(alloc, Case { config, ..RUN }, 7, b"", explained)
+}
+
+#[test]
+fn the_word_that_is_not_understood(rt: HostRuntime) {
+    let alloc = rt.alloc();
+    let port = b"the configuration has no known form\ntapeconfig: refused at line 2: 58511\n";
+    let switch = b"the configuration has no known form\ntapeconfig: refused at line 2: maybe\n";
+    let size = b"the configuration has no known form\ntapeconfig: refused at line 2: 2?\n";
+    let cell = b"the configuration has no known form\ntapeconfig: refused at line 2: -a\n";
+    let more = b"the configuration has no known form\ntapeconfig: refused at line 2: five\n";
+    let same =
+        b"the configuration has no known form\ntapeconfig: refused at line 2: an earlier line has its port, its slots or the cell\n";
+    assert!(&rt; is_refused(alloc, b"\nslots:0-3 58511", port));
+    assert!(&rt; is_refused(alloc, b"# one\nname_check maybe 0\n", switch));
+    assert!(&rt; is_refused(alloc, b"slots:0-3 0\n2\xff 0 slots:4-5 x\n", size));
+    assert!(&rt; is_refused(alloc, b"slots:0-3 0\r\ncell -a\r\n", cell));
+    assert!(&rt; is_refused(alloc, b"slots:0-3 0\n1 2 slots:4-5 0 five six\n", more));
+    assert!(&rt; is_refused(alloc, b"slots:0-3 0\nslots:3-4 1\n", same));
+}
+
+#[test]
+fn a_journal_that_is_made_is_told_last(rt: HostRuntime) {
+    let alloc = rt.alloc();
+    let made = Case {
+        shut: "media/journal",
+        kind: ErrorKind::NotFound,
+        ..RUN
+    };
+    let refused = Case {
+        config: b"bogus\n",
+        ..made
+    };
+    let line = b"media: made a new, empty database\n";
+    let behind =
+        b"the configuration has no known form\ntapeconfig: refused at line 1: bogus\nmedia: made a new, empty database\n";
+    assert!(&rt; ends(alloc, made, 0, HOST_TOLD, line));
+    assert!(&rt; ends(alloc, refused, 7, b"", behind));
+}
+
+#[test]
+fn a_terminal_is_told_what_is_waited_for(rt: HostRuntime) {
+    let alloc = rt.alloc();
+    let run = Case {
+        is_terminal: true,
+        ..RUN
+    };
+    let examine = Case {
+        words: &[b"examine"],
+        input: &STREAM,
+        is_terminal: true,
+        ..SHUT
+    };
+    let shut = Case {
+        is_terminal: true,
+        ..SHUT
+    };
+    let commands =
+        b"reading commands from the terminal, one a line; the line quit or Ctrl-D ends\n";
+    let stream = b"reading a volume dump stream from the terminal; Ctrl-D ends\n";
+    let cause = b"cannot open\nmedia: permission denied\n";
+    assert!(&rt; ends(alloc, run, 0, HOST_TOLD, commands));
+    assert!(&rt; ends(alloc, examine, 0, STREAM_TOLD, stream));
+    assert!(&rt; ends(alloc, shut, 4, b"", cause));
 }
 
 #[test]

@@ -10,7 +10,7 @@ use host_edge::{DirMedia, Doors, EdgeFault, FolderLock, lock_folder, read_config
 use std::alloc::Global;
 use std::cell::{Cell, RefCell};
 use std::env::{Env, FillError};
-use std::io::{self, ErrorKind, Read, Write};
+use std::io::{self, ErrorKind, IsTerminal, Read, Write};
 
 /// What comes behind the bytes of an input.
 #[derive(Clone, Copy, PartialEq, Eq)]
@@ -67,6 +67,13 @@ pub struct Input {
     pub at: usize,
     pub behind: Behind,
     pub interrupted: bool,
+    pub is_terminal: bool,
+}
+
+impl IsTerminal for Input {
+    fn is_terminal(&self) -> bool {
+        self.is_terminal
+    }
 }
 
 impl Read for Input {
