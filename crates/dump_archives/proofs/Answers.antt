@@ -56,14 +56,16 @@ use Rattle.dump_commands.specs.Trials.{trial_text}
 use Rattle.dump_commands.specs.Answers.{Contents, said, contents_with, begin_of, commit_of, begun_point, ended, begun, tape_for, begun_or, refused_or, real_answer, trial_answer, order_answer, port_answer, dump_answer}
 use Rattle.dump_commands.proofs.Passing.{Passes, passes}
 use Rattle.dump_archives.specs.Asking.{archive_with, archive_in, AsksOfScene}
-use Rattle.dump_archives.specs.Keeping.{IsKnown, HeadsUpTo, KnowsIds, AsksBehind}
+use Rattle.dump_archives.specs.Keeping.{IsKnown, IsKnownId, HeadsUpTo, KnowsIds, ComesOn, ComesSince, AsksBehind}
 use Rattle.dump_archives.proofs.Clones.{HasGoodPlaces}
 use Rattle.dump_archives.proofs.Contents.{free_contents, dumped_same, grown_other}
 use Rattle.dump_archives.proofs.Courses.{Underway, Left, course_done}
 use Rattle.dump_archives.proofs.Fairs.{fewer_fair}
 use Rattle.dump_archives.proofs.Growing.{greatest_begun}
 use Rattle.dump_archives.proofs.Heads.{StaysUpTo, stays_known, heads_raised}
-use Rattle.dump_archives.proofs.Keeping.{Keeps, keeps_then, keeps_so}
+use Rattle.dump_archives.proofs.Keeping.{archive_at, Keeps, keeps_then, keeps_so}
+use Rattle.dump_archives.proofs.Sinces.{comes_as, contents_come}
+use Rattle.saved_archives.specs.Since.{ComesOf}
 use Rattle.dump_archives.proofs.Slots.{ReadOnce}
 use Rattle.dump_archives.proofs.Kept.{KeptBy}
 use Rattle.dump_archives.proofs.Orders.{two_cases, IsOrder, is_order, good_order}
@@ -220,6 +222,7 @@ module _ (once : ReadOnce) (s : Scene) (contents : Contents) (records : List Dum
 
   course_way : Keeps s.slots s.present grown IsLow point.log point.state its_course.effects its_course.log × Left once s o contents asks.cell asks.form.cell good later_made asks.named its_course.log (come its_course.effects point.state)
       × IsSettled (come its_course.effects point.state) × StaysUpTo its s.slots s.present point.state its_course.effects
+      × ComesOn its (archive_at s.slots s.present grown point.log point.state.tape) (archive_at s.slots s.present grown its_course.log (come its_course.effects point.state).tape)
   course_way = course_done once s o contents asks.cell asks.form.cell good later_made asks.named point underway
 
   begun_way : Keeps s.slots s.present grown IsLow s.log s.state (commit_of s o t ++ its_course.effects) its_course.log
@@ -245,6 +248,27 @@ module _ (once : ReadOnce) (s : Scene) (contents : Contents) (records : List Dum
     | inl le ↦ absurd (let above = id_above (database_in s).greatest o.time its_tape.1 in omega (arith, le, same, above))
     | inr lt ↦ absurd (let above : o.time ≤ its = time_below (database_in s).greatest o.time few in omega (arith, lt, same, above, time))
   ])
+
+  -- what the archive came of it comes of behind the dump, whose id isn't known before
+  known_below : (greatest : ℕ) → IsKnownId s.time (database_in s).greatest greatest → greatest < its
+  known_below greatest (inl le) = (let above = id_above (database_in s).greatest o.time its_tape.1 in omega (arith, le, above))
+  known_below greatest (inr lt) = (let above : o.time ≤ its = time_below (database_in s).greatest o.time few in omega (arith, lt, above, time))
+
+  begun_comes : (greatest : ℕ) (before : Archive) → IsKnownId s.time (database_in s).greatest greatest → ComesOf greatest before (archive_in s contents)
+      → ComesOf greatest before (archive_with s grown its_course.log (come its_course.effects point.state).tape)
+  begun_comes greatest before known comes =
+      let less : greatest < its = known_below greatest known in
+      let there : ComesOf greatest before start =
+      contents_come its (archive_in s contents) grown (listed_of (archive_in s contents)) records asks.holds.seen.kept new (λ id name below. grown_other s o contents id name (λ same. absurd (omega (arith, below, same)))) greatest before less comes in
+      let begun_there : ComesOf greatest before (archive_at s.slots s.present grown point.log point.state.tape) = comes_as greatest before start (archive_at s.slots s.present grown point.log point.state.tape) refl refl there in
+      let behind_it : ComesOf greatest before (archive_at s.slots s.present grown its_course.log (come its_course.effects point.state).tape) = course_way.4 greatest before less begun_there in
+      behind_it
+
+  begun_known_ids : (id : ℕ) → IsKnownId s.time (database_in s).greatest id → IsKnownId (max s.time its) (after its_course.log).greatest id
+  begun_known_ids id known = inl (let less = known_below id known in let low = course_way.1.greatest in omega (arith, less, low))
+
+  begun_since : ComesSince s (ended s o t its_course) contents
+  begun_since = record { known = begun_known_ids; comes = begun_comes }
 
   -- ---- what a dump asks is so again
 
@@ -283,6 +307,7 @@ said_kept s contents records asks text = record {
   behind = record { records = records; asks = asks };
   others = λ d name known. refl;
   ids = said_ids s contents;
+  since = record { known = λ id known. known; comes = λ greatest before known comes. comes };
 }
 
 module _ (once : ReadOnce) (s : Scene) (contents : Contents) (records : List DumpRecordFields) (asks : AsksOfScene s contents records) where
@@ -295,6 +320,7 @@ module _ (once : ReadOnce) (s : Scene) (contents : Contents) (records : List Dum
         behind = begun_asks once s contents records asks o order.form order.time order.parent pass.some good t is;
         others = begun_others once s contents records asks o order.form order.time order.parent pass.some good t is;
         ids = begun_ids once s contents records asks o order.form order.time order.parent pass.some good t is;
+        since = begun_since once s contents records asks o order.form order.time order.parent pass.some good t is;
       }
   by_tape o order f pass (Err fault) is = said_kept s contents records asks _
 

@@ -67,8 +67,10 @@ use Rattle.dump_archives.proofs.Heads.{StaysUpTo, event_up, stays_then}
 use Rattle.dump_archives.proofs.Lasts.{Finds, event_over}
 use Rattle.dump_archives.proofs.Lengths.{IsCounted, Bounds, event_bounds}
 use Rattle.dump_archives.proofs.Keeping.{archive_at, Keeps, keeps_then}
-use Rattle.dump_archives.specs.Keeping.{HeadsUpTo}
+use Rattle.dump_archives.specs.Keeping.{HeadsUpTo, ComesOn}
 use Rattle.dump_archives.proofs.Puts.{heads_on}
+use Rattle.dump_archives.proofs.Sinces.{event_comes}
+use Rattle.saved_archives.specs.Since.{ComesOf}
 use Rattle.dump_archives.proofs.Slots.{ReadOnce}
 use Rattle.dump_archives.proofs.Ways.{event_way, last_slots}
 
@@ -359,8 +361,20 @@ module _ (once : ReadOnce) (s : Scene) (o : DumpOrder) (contents : Contents) (is
     archive_then : z ≡ archive_at s.slots s.present grown (p.log ++ e.changes) state_then.tape
     archive_then = λ i. record { log = log_then i; slots = slots_then i; contents = contents_now i }
 
+    archive_here : a ≡ archive_at s.slots s.present grown p.log p.state.tape
+    archive_here = λ i. record { log = u.log i; slots = u.slots i; contents = u.contents_are i }
+
     id_then : e.job.head.id ≡ its
     id_then = same.id ∙ u.id
+
+    none_new : (d : DumpRecordFields) → Contains u.records d → (d.id ≡ its → ⊥) × (d.parent ≡ its → ⊥)
+    none_new d there = (let none = goes.new d there in (λ is. none.0 (is ∙ sym u.id), λ is. none.1 (is ∙ sym u.id)))
+
+    pub comes_of : ComesOn its (archive_at s.slots s.present grown p.log p.state.tape) (archive_at s.slots s.present grown (p.log ++ e.changes) state_then.tape)
+    comes_of =
+        subst (λ (x : Archive). ComesOn its x (archive_at s.slots s.present grown (p.log ++ e.changes) state_then.tape)) archive_here
+        (subst (λ (x : Archive). ComesOn its a x) archive_then
+        (event_comes p.state a u.records (contents_behind a j m j.phase) (clones_behind (around s p) j m j.phase) (dumps_behind u.records j j.phase) e.effects e.changes e.job kept its id_then u.runs.held.seen.kept none_new (u.contents_are ∙ sym contents_then)))
 
     put_then : HavePut its (listed_of a) a.slots z.slots
     put_then = subst (λ (n : ℕ). HavePut n (listed_of a) a.slots z.slots) id_then kept.put
@@ -478,15 +492,16 @@ module _ (once : ReadOnce) (s : Scene) (o : DumpOrder) (contents : Contents) (is
   abbrev pub Done : Point → Course → Type 0
   Done p c =
       Keeps s.slots s.present grown IsLow p.log p.state c.effects c.log × Left c.log (come c.effects p.state) × IsSettled (come c.effects p.state) × StaysUpTo its s.slots s.present p.state c.effects
+      × ComesOn its (archive_at s.slots s.present grown p.log p.state.tape) (archive_at s.slots s.present grown c.log (come c.effects p.state).tape)
 
   then_done : (p : Point) (u : Underway p) (rest : Course) → Done (behind p (next_event s p)) rest → Done p (event_then (next_event s p) rest)
   then_done p u rest next =
       let e : Event = next_event s p in
       let state : come (e.effects ++ rest.effects) p.state ≡ come rest.effects (come e.effects p.state) = come_append e.effects rest.effects p.state in
-      (keeps_then s.slots s.present grown IsLow e.effects rest.effects p.state p.log (p.log ++ e.changes) rest.log (way_of p u) next.0, subst (Left rest.log) (sym state) next.1, subst IsSettled (sym state) next.2, stays_then its s.slots s.present e.effects rest.effects p.state (up_of p u) next.3)
+      (keeps_then s.slots s.present grown IsLow e.effects rest.effects p.state p.log (p.log ++ e.changes) rest.log (way_of p u) next.0, subst (Left rest.log) (sym state) next.1, subst IsSettled (sym state) next.2, stays_then its s.slots s.present e.effects rest.effects p.state (up_of p u) next.3, λ greatest before less comes. subst (λ (t : State). ComesOf greatest before (archive_at s.slots s.present grown rest.log t.tape)) (sym state) (next.4 greatest before less (comes_of p u greatest before less comes)))
 
   last_done : (p : Point) (u : Underway p) → goes_on (next_event s p).answer ≡ false → Done p (last_event p (next_event s p))
-  last_done p u last = (way_of p u, left_of p u, last_settled p u last, up_of p u)
+  last_done p u last = (way_of p u, left_of p u, last_settled p u last, up_of p u, comes_of p u)
 
   within_done : (n : ℕ) (p : Point) → events_left s.cell p.job ≤ n → Underway p → Done p (course s p)
   within_done zero p few u = elim (cases_Bool (goes_on (next_event s p).answer)) [

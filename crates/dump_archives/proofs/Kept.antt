@@ -8,7 +8,7 @@ use Rattle.dump_forms.specs.Journals.{IsJournalAfter}
 use Rattle.dump_courses.specs.Scenes.{Scene, database_in}
 use Rattle.dump_commands.specs.Answers.{Contents, Answer}
 use Rattle.dump_archives.specs.Asking.{archive_with, archive_in}
-use Rattle.dump_archives.specs.Keeping.{IsKnown, KnowsIds, HoldsOnTheWay, EachKeepsListed, AsksBehind}
+use Rattle.dump_archives.specs.Keeping.{IsKnown, KnowsIds, HoldsOnTheWay, EachKeepsListed, ComesSince, AsksBehind}
 use Rattle.dump_archives.proofs.Keeping.{Keeps, kept_after}
 use Rattle.dump_archives.proofs.Staying.{kept_step}
 
@@ -18,6 +18,7 @@ pub record KeptBy (s : Scene) (contents : Contents) (a : Answer) : Type 0 where
   pub behind : AsksBehind s a (a.contents contents)
   pub others : (d : DumpRecordFields) (name : List ℕ) → IsKnown s.time (database_in s).greatest d → a.contents contents d.id name ≡ contents d.id name
   pub ids : (count : ℕ) (changes : List Change) → IsJournalAfter s.log (take count a.effects) changes → KnowsIds (archive_in s contents) → KnowsIds (archive_with s (a.contents contents) changes (come (take count a.effects) s.state).tape)
+  pub since : ComesSince s a contents
 
 pub on_the_way : (s : Scene) (contents : Contents) (a : Answer) → KeptBy s contents a → HoldsOnTheWay s a contents
 on_the_way s contents a kept count =

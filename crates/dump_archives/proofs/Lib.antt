@@ -10,6 +10,7 @@ pub mod Formed
 pub mod Puts
 pub mod Heads
 pub mod Ways
+pub mod Sinces
 pub mod Lasts
 pub mod Lengths
 pub mod Courses

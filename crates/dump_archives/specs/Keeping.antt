@@ -13,13 +13,18 @@ use Rattle.archive_model.specs.Archives.{Archive}
 use Rattle.archive_model.specs.Settled.{HoldsSettled}
 use Rattle.archive_model.specs.Turns.{StillHeld}
 use Rattle.dump_forms.specs.Journals.{IsJournalAfter}
-use Rattle.dump_courses.specs.Scenes.{Scene}
+use Rattle.saved_archives.specs.Since.{ComesOf}
+use Rattle.dump_courses.specs.Scenes.{Scene, database_in}
 use Rattle.dump_commands.specs.Answers.{Contents, Answer}
 use Rattle.dump_archives.specs.Asking.{archive_with, archive_in, AsksOfScene}
 
 -- An id is known at a time: it is at most the greatest one that was begun or recorded, or past.
+abbrev pub IsKnownId : ℕ → ℕ → ℕ → Type 0
+IsKnownId time greatest id = (id ≤ greatest) ⊎ (id < time)
+
+-- so is that of a dump
 abbrev pub IsKnown : ℕ → ℕ → DumpRecordFields → Type 0
-IsKnown time greatest d = (d.id ≤ greatest) ⊎ (d.id < time)
+IsKnown time greatest d = IsKnownId time greatest d.id
 
 -- No dump's head on these tapes has an id above this one.
 abbrev pub HeadsUpTo : ℕ → List Slot → Type 0
@@ -57,6 +62,16 @@ EachKeepsListed s effects = (count : ℕ) (e : Effect) → slice_get effects cou
 -- the scene behind an answer
 abbrev pub scene_behind : Scene → Answer → Scene
 scene_behind s a = record s { log = a.log; state = come a.effects s.state; time = a.time }
+
+-- One archive comes of whatever another one came of, as far as dumps of ids below this one are concerned.
+abbrev pub ComesOn : ℕ → Archive → Archive → Type 0
+ComesOn floor a b = (greatest : ℕ) (before : Archive) → greatest < floor → ComesOf greatest before a → ComesOf greatest before b
+
+-- What the archive in front of an answer came of that behind it comes of, as far as dumps are concerned whose ids are
+-- known in front of it. Such ids are known behind it too.
+pub record ComesSince (s : Scene) (a : Answer) (contents : Contents) : Type 0 where
+  pub known : (id : ℕ) → IsKnownId s.time (database_in s).greatest id → IsKnownId a.time (after a.log).greatest id
+  pub comes : (greatest : ℕ) (before : Archive) → IsKnownId s.time (database_in s).greatest greatest → ComesOf greatest before (archive_in s contents) → ComesOf greatest before (archive_in (scene_behind s a) (a.contents contents))
 
 -- Behind an answer all that a dump asks is so again, of the dumps and the contents that there are then.
 pub record AsksBehind (s : Scene) (a : Answer) (contents : Contents) : Type 0 where

@@ -15,7 +15,7 @@ ghost use Rattle.backup_words.specs.declared.command.DumpCommand.{DumpCommand as
 ghost use Rattle.dump_commands.specs.Forms.{IsCommandForm};
 ghost use Rattle.dump_commands.specs.Answers.{Contents as AnyContents, dump_answer};
 ghost use Rattle.dump_archives.specs.Asking.{AsksOfScene};
-ghost use Rattle.dump_archives.specs.Keeping.{IsKnown, HoldsOnTheWay, EachKeepsListed, AsksBehind};
+ghost use Rattle.dump_archives.specs.Keeping.{IsKnown, HoldsOnTheWay, EachKeepsListed, ComesSince, AsksBehind};
 
 use tape_answers::a_tape_is_read;
 
@@ -32,12 +32,16 @@ pub fn contents_of_no_dump_are_free()
 {}
 
 /// A dump keeps the archive that the plant holds, where what it finds is in order. Behind each of its effects, however many, the archive is held
-/// settled, already with the contents of the dump that is made; its dumps have ids that are known behind the dump. And no effect takes a tape from a dump that is listed behind it.
+/// settled, already with the contents of the dump that is made; its dumps have ids that are known behind the dump. And
+/// no effect takes a tape from a dump that is listed behind it. What the archive came of it comes of behind the dump,
+/// as far as dumps are concerned whose ids were known.
 pub fn a_dump_keeps_the_archive()
     ensures on_the_way { (s : Scene) (command : AnyCommand) (contents : AnyContents) (records : AnyList DumpRecordFields) → IsCommandForm command → AsksOfScene s contents records
         → HoldsOnTheWay s (dump_answer s command) contents }
     ensures listed { (s : Scene) (command : AnyCommand) (contents : AnyContents) (records : AnyList DumpRecordFields) → IsCommandForm command → AsksOfScene s contents records
         → EachKeepsListed s (dump_answer s command).effects }
+    ensures since { (s : Scene) (command : AnyCommand) (contents : AnyContents) (records : AnyList DumpRecordFields) → IsCommandForm command → AsksOfScene s contents records
+        → ComesSince s (dump_answer s command) contents }
 {
     a_tape_is_read();
 }

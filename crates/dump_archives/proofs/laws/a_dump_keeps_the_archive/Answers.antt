@@ -8,3 +8,6 @@ returns-clause-on_the_way c = λ s command contents records form asks. on_the_wa
 
 pub returns-clause-listed : goal.returns-clause-listed
 returns-clause-listed c = λ s command contents records form asks. each_keeps_listed s contents (dump_answer s command) (answer_kept c.a_tape_is_read.ensures.one s contents records asks command form)
+
+pub returns-clause-since : goal.returns-clause-since
+returns-clause-since c = λ s command contents records form asks. (answer_kept c.a_tape_is_read.ensures.one s contents records asks command form).since
