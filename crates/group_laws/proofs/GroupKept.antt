@@ -1,5 +1,6 @@
 -- THE END OF A GROUP keeps the archive, and leaves one.
-use Rattle.std.proofs.Common.{◌≡◌, ◌⊎◌, ℕ, zero, suc, ◌<◌, ◌≤◌, le_trans, List, [], ◌∷◌, ◌++◌, take, sym, subst, arith, inl, inr}
+use Rattle.std.proofs.Common.{◌≡◌, ◌⊎◌, ℕ, zero, suc, ◌+◌, ◌<◌, ◌≤◌, le_trans, Some, None, List, [], ◌∷◌, ◌++◌, take, sym, subst, arith, inl, inr}
+use Rattle.std.specs.Prelude.{Contains, slice_get}
 use Rattle.std.proofs.lemmas.List.Elements.{All-nil}
 use Rattle.cell_core.proofs.FairLaws.{fair_later}
 use Rattle.budb_changes.specs.declared.records.DumpRecordFields.{DumpRecordFields}
@@ -19,6 +20,10 @@ use Rattle.dump_commands.specs.Answers.{Contents}
 use Rattle.dump_commands.specs.Starts.{Start}
 use Rattle.dump_archives.specs.Asking.{archive_with, archive_in, AsksOfScene}
 use Rattle.dump_archives.specs.Keeping.{IsKnown, HeadsUpTo, KnowsIds}
+use Rattle.dump_archives.proofs.Sinces.{contents_come}
+use Rattle.saved_archives.specs.Since.{ComesOf}
+use Rattle.archive_model.specs.Archives.{Archive, listed_of}
+use Rattle.pool_laws.proofs.Sinces.{group_since}
 use Rattle.dump_archives.proofs.Answers.{made_later, within_two, known_dumps, said_ids}
 use Rattle.dump_archives.proofs.Growing.{greatest_begun}
 use Rattle.dump_archives.proofs.Heads.{stays_known, heads_raised}
@@ -26,6 +31,7 @@ use Rattle.dump_archives.proofs.Keeping.{Keeps, keeps_so}
 use Rattle.dump_archives.proofs.Kept.{KeptBy}
 use Rattle.dump_archives.proofs.Slots.{ReadOnce}
 use Rattle.job_pool.specs.declared.turn.Kill.{Kill as PoolKill}
+use Rattle.job_pool.specs.declared.jobs.PoolJob.{PoolJob}
 use Rattle.job_pool.specs.Pools.{PoolPoint, PoolCourse, behind}
 use Rattle.job_pool.specs.PoolCourses.{pool_course}
 use Rattle.group_commands.specs.Groups.{GroupView}
@@ -35,7 +41,7 @@ use Rattle.pool_laws.specs.Groups.{MayStart, MayAllStart, last_id}
 use Rattle.pool_laws.specs.Left.{LeftBehind}
 use Rattle.pool_laws.specs.Underway.{AllUnderway, CourseKept}
 use Rattle.pool_laws.proofs.Ends.{first_top, none_underway, all_left}
-use Rattle.pool_laws.proofs.Groups.{start_under, group_kept, group_ends}
+use Rattle.pool_laws.proofs.Groups.{start_under, last_above, group_kept, group_ends}
 use Rattle.group_laws.specs.Forms.{IsGroupForm, ArePortsApart}
 use Rattle.group_laws.proofs.GroupContents.{later_same, time_more, time_four, pool_grows, last_known}
 use Rattle.group_laws.proofs.MayStarts.{IsMoment, all_ascend, may_all}
@@ -147,6 +153,24 @@ module _ (once : ReadOnce) (s : Scene) (contents : Contents) (records : List Dum
   keeps : Keeps s.slots s.present grown (IsKnown now (after went.log).greatest) s.log s.state went.effects went.log
   keeps = keeps_so s.slots s.present grown (IsKnown now (after went.log).greatest) (λ (d : DumpRecordFields). d.id ≤ last) (λ d up. known d.id up) went.effects s.state s.log went.log kept.0.way
 
+  known_less : (d : DumpRecordFields) → Contains records d → d.id < top + 1
+  known_less d there = (let le = known_low d.id s.time (database_in s).greatest (known_dumps s contents records asks d there) in omega (arith, le))
+
+  none_from : (n : ℕ) (q : PoolJob) → slice_get p0.jobs n ≡ Some q → q.end ≡ None → top + 1 ≤ q.job.head.id
+  none_from n q at runs = absurd (cc)
+
+  comes_behind : (greatest : ℕ) (before : Archive) → (greatest ≤ (database_in s).greatest) ⊎ (greatest < s.time) → ComesOf greatest before (archive_in s contents) → ComesOf greatest before (archive_with s grown went.log (come went.effects s.state).tape)
+  comes_behind greatest before known_id comes =
+      let le : greatest ≤ top = known_low greatest s.time (database_in s).greatest known_id in
+      let less : greatest < top + 1 = omega (arith, le) in
+      let there : ComesOf greatest before (archive_in s grown) =
+      contents_come (top + 1) (archive_in s contents) grown (listed_of (archive_in s contents)) records asks.holds.seen.kept known_less
+      (λ id name below. later_same s starts p0 contents id name (all_ascend s asks.form.time g.held p0) (omega (arith, below))) greatest before less comes in
+      group_since once s s.time grown asks.cell asks.form.cell asks.made asks.named (top + 1) kills g.schedule top p0 starts under may none_from (omega arith) greatest before less there
+
+  known_behind : (id : ℕ) → (id ≤ (database_in s).greatest) ⊎ (id < s.time) → (id ≤ (after went.log).greatest) ⊎ (id < now)
+  known_behind id known_id = (let first = known_low id s.time (database_in s).greatest known_id in let more = last_above once s s.time grown asks.cell asks.form.cell asks.made asks.named starts top p0 may in known id (le_trans first more))
+
   -- THE END OF A GROUP keeps the archive.
   pub end_kept : KeptBy s contents (group_answer s g).answer
   unfolding group_answer
@@ -168,4 +192,5 @@ module _ (once : ReadOnce) (s : Scene) (contents : Contents) (records : List Dum
     };
     others = others;
     ids = ids_first once s contents records asks grown kills g.schedule starts top under may;
+    since = record { known = known_behind; comes = comes_behind };
   }

@@ -5,7 +5,7 @@ ghost use Rattle.budb_changes.specs.declared.records.DumpRecordFields.{DumpRecor
 ghost use Rattle.dump_courses.specs.Scenes.{Scene, database_in};
 ghost use Rattle.dump_commands.specs.Answers.{Contents as AnyContents};
 ghost use Rattle.dump_archives.specs.Asking.{AsksOfScene};
-ghost use Rattle.dump_archives.specs.Keeping.{IsKnown, HoldsOnTheWay, EachKeepsListed, AsksBehind};
+ghost use Rattle.dump_archives.specs.Keeping.{IsKnown, HoldsOnTheWay, EachKeepsListed, ComesSince, AsksBehind};
 ghost use Rattle.group_commands.specs.Groups.{GroupView};
 ghost use Rattle.group_commands.specs.Answers.{group_answer};
 ghost use Rattle.group_laws.specs.Forms.{IsGroupForm, ArePortsApart};
@@ -14,11 +14,14 @@ use tape_answers::a_tape_is_read;
 
 /// The end of a group keeps the archive that the plant holds, where what it finds is in order. Behind each of its effects, however many, the
 /// archive is held settled, already with the contents of the dumps that are made; and no effect takes a tape from a dump that is listed behind it.
+/// What the archive came of it comes of behind the end, as far as dumps are concerned whose ids were known.
 pub fn an_end_keeps_the_archive()
     ensures on_the_way { (s : Scene) (g : GroupView) (contents : AnyContents) (records : AnyList DumpRecordFields) → IsGroupForm g → ArePortsApart s.config.entries → AsksOfScene s contents records
         → HoldsOnTheWay s (group_answer s g).answer contents }
     ensures listed { (s : Scene) (g : GroupView) (contents : AnyContents) (records : AnyList DumpRecordFields) → IsGroupForm g → ArePortsApart s.config.entries → AsksOfScene s contents records
         → EachKeepsListed s (group_answer s g).answer.effects }
+    ensures since { (s : Scene) (g : GroupView) (contents : AnyContents) (records : AnyList DumpRecordFields) → IsGroupForm g → ArePortsApart s.config.entries → AsksOfScene s contents records
+        → ComesSince s (group_answer s g).answer contents }
 {
     a_tape_is_read();
 }

@@ -32,7 +32,7 @@ cut_stays c s k = elim (cases_Bool (k == c)) [
   | inr miss ↦ rw miss refl
 ]
 
-settling_stays : (o : Option ℕ) (s : State) (k : ℕ) → (come (settling_at o s) s).tape k ≡ s.tape k
+pub settling_stays : (o : Option ℕ) (s : State) (k : ℕ) → (come (settling_at o s) s).tape k ≡ s.tape k
 settling_stays None s k = refl
 settling_stays (Some c) s k = cut_stays c s k
 

@@ -63,7 +63,7 @@ module _ (once : ReadOnce) (s : Scene) (time : ℕ) (grown : Contents) (is_cell 
 
   -- ---- all of them, and the rest
 
-  last_above : (starts : List Start) (top : ℕ) (p : PoolPoint) → MayAllStart s time top grown p starts → top ≤ last_id top p starts
+  pub last_above : (starts : List Start) (top : ℕ) (p : PoolPoint) → MayAllStart s time top grown p starts → top ≤ last_id top p starts
   last_above [] top p may = omega arith
   last_above (b ∷ starts) top p may =
       let rest : id_in p.log b ≤ last_id (id_in p.log b) (behind p (start_event p b)) starts = last_above starts (id_in p.log b) (behind p (start_event p b)) may.1 in

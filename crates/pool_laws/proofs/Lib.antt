@@ -13,3 +13,4 @@ pub mod Grown
 pub mod Ends
 pub mod Groups
 pub mod Elsewhere
+pub mod Sinces

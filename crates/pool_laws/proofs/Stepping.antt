@@ -221,7 +221,7 @@ module _ (once : ReadOnce) (s : Scene) (time top : ℕ) (grown : Contents) (is_c
     contents_at phase.DumpEnd b = ap (λ (c : Contents). with_dump c (basis_of j) m.clones) st.contents_are ∙ ended_contents (all_done a j m j.hand refl b)
     contents_at phase.Over b = st.contents_are
 
-    contents_then : contents_behind a j m j.phase ≡ grown
+    pub contents_then : contents_behind a j m j.phase ≡ grown
     contents_then = contents_at j.phase u.runs.before
 
     -- ---- it stays fair

@@ -3,3 +3,4 @@ pub mod Underway
 pub mod Left
 pub mod Groups
 pub mod Grown
+pub mod Since

@@ -1,6 +1,6 @@
 //! Laws, each the contract of a function without a body of its own.
 
-ghost use Rattle.std.specs.Prelude.{◌≡◌, ◌<◌, ◌≤◌, ℕ, None, Some, Ok, List as AnyList, [], ◌∷◌, ◌++◌, All, Contains, slice_get};
+ghost use Rattle.std.specs.Prelude.{◌≡◌, ◌<◌, ◌≤◌, ◌+◌, ℕ, None, Some, Ok, List as AnyList, [], ◌∷◌, ◌++◌, All, Contains, slice_get};
 ghost use Rattle.cell_core.specs.Cells.{IsCell};
 ghost use Rattle.cell_core.specs.Fairness.{NoneIsMadeAfter, NoSourceHasBackupName};
 ghost use Rattle.cell_core.specs.Forms.{IsStoredForm};
@@ -38,6 +38,9 @@ ghost use Rattle.pool_laws.specs.Underway.{IsGrown, AllUnderway, TurnKept, Cours
 ghost use Rattle.job_pool.specs.Schedules.{AllEnded};
 ghost use Rattle.pool_laws.specs.Left.{ImageHolds, LeftBehind};
 ghost use Rattle.pool_laws.specs.Grown.{HasGrown};
+ghost use Rattle.pool_laws.specs.Since.{AllFrom};
+ghost use Rattle.dump_archives.specs.Keeping.{ComesOn};
+ghost use Rattle.dump_archives.proofs.Keeping.{archive_at};
 ghost use Rattle.dump_commands.specs.Starts.{Start};
 ghost use Rattle.group_commands.specs.Begins.{group_course};
 ghost use Rattle.pool_laws.specs.Groups.{MayAllStart, last_id};
@@ -123,3 +126,16 @@ pub fn a_turn_leaves_other_ports()
 pub fn contents_of_all_are_those_of_each()
     ensures { (s : Scene) (o : AnyOrder) (contents grown : Contents) → IsCell s.cell → (j : AnyJob) → HasGrown s o j.head.id contents grown → j.head.parent ≡ o.parent → j.parent ≡ record_of (database_in s).listed o.parent → j.places ≡ o.volumes → IsGrown s o.time grown j }
 {}
+
+/// What the archive came of it comes of behind turns and behind a group, as far as dumps are concerned whose ids are
+/// below those of all dumps that run, be it then or later.
+pub fn what_came_comes_on_behind_turns()
+    ensures turns { (s : Scene) (time top : ℕ) (grown : Contents) → IsCell s.cell → All IsStoredForm s.cell → NoneIsMadeAfter time s.cell → NoSourceHasBackupName s.cell
+        → (floor : ℕ) (turns : AnyList Turn) (p : PoolPoint) → AllUnderway s time top grown p → AllFrom floor p.jobs
+        → let c = interleaved s p turns in ComesOn floor (archive_at s.slots s.present grown p.log p.state.tape) (archive_at s.slots s.present grown c.log (come c.effects p.state).tape) }
+    ensures group { (s : Scene) (time top : ℕ) (grown : Contents) → IsCell s.cell → All IsStoredForm s.cell → NoneIsMadeAfter time s.cell → NoSourceHasBackupName s.cell
+        → (floor : ℕ) (kills : AnyList PoolKill) (x : ℕ) (p : PoolPoint) (starts : AnyList Start) → AllUnderway s time top grown p → MayAllStart s time top grown p starts → AllFrom floor p.jobs → floor ≤ top + 1
+        → let c = group_course s kills x p starts in ComesOn floor (archive_at s.slots s.present grown p.log p.state.tape) (archive_at s.slots s.present grown c.log (come c.effects p.state).tape) }
+{
+    a_tape_is_read();
+}

@@ -10,4 +10,5 @@ pub use laws::{
     a_dump_begins_beside_others, a_dump_runs_beside_another, a_group_keeps_the_archive,
     a_turn_leaves_other_ports, all_is_so_before_and_behind, contents_of_all_are_those_of_each,
     each_turn_keeps_the_archive, images_of_turns_hold_the_archive, turns_keep_the_archive,
+    what_came_comes_on_behind_turns,
 };

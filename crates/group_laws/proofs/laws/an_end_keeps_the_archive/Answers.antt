@@ -8,3 +8,6 @@ returns-clause-on_the_way c = λ s g contents records form apart asks. on_the_wa
 
 pub returns-clause-listed : goal.returns-clause-listed
 returns-clause-listed c = λ s g contents records form apart asks. each_keeps_listed s contents (group_answer s g).answer (end_kept c.a_tape_is_read.ensures.one s contents records asks g form apart)
+
+pub returns-clause-since : goal.returns-clause-since
+returns-clause-since c = λ s g contents records form apart asks. (end_kept c.a_tape_is_read.ensures.one s contents records asks g form apart).since
