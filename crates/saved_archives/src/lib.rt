@@ -2,7 +2,8 @@
 //! whether the dump was forgotten or not. So an archive that lists again what was listed then is held, by the tapes
 //! that there are now. What tapes are to what they were is `IsSince`, and an archive that came of another is
 //! `ComesOf`, both in `specs/Since.antt`. No code here runs: each law is the contract of a function without a body.
-//! Enter at `what_was_listed_is_held_again`. No crate stands above; `archive_model` and `tape_scan` stand below.
+//! Enter at `what_was_listed_is_held_again`. `dump_laws` to `session_archives` stand above; `archive_model` and
+//! `tape_scan` stand below.
 #![tactic(auto)]
 
 mod laws;

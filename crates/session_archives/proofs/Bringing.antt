@@ -21,20 +21,47 @@ use Rattle.archive_model.proofs.CutLaws.{any_is, any_from}
 abbrev pub StandsSomewhere : List Slot → DumpHeadFields → Type 0
 StandsSomewhere slots h = (k : ℕ) × (s : Slot) × (n : ℕ) × (slice_get slots k ≡ Some s) × (slice_get s.items n ≡ Some (Says (frames.DumpHead h)))
 
--- Each dump of the second is one of the first, and so is each head; and the greatest id that was begun or recorded is no less.
+-- ---- a tape without a dump's head
+
+-- no dump's head stands there
+pub record IsBare (items : List Item) : Type 0 where
+  pub no_head : (n : ℕ) (h : DumpHeadFields) → slice_get items n ≡ Some (Says (frames.DumpHead h)) → ⊥
+
+-- each slot says what it said, or it is bare
+abbrev pub SaysOrIsBare : List Slot → List Slot → Type 0
+SaysOrIsBare slots slots2 = (k : ℕ) (s : Slot) → slice_get slots2 k ≡ Some s → ((t : Slot) × (slice_get slots k ≡ Some t) × (t.items ≡ s.items)) ⊎ IsBare s.items
+
+says_itself : (slots : List Slot) → SaysOrIsBare slots slots
+says_itself slots k s at = inl (s, at, refl)
+
+says_then : (slots between behind : List Slot) → SaysOrIsBare slots between → SaysOrIsBare between behind → SaysOrIsBare slots behind
+says_then slots between behind first second k s at = elim (second k s at) [
+  | inl same ↦ elim (first k same.0 same.1) [
+    | inl old ↦ inl (old.0, old.1, old.2 ∙ same.2)
+    | inr bare ↦ inr (subst IsBare same.2 bare)
+  ]
+  | inr bare ↦ inr bare
+]
+
+-- ---- an archive and one behind it
+
+-- Each dump of the second is one of the first, and so is each head; and the greatest id that was begun or recorded is
+-- no less. Each slot says what it said, or is bare.
 pub record BringsNone (a b : Archive) : Type 0 where
   pub dumps : (d : DumpRecordFields) → IsDump (listed_of b) b.slots d → IsDump (listed_of a) a.slots d
   pub heads : (h : DumpHeadFields) → StandsSomewhere b.slots h → StandsSomewhere a.slots h
   pub greatest : (after a.log).greatest ≤ (after b.log).greatest
+  pub says : SaysOrIsBare a.slots b.slots
 
 pub brings_itself : (a : Archive) → BringsNone a a
-brings_itself a = record { dumps = λ d is. is; heads = λ h is. is; greatest = omega arith }
+brings_itself a = record { dumps = λ d is. is; heads = λ h is. is; greatest = omega arith; says = says_itself a.slots }
 
 pub brings_then : (a b c : Archive) → BringsNone a b → BringsNone b c → BringsNone a c
 brings_then a b c first second = record {
   dumps = λ d is. first.dumps d (second.dumps d is);
   heads = λ h is. first.heads h (second.heads h is);
   greatest = omega (arith, first.greatest, second.greatest);
+  says = says_then a.slots b.slots c.slots first.says second.says;
 }
 
 -- ---- a log that lists no more dumps
@@ -60,6 +87,7 @@ fewer_bring a records log kept fewer grown = record {
   ];
   heads = λ h is. is;
   greatest = grown;
+  says = says_itself a.slots;
 }
 
 -- ---- a dump that lay there, and is listed now
@@ -75,6 +103,7 @@ listing_brings a log d more un grown = record {
   ];
   heads = λ h is. is;
   greatest = grown;
+  says = says_itself a.slots;
 }
   where
     still_unlisted : (e : DumpRecordFields) → has_dump (after log).listed e.id ≡ false → has_dump (listed_of a) e.id ≡ false
@@ -87,15 +116,7 @@ listing_brings a log d more un grown = record {
       | inr out ↦ out
     ]
 
--- ---- a tape without a dump's head
-
--- no dump's head stands there
-pub record IsBare (items : List Item) : Type 0 where
-  pub no_head : (n : ℕ) (h : DumpHeadFields) → slice_get items n ≡ Some (Says (frames.DumpHead h)) → ⊥
-
--- each slot says what it said, or it is bare
-abbrev pub SaysOrIsBare : List Slot → List Slot → Type 0
-SaysOrIsBare slots slots2 = (k : ℕ) (s : Slot) → slice_get slots2 k ≡ Some s → ((t : Slot) × (slice_get slots k ≡ Some t) × (t.items ≡ s.items)) ⊎ IsBare s.items
+-- ---- where each slot says what it said, or is bare
 
 no_part : (first marks : ℕ) (q : FoundPart) → Contains (parts_at first marks []) q → ⊥
 no_part first marks q there = absurd (omega (arith, there.1))
@@ -133,6 +154,7 @@ bare_brings a slots says = record {
     | inr bare ↦ absurd (bare.no_head n h is)
   ];
   greatest = omega arith;
+  says = says;
 }
   where
     closed : (l : Located) → IsClosedAt slots l → IsClosedAt a.slots l

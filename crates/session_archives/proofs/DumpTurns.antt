@@ -13,7 +13,7 @@ use Rattle.group_commands.specs.Groups.{GroupView}
 use Rattle.group_commands.specs.Answers.{GroupAnswer, group_answer}
 use Rattle.group_laws.specs.Forms.{IsGroupForm, ArePortsApart}
 use Rattle.dump_archives.specs.Asking.{AsksOfScene}
-use Rattle.dump_archives.specs.Keeping.{HoldsOnTheWay, EachKeepsListed, AsksBehind}
+use Rattle.dump_archives.specs.Keeping.{HoldsOnTheWay, EachKeepsListed, ComesSince, AsksBehind}
 use Rattle.backup_words.specs.declared.command.Command.TheVariants.{Dump}
 use Rattle.backup_session.specs.Bounded.{HasTapes}
 use Rattle.backup_session.specs.declared.groups.Groups.{Groups}
@@ -24,6 +24,7 @@ use Rattle.command_forms.specs.Forms.{HasForms}
 use Rattle.script_journals.specs.Worlds.{HasGroupForm, IsWorldForm}
 use Rattle.script_journals.proofs.TurnForms.{scene_form}
 use Rattle.session_archives.specs.Ready.{IsInOrder, IsReady}
+use Rattle.session_archives.specs.Since.{CameSince}
 use Rattle.session_archives.proofs.Kept.{Finds}
 use Rattle.session_archives.proofs.Knowing.{known_whole}
 use Rattle.session_archives.proofs.Leading.{LeadsTurn}
@@ -170,3 +171,21 @@ module _ (laws : EndLaws) (w : World) (has : HasTapes w) (finds : Finds w) (grou
 
   pub end_order : let t = ended_turn w (group_answer (scene_of w) g) in IsInOrder (last_cell w.cell t.cells) t.time (archive_of (before_reply w t))
   end_order = order_dumped w finds ready its_answer.answer end_keeps (record { «open» = None; jobs = its_answer.jobs })
+
+-- ---- what the archive came of
+
+-- what is so of each dump, and of the end of each group
+pub record SinceLaws : Type 0 where
+  pub dumps : (s : Scene) (a : DumpCommand) (contents : Contents) (records : List DumpRecordFields) → IsCommandForm a → AsksOfScene s contents records → ComesSince s (dump_answer s a) contents
+  pub ends : (s : Scene) (g : GroupView) (contents : Contents) (records : List DumpRecordFields) → IsGroupForm g → ArePortsApart s.config.entries → AsksOfScene s contents records → ComesSince s (group_answer s g).answer contents
+
+module _ (laws : SinceLaws) (w : World) (has : HasTapes w) (finds : Finds w) (group : HasGroupForm w.groups.open) (ready : IsReady w) where
+  pub dump_came : (command : DumpCommand) → HasForms (Dump command) → CameSince w (before_reply w (dump_turn w command))
+  dump_came command form =
+      let since = laws.dumps (scene_of w) command w.contents finds.holds.0 (record { set = form.0; level = form.1 }) (asks w has finds group ready) in
+      record { known = since.known; comes = since.comes }
+
+  pub end_came : (g : GroupView) → IsGroupForm g → CameSince w (before_reply w (ended_turn w (group_answer (scene_of w) g)))
+  end_came g form =
+      let since = laws.ends (scene_of w) g w.contents finds.holds.0 form ready.apart (asks w has finds group ready) in
+      record { known = since.known; comes = since.comes }

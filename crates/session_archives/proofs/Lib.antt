@@ -36,3 +36,6 @@ pub mod Present
 pub mod ReadingBack
 pub mod GroupPresent
 pub mod ScriptPresent
+pub mod Sinces
+pub mod SinceTurns
+pub mod SavedFits

@@ -25,7 +25,10 @@ use Rattle.session_archives.proofs.Orders.{moment_four, order_later}
 use Rattle.session_archives.proofs.BackLines.{fits_throughout}
 use Rattle.session_archives.proofs.Leading.{Leads, leads_nowhere, leads_then}
 use Rattle.session_archives.proofs.TurnLeads.{Lower, finds_of}
-use Rattle.session_archives.proofs.Scripts.{ReadyForItem, line_leads, line_holds, line_finds}
+use Rattle.session_archives.specs.Since.{CameSince}
+use Rattle.session_archives.proofs.DumpTurns.{SinceLaws}
+use Rattle.session_archives.proofs.Sinces.{came_itself, came_then}
+use Rattle.session_archives.proofs.Scripts.{ReadyForItem, line_leads, line_holds, line_came, line_finds}
 use Rattle.session_archives.proofs.Replies.{settles_nowhere, line_settles, further_settles}
 use Rattle.session_archives.proofs.ReadyTurns.{turn_ready}
 
@@ -208,6 +211,20 @@ module _ (laws : Lower) where
       let s = one_line w ms (item_of line) in
       let first = line_holds laws w ms held (item_of line) (item_forms line) (ready_first w ms line lines ready) in
       further_holds s (script s.world s.moments lines) s.goes first (λ goes. script_holds s.world s.moments lines first (ready_further w ms line lines ready held goes))
+
+  further_came : (w : World) (s rest : Outcome) (b : Bool) → CameSince w s.world → (b ≡ true → CameSince s.world rest.world) → CameSince w (if b then then_outcome s rest else s).world
+  further_came w s rest true first second = came_then w s.world rest.world first (second refl)
+  further_came w s rest false first second = first
+
+  -- what the archive came of it comes of behind the script
+  pub script_came : SinceLaws → (w : World) (ms : List ℕ) (lines : List (List ℕ)) → HoldsWorld w → IsReadyFor w ms lines → CameSince w (script w ms lines).world
+  unfolding script
+  script_came since w ms [] held ready = came_itself w
+  script_came since w ms (line ∷ lines) held ready =
+      let s = one_line w ms (item_of line) in
+      let first = ready_first w ms line lines ready in
+      further_came w s (script s.world s.moments lines) s.goes (line_came laws w ms held since (item_of line) (item_forms line) first)
+      (λ goes. script_came since s.world s.moments lines (line_holds laws w ms held (item_of line) (item_forms line) first) (ready_further w ms line lines ready held goes))
 
   pub script_finds : (w : World) (ms : List ℕ) (lines : List (List ℕ)) → HoldsWorld w → IsReadyFor w ms lines → IsHeldThroughout w ms lines
   unfolding IsHeldThroughout

@@ -1,5 +1,5 @@
 -- Each line of a script keeps the archive, and each of its commands finds it.
-use Rattle.std.proofs.Common.{◌≡◌, ℕ, Bool, true, false, List}
+use Rattle.std.proofs.Common.{◌≡◌, ℕ, Bool, true, false, List, refl}
 use Rattle.backup_session.specs.Asks.{asks_archive}
 use Rattle.backup_session.specs.Worlds.{World, at_moment}
 use Rattle.backup_session.specs.Bounded.{HasTapes}
@@ -16,9 +16,13 @@ use Rattle.script_journals.proofs.Groups.{turn_group}
 use Rattle.script_journals.proofs.Scripts.{ItemForms}
 use Rattle.session_archives.specs.Held.{HoldsWorld}
 use Rattle.session_archives.specs.Ready.{IsReady, FitsBackOn}
+use Rattle.session_archives.specs.Since.{CameSince}
 use Rattle.session_archives.proofs.Kept.{Finds}
 use Rattle.session_archives.proofs.Leading.{Leads, leads_nowhere, leads_told, leads_replied}
 use Rattle.session_archives.proofs.TurnLeads.{Lower, finds_of, world_of, finds_later, turn_leads, turn_tapes}
+use Rattle.session_archives.proofs.DumpTurns.{SinceLaws}
+use Rattle.session_archives.proofs.Sinces.{same_came}
+use Rattle.session_archives.proofs.SinceTurns.{turn_came}
 
 -- ---- lines
 
@@ -49,6 +53,13 @@ module _ (laws : Lower) (w : World) (ms : List ℕ) (held : HoldsWorld w) where
   -- so the world behind it is held
   pub line_holds : (item : Item) → ItemForms item → ReadyForItem w ms item → HoldsWorld (one_line w ms item).world
   line_holds item forms ready = world_of (one_line w ms item).world (line_tapes item forms ready) (line_leads item forms ready).finds (line_group item forms)
+
+  -- and what the archive came of it comes of there
+  pub line_came : SinceLaws → (item : Item) → ItemForms item → ReadyForItem w ms item → CameSince w (one_line w ms item).world
+  line_came since Silent forms ready = same_came w (one_line w ms Silent).world refl refl refl
+  line_came since Quit forms ready = same_came w (one_line w ms Quit).world refl refl refl
+  line_came since (Refused text) forms ready = same_came w (one_line w ms (Refused text)).world refl refl refl
+  line_came since (Runs command) forms ready = turn_came laws since w (first_of ms) held command forms (record { ready = ready.ready; back = ready.back })
 
 -- ---- what a line finds
 

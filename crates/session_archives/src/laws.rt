@@ -10,11 +10,11 @@ ghost use Rattle.cell_core.specs.Forms.{IsVolumeForm};
 ghost use Rattle.tape_config.specs.declared.port.PortFields.{PortFields};
 ghost use Rattle.tape_config.specs.Configs.{config_of, port_in, name_or_nothing};
 ghost use Rattle.plant_core.specs.Crashes.{seen_in, IsSettled, LeftIn};
-ghost use Rattle.plant_core.specs.Effects.{Effect, tells, come, Joint};
+ghost use Rattle.plant_core.specs.Effects.{Effect, commits, tells, come, Joint};
 ghost use Rattle.plant_core.specs.Stock.{Stock, IsNothing};
 ghost use Rattle.budb_changes.specs.declared.records.DumpRecordFields.{DumpRecordFields};
 ghost use Rattle.budb_changes.specs.Forms.{AreChanges};
-ghost use Rattle.archive_model.specs.Archives.{Holds};
+ghost use Rattle.archive_model.specs.Archives.{AreDumps, Holds};
 ghost use Rattle.backup_words.specs.declared.command.Command.{Command};
 ghost use Rattle.backup_session.specs.Worlds.{World, Contents, archive_of, after_turn, at_moment};
 ghost use Rattle.backup_session.specs.Bounded.{HasTapes};
@@ -29,8 +29,14 @@ ghost use Rattle.group_laws.specs.Forms.{ArePortsApart};
 ghost use Rattle.script_journals.specs.Worlds.{HasGroupForm, IsWorldForm};
 ghost use Rattle.script_journals.specs.Dumping.{IsFormedFor};
 ghost use Rattle.session_archives.specs.Held.{HoldsWorld, HoldsAfter, HoldsOnTheWay, contents_on, EachKeepsListed, RepliesSettle, HoldsImage};
+ghost use Rattle.session_archives.specs.Since.{CameSince, HasItsMedia, KnowsHeads, saved_of};
+ghost use Rattle.archive_model.specs.Settled.{HoldsSettled};
+ghost use Rattle.archive_model.specs.Sources.{dumped_by};
+ghost use Rattle.budb_changes.specs.Bytes.{encoded};
+ghost use Rattle.budb_fold.specs.Database.{after};
+ghost use Rattle.backup_session.specs.Saves.{time_back};
 ghost use Rattle.session_archives.specs.OnLines.{RestoresLookUp, ScansListWhole};
-ghost use Rattle.session_archives.specs.Ready.{IsFitWorld, IsReady, at_first, RestoresApart, RestoresApartThroughout, FitsBackFor, FitsBackThroughout, IsReadyForCommand, IsReadyFor, AreVolumesFor};
+ghost use Rattle.session_archives.specs.Ready.{IsFitWorld, IsReady, at_first, RestoresApart, RestoresApartThroughout, FitsBack, FitsBackFor, FitsBackThroughout, IsReadyForCommand, IsReadyFor, AreVolumesFor};
 
 use bk_text::form_tests;
 use budb_fold::checkpoint_makes_the_same_database;
@@ -50,10 +56,12 @@ use tape_text::one_reading;
 /// A command whose fields have their forms keeps the archive that the plant holds: behind it, with its reply told, and behind each of its
 /// effects on the way, already with what the dumps have behind it. None of them takes a tape from a dump that is listed behind it. A dump finds
 /// a world that is ready at its moment, and a saved database that is read back fits the media; of other commands nothing is asked.
+/// What the archive came of it comes of behind the command, as far as dumps are concerned whose ids were known.
 pub fn commands_keep_the_archive()
     ensures behind { (w : World) (now : ℕ) (command : Command) → HasForms command → HoldsWorld w → IsReadyForCommand (at_moment w now) command → HoldsWorld (after_turn w (turn w now command)) }
     ensures on_the_way { (w : World) (now : ℕ) (command : Command) → HasForms command → HoldsWorld w → IsReadyForCommand (at_moment w now) command → let t = turn w now command in HoldsOnTheWay w (λ count. t.contents) (t.effects ++ tells t.reply ∷ []) }
     ensures listed { (w : World) (now : ℕ) (command : Command) → HasForms command → HoldsWorld w → IsReadyForCommand (at_moment w now) command → let t = turn w now command in EachKeepsListed w (t.effects ++ tells t.reply ∷ []) }
+    ensures since { (w : World) (now : ℕ) (command : Command) → HasForms command → HoldsWorld w → IsReadyForCommand (at_moment w now) command → CameSince w (after_turn w (turn w now command)) }
 {
     form_tests();
     one_frame();
@@ -76,6 +84,7 @@ pub fn commands_keep_the_archive()
 /// on the way, with what they have behind its line. None of them takes a tape from a dump that is listed behind it, and where a reply is told all
 /// that was put before it is settled. So each of its commands that asks the archive finds it. A script with a dump finds a world that is ready at its first command, and restores no volume under a name that ends in `.backup`; where
 /// a line reads a saved database back, this fits the media; of other scripts nothing is asked.
+/// What the archive came of it comes of behind the script, as far as dumps are concerned whose ids were known.
 pub fn scripts_keep_the_archive()
     ensures behind { (w : World) (moments : AnyList ℕ) (lines : AnyList (AnyList ℕ)) → HoldsWorld w → IsReadyFor w moments lines → HoldsWorld (script w moments lines).world }
     ensures on_the_way { (w : World) (moments : AnyList ℕ) (lines : AnyList (AnyList ℕ)) → HoldsWorld w → IsReadyFor w moments lines → HoldsOnTheWay w (contents_on w moments lines) (script w moments lines).effects }
@@ -83,6 +92,7 @@ pub fn scripts_keep_the_archive()
     ensures listed { (w : World) (moments : AnyList ℕ) (lines : AnyList (AnyList ℕ)) → HoldsWorld w → IsReadyFor w moments lines → EachKeepsListed w (script w moments lines).effects }
     ensures settled { (w : World) (moments : AnyList ℕ) (lines : AnyList (AnyList ℕ)) → HoldsWorld w → IsReadyFor w moments lines → RepliesSettle w (script w moments lines).effects }
     ensures throughout { (w : World) (moments : AnyList ℕ) (lines : AnyList (AnyList ℕ)) → HoldsWorld w → IsReadyFor w moments lines → IsHeldThroughout w moments lines }
+    ensures since { (w : World) (moments : AnyList ℕ) (lines : AnyList (AnyList ℕ)) → HoldsWorld w → IsReadyFor w moments lines → CameSince w (script w moments lines).world }
 {
     form_tests();
     one_frame();
@@ -231,3 +241,16 @@ pub fn scans_list_what_is_whole()
 pub fn absent_tapes_stay()
     ensures { (w : World) (moments : AnyList ℕ) (lines : AnyList (AnyList ℕ)) (k : ℕ) → (IsTrue (w.setting.present k) → ⊥) → let s = come (script w moments lines).effects w.state in (s.tape k ≡ w.state.tape k) × (s.settled k ≡ w.state.settled k) }
 {}
+
+/// A database that this program saved fits back on the media as they are behind any script, whatever that did with
+/// dumps and tapes: its changes are made in a journal without volume sets, levels and dumps, and then the plant holds
+/// the archive of the dumps that were listed at the save, and of those that are found whole now. Every dump id on a
+/// tape was known at the save. Where the cell is fair to all these dumps the saved database may be read back.
+pub fn what_was_saved_fits_back()
+    ensures held { (w v : World) (moments : AnyList ℕ) (lines : AnyList (AnyList ℕ)) → HoldsWorld w → KnowsHeads w → IsReadyFor w moments lines → HasItsMedia (script w moments lines).world v
+        → (records : AnyList DumpRecordFields) × HoldsSettled (come (commits (encoded (saved_of w)) ∷ []) v.state) (record (archive_of v) { log = v.log ++ saved_of w }) records }
+    ensures fits { (w v : World) (moments : AnyList ℕ) (lines : AnyList (AnyList ℕ)) → HoldsWorld w → KnowsHeads w → IsReadyFor w moments lines → HasItsMedia (script w moments lines).world v
+        → (dumps : AnyList DumpRecordFields) → AreDumps (after w.log).listed (archive_of v).slots dumps → Fair v.cell (dumped_by v.contents dumps) (time_back v (saved_of w)) → FitsBack v (saved_of w) }
+{
+    scripts_keep_the_archive();
+}
