@@ -7,6 +7,7 @@ and a program that is killed in the midst of its scripts, of its groups, of its 
 
 The first argument is the program. It works in folders of its own below the second one (else a new one)."""
 import os
+import pty
 import random
 import re
 import shutil
