@@ -1,7 +1,7 @@
 #!/usr/bin/env bash
 # Times the restore of 1 GiB in four volumes from one tape by `afsbackup run` in a folder, beside `cp` of the same bytes with as many
-# syncs, in one run, in MB/s, and tells the peak memory; and a restore along a chain of ten increments beside one of the full dump
-# alone. The first argument is the program. The folders are made in the one that TMPDIR names.
+# syncs, in one run, in MB/s, and tells the peak memory; a restore along a chain of ten increments beside one of the full dump
+# alone; and the restore of a partition of 16 volumes on four tapes beside its volumes one by one. The first argument is the program. The folders are made in the one that TMPDIR names.
 . "$(dirname "$0")/in_folder.sh"
 measure <<'P'
 import os, shutil, subprocess, sys, time
@@ -72,4 +72,34 @@ for line in told.strip().split("\n")[:-2]:
     run(program, chain, ["deletedump -dumpid " + line.split()[1]])
 alone = restored("chain 1")
 print("a chain of ten increments takes %.2f times as long as its full dump alone" % (along / alone))
+shutil.rmtree(chain)
+
+# sixteen volumes of four files along a chain of four dumps, each on a tape of its own
+TAPES = 4
+disk = os.path.join(place, "disk")
+new_folder(disk, TAPES)
+many = ["b%02d" % count for count in range(16)]
+for count, name in enumerate(many):
+    write_volume(image(disk, name), name.encode(), 536870912 + 3 * count, 4)
+run(program, disk, PREPARED[:3] + ["adddump -dump " + " ".join(LEVELS[:TAPES])])
+run(program, disk, [DUMP])
+for depth in range(1, TAPES):
+    time.sleep(1.1)
+    writes = ["vos write -volume %s -vnode %d -size 4194304" % (name, 2 * depth) for name in many]
+    run(program, disk, writes + ["dump -volumeset bench -dump " + LEVELS[depth]])
+
+def restored_by(lines):
+    taken = []
+    for number in range(3):
+        seconds, told, _ = run(program, disk, lines)
+        assert told.count(" chain %d\n" % TAPES) == len(many), told
+        for name in many:
+            os.remove(image(disk, name + ".r"))
+        taken.append(seconds)
+    return min(taken)
+
+to = "-server fs1 -partition vicepa"
+together = restored_by(["diskrestore %s -extension .r" % to])
+apart = restored_by(["volrestore %s -volume %s -extension .r" % (to, name) for name in many])
+print("a partition of 16 volumes on four tapes takes %.2f s, its volumes one by one %.2f s" % (together, apart))
 P
