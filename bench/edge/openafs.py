@@ -670,7 +670,9 @@ def circle(cell, program):
         if not whole:
             ours = {key for key, fields in stream.contents().items() if fields is not None}
             theirs = {key for key, fields in streams[stage]["since." + base].contents().items() if fields is not None}
-            check("%s of %d has the vnodes whole that vos dump -time has" % (name, dump), ours == theirs, sorted(ours ^ theirs)[:5])
+            # What was changed in the very second of the last clone is dumped again; the whole minute of -time is behind it.
+            again = {key for key in ours - theirs if stream.contents()[key]["s"] == since}
+            check("%s of %d has the vnodes whole that vos dump -time has" % (name, dump), ours == theirs | again, sorted(ours ^ theirs)[:5])
     for name in ["t." + n[:18] for n in names]:
         cell.vos("remove", "-id", name)
 
